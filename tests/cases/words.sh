@@ -9,7 +9,7 @@ Options:
       --ticks <FILE>    The tick file [default: ticks.txt]
       --modules <DIR>   The folder of modules [default: .]
       --limit <N>       The most steps to make, up to 1000000000000 [default: 1000000]
-      --generate <N>    Plays a session of N generated rounds, up to 10000, and tells of it in one line [default: 0]
+      --generate <N>    Plays a session of N generated rounds, up to 10000, in place of the files [default: 0]
       --profile <N>     The rule by which owners of mutexes inherit priorities, 1 or 2 [default: 1]
       --board <N>       The kind of board, 1 or 2 [default: 1]
   -h, --help            Print help

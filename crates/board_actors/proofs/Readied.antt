@@ -18,7 +18,7 @@ use Rattle.wind_machine.specs.Reserving.{drop_others, drop_all}
 use Rattle.wind_machine.proofs.Free.{own_found, step_start_ready}
 use Rattle.wind_machine.proofs.Dropping.{others_advance, all_advance}
 use Rattle.wind_machine.proofs.Reserving.{regs_again}
-use Rattle.board_actors.specs.StepStart.{other_holder, kept_with, kept_if, kept_of, put_back, restored, without, Readies, IsReadied}
+use Rattle.board_actors.specs.StepStart.{other_holder, kept_with, kept_if, kept_of, put_back, restored, without, Readies, IsEarlyWorld}
 use Rattle.board_actors.proofs.Dropped.{dropped_others, not_own}
 
 within : (w : WorldState) → IsEarly w → Within (2 ^ 60 - 1) w
@@ -32,15 +32,17 @@ pub readies : (w : WorldState) (who : ℕ) → IsWorld w → IsEarly w → Readi
 readies w who kept early =
     let a = others_advance w (2 ^ 60 - 1) kept (within w early) who in
     record {
-      kept = record { kern = a.kept.kern; home = a.kept.home; kind = a.kept.kind; objects = a.kept.objects; pool = a.kept.pool; stacks = a.kept.stacks; modules = a.kept.modules; ram = a.kept.ram; symbols = a.kept.symbols; watch = a.kept.watch; ids = a.kept.ids };
       early = record {
-        sinces = early.sinces;
-        ticks = early.ticks;
-        locks = All-weaker (HasCounts (2 ^ 60 - 1)) (λ t. t.locks < 2 ^ 60) (λ t h. omega (arith, h.0)) (drop_others w.kern who).tasks a.within.0;
-        safes = All-weaker (HasCounts (2 ^ 60 - 1)) (λ t. t.safe < 2 ^ 60) (λ t h. omega (arith, h.1)) (drop_others w.kern who).tasks a.within.0;
-        depths = early.depths;
-        names = early.names;
-        starts = early.starts;
+        kept = record { kern = a.kept.kern; home = a.kept.home; kind = a.kept.kind; objects = a.kept.objects; pool = a.kept.pool; stacks = a.kept.stacks; modules = a.kept.modules; ram = a.kept.ram; symbols = a.kept.symbols; watch = a.kept.watch; ids = a.kept.ids };
+        early = record {
+          sinces = early.sinces;
+          ticks = early.ticks;
+          locks = All-weaker (HasCounts (2 ^ 60 - 1)) (λ t. t.locks < 2 ^ 60) (λ t h. omega (arith, h.0)) (drop_others w.kern who).tasks a.within.0;
+          safes = All-weaker (HasCounts (2 ^ 60 - 1)) (λ t. t.safe < 2 ^ 60) (λ t h. omega (arith, h.1)) (drop_others w.kern who).tasks a.within.0;
+          depths = early.depths;
+          names = early.names;
+          starts = early.starts;
+        };
       };
       lives = a.lives;
       ready = step_start_ready w.kern who;
@@ -48,7 +50,7 @@ readies w who kept early =
     }
 
 -- that of an interrupt routine
-pub all_ready : (w : WorldState) → IsWorld w → IsEarly w → IsReadied (cleared (unreserved_world w))
+pub all_ready : (w : WorldState) → IsWorld w → IsEarly w → IsEarlyWorld (cleared (unreserved_world w))
 all_ready w kept early =
     let a = all_advance w (2 ^ 60 - 1) kept (within w early) in
     record {

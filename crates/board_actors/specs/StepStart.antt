@@ -50,16 +50,15 @@ abbrev pub without : KernState → Option ℕ → KernState
 without k None = k
 without k (Some last) = unreserve k last
 
+-- the invariant of a world, whose counters are far below their limits
+pub record IsEarlyWorld (w : WorldState) : Type 0 where
+  pub kept : IsWorld w
+  pub early : IsEarly w
+
 -- the beginning of a step keeps the invariant, whoever lives, and, of the task that makes the step, its registers
 -- and that it is ready
 pub record Readies (old new : WorldState) (who : ℕ) : Type 0 where
-  pub kept : IsWorld new
-  pub early : IsEarly new
+  pub early : IsEarlyWorld new
   pub lives : (id : ℕ) → Lives old.kern id → Lives new.kern id
   pub ready : IsReady old.kern who → IsReady new.kern who
   pub regs : regs_of new (by_task who) ≡ regs_of old (by_task who)
-
--- the invariant of a world after the beginning of a step
-pub record IsReadied (w : WorldState) : Type 0 where
-  pub kept : IsWorld w
-  pub early : IsEarly w

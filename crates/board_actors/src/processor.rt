@@ -2,22 +2,22 @@
 //! instruction.
 
 ghost use Rattle.std.specs.Prelude.{◌≡◌, ◌+◌, ◌^◌, ◌<◌, ◌≤◌, [], true, false, None, OnOk, OnErr, is_some, slice_index};
+ghost use Rattle.wind_base.specs.OutBuf.{KeepsSpace};
 ghost use Rattle.wind_core.specs.State.{Lives, IsKern, task_of};
 ghost use Rattle.board_bus.specs.Access.{board_meaning, fetched};
 ghost use Rattle.ppc_core.specs.Instructions.{exec_of};
 ghost use Rattle.kernel_world.specs.Actors.{Acts, MayCall, is_interrupt};
-ghost use Rattle.kernel_world.specs.Kept.{IsWorld, IsEarly};
 ghost use Rattle.kernel_world.specs.Seen.{world_seen, world_with};
 ghost use Rattle.kernel_world.specs.Allowed.{may_exhaust_memory};
 ghost use Rattle.kernel_calls.specs.Calls.{file_wanted};
 ghost use Rattle.kernel_world.specs.declared.actor.Actor.TheVariants as actors;
 ghost use Rattle.kernel_calls.specs.Space.{HoldsSpace};
-ghost use Rattle.wind_base.specs.OutBuf.{KeepsSpace};
 ghost use Rattle.wind_machine.specs.Part.{part_of, writing};
 ghost use Rattle.wind_machine.specs.Processor.{trapped, trap_text, bus_of, own_return as own_return_lem, is_return as is_return_lem, return_part, without_own, called as called_lem, gate_part, word_part, regs_of, actor_part};
 ghost use Rattle.wind_machine.specs.declared.phase.Phase.TheVariants as phases;
 ghost use Rattle.board_actors.specs.Instructions.{word_kind};
 ghost use Rattle.board_actors.specs.Running.{IsThere, Ran, OnlyRegs};
+ghost use Rattle.board_actors.specs.StepStart.{IsEarlyWorld};
 ghost use Rattle.board_actors.specs.declared.step_kind.StepKind.TheVariants as kinds;
 
 use crate::reserving::drop_own;
@@ -199,8 +199,7 @@ fn call(alloc: Global, world: &mut World, who: &Actor, gate: Gate) -> Result<(),
     requires unasked { file_wanted gate (world_seen ⟦<dyn Device as Device>⟧ world.old) who.now ≡ None }
     requires live { Acts world.old.kern who.now }
     requires ready { MayCall world.old.kern who.now }
-    requires kept { IsWorld (world_with [] world.old) }
-    requires early { IsEarly (world_with [] world.old) }
+    requires early { IsEarlyWorld (world_with [] world.old) }
     requires room { 4096 ≤ world.old.out.room }
     ensures ok { OnOk result (world_seen ⟦<dyn Device as Device>⟧ world.new
         ≡ called_lem gate (world_seen ⟦<dyn Device as Device>⟧ world.old) who.now) }
@@ -228,8 +227,7 @@ pub fn at_gate(
     requires unasked { file_wanted gate (world_seen ⟦<dyn Device as Device>⟧ world.old) who.now ≡ None }
     requires live { Acts world.old.kern who.now }
     requires ready { MayCall world.old.kern who.now }
-    requires kept { IsWorld (world_with [] world.old) }
-    requires early { IsEarly (world_with [] world.old) }
+    requires early { IsEarlyWorld (world_with [] world.old) }
     requires room { 4096 ≤ world.old.out.room }
     ensures ok { OnOk result (part_of shell.new (world_seen ⟦<dyn Device as Device>⟧ world.new)
         ≡ gate_part gate shell.old (world_seen ⟦<dyn Device as Device>⟧ world.old) who.now) }
@@ -308,8 +306,7 @@ pub fn execute(shell: &mut Shell, world: &mut World, who: &Actor, at: u32) -> St
 #[tactic(auto, unfolding(wind_machine::specs::Processor::actor_part))]
 pub fn run_routine(alloc: Global, shell: &mut Shell, world: &mut World) -> StepKind
     requires active { is_some world.old.watch.level ≡ true }
-    requires kept { IsWorld (world_with [] world.old) }
-    requires early { IsEarly (world_with [] world.old) }
+    requires early { IsEarlyWorld (world_with [] world.old) }
     requires room { 4096 ≤ world.old.out.room }
     ensures part { part_of shell.new (world_seen ⟦<dyn Device as Device>⟧ world.new)
         ≡ actor_part shell.old (world_seen ⟦<dyn Device as Device>⟧ world.old) actors.Interrupt }

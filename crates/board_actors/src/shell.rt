@@ -7,11 +7,8 @@ ghost use Rattle.wind_core.specs.State.{Lives};
 ghost use Rattle.shell_parse.specs.Reading.{read_line};
 ghost use Rattle.shell_parse.specs.Trees.{PlainStmt, Nothing, plain_stmt};
 ghost use Rattle.shell_eval.specs.Laws.{holes};
-ghost use Rattle.shell_eval.specs.Evaluate.{evaluate};
 ghost use Rattle.shell_eval.specs.Seen.{kept_free};
-ghost use Rattle.shell_eval.specs.Moved.{came};
-ghost use Rattle.shell_eval.specs.Ran.{is_call};
-ghost use Rattle.shell_eval.specs.Inside.{room_of};
+ghost use Rattle.shell_eval.specs.Inside.{ComesTo, AwaitsAfter};
 ghost use Rattle.kernel_world.specs.Seen.{world_seen};
 ghost use Rattle.board_actors.specs.ShellInside.{trees_of, holes_of, IsBlank};
 ghost use Rattle.kernel_calls.specs.Space.{HoldsSpace};
@@ -275,11 +272,11 @@ fn begin_first(
 fn go(eval: &mut Eval, world: &mut World) -> Result<Went, NoMemory>
     requires pool { world.old.part.end ≤ length world.old.bus.ram.bytes }
     requires waits { holes eval.old ≡ 0 }
-    ensures went { IfOk result (λ went. came went (eval_state (world_seen ⟦<dyn Device as Device>⟧ world.new)) eval.new
-        ≡ evaluate (eval_state (world_seen ⟦<dyn Device as Device>⟧ world.old)) eval.old) }
+    ensures went { IfOk result (λ went. ComesTo (eval_state (world_seen ⟦<dyn Device as Device>⟧ world.old)) eval.old went
+        (eval_state (world_seen ⟦<dyn Device as Device>⟧ world.new)) eval.new) }
     ensures rest { with_eval (world_seen ⟦<dyn Device as Device>⟧ world.old)
         (eval_state (world_seen ⟦<dyn Device as Device>⟧ world.new)) ≡ world_seen ⟦<dyn Device as Device>⟧ world.new }
-    ensures holes { IfOk result (λ went. holes eval.new ≡ room_of (is_call went)) }
+    ensures holes { IfOk result (λ went. AwaitsAfter went eval.new) }
     ensures unchanged { OnErr result (world_seen ⟦<dyn Device as Device>⟧ world.new
         ≡ world_seen ⟦<dyn Device as Device>⟧ world.old) }
     ensures same { OnErr result (eval.new ≡ eval.old) }

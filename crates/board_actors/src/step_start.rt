@@ -1,11 +1,11 @@
 //! How the step of a task begins, and how it is undone if it runs out of memory.
 
 ghost use Rattle.std.specs.Prelude.{◌≡◌, ◌+◌, [], Some, length};
-ghost use Rattle.kernel_world.specs.Kept.{ReservedBy, IsWorld, IsEarly};
+ghost use Rattle.kernel_world.specs.Kept.{ReservedBy};
 ghost use Rattle.kernel_world.specs.Seen.{world_seen, world_with};
 ghost use Rattle.wind_machine.specs.Events.{cleared, unreserved_world};
 ghost use Rattle.wind_machine.specs.ActorSteps.{at_step_start};
-ghost use Rattle.board_actors.specs.StepStart.{kept_of as kept_of_lem, put_back as put_back_lem, restored, Readies, IsReadied};
+ghost use Rattle.board_actors.specs.StepStart.{kept_of as kept_of_lem, put_back as put_back_lem, restored, Readies, IsEarlyWorld};
 
 use crate::reserving::{drop_all, drop_others, other_holder};
 use id_table::Ident;
@@ -20,8 +20,7 @@ use wind_outside::Device;
 #[inline]
 pub fn start_step(world: &mut World, who: Ident)
     requires reserved { ReservedBy world.old.kern.last world.old.kern }
-    requires kept { IsWorld (world_with [] world.old) }
-    requires early { IsEarly (world_with [] world.old) }
+    requires early { IsEarlyWorld (world_with [] world.old) }
     ensures world { world_seen ⟦<dyn Device as Device>⟧ world.new
         ≡ at_step_start (world_seen ⟦<dyn Device as Device>⟧ world.old) who }
     ensures ready { Readies (world_with [] world.old) (world_with [] world.new) who }
@@ -37,11 +36,10 @@ pub fn start_step(world: &mut World, who: Ident)
 #[tactic(auto, using(crate::proofs::Readied::all_ready))]
 pub fn start_routine_step(world: &mut World)
     requires reserved { ReservedBy world.old.kern.last world.old.kern }
-    requires kept { IsWorld (world_with [] world.old) }
-    requires early { IsEarly (world_with [] world.old) }
+    requires early { IsEarlyWorld (world_with [] world.old) }
     ensures world { world_seen ⟦<dyn Device as Device>⟧ world.new
         ≡ cleared (unreserved_world (world_seen ⟦<dyn Device as Device>⟧ world.old)) }
-    ensures ready { IsReadied (world_with [] world.new) }
+    ensures ready { IsEarlyWorld (world_with [] world.new) }
     ensures watch { world.new.watch ≡ world.old.watch }
     ensures bytes { world.new.out.bytes ≡ [] }
     ensures room { world.new.out.room ≡ world.old.out.room + length world.old.out.bytes }
@@ -70,8 +68,7 @@ pub fn start_revocable_step(
     who: Ident,
 ) -> Option<(Ident, Regs)>
     requires reserved { ReservedBy world.old.kern.last world.old.kern }
-    requires kept { IsWorld (world_with [] world.old) }
-    requires early { IsEarly (world_with [] world.old) }
+    requires early { IsEarlyWorld (world_with [] world.old) }
     ensures world { world_seen ⟦<dyn Device as Device>⟧ world.new
         ≡ at_step_start (world_seen ⟦<dyn Device as Device>⟧ world.old) who }
     ensures ready { Readies (world_with [] world.old) (world_with [] world.new) who }

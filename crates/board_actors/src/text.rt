@@ -123,6 +123,7 @@ pub(crate) fn add_exception(out: &mut OutBuf, trap: Trap, name: &ShortName, id: 
 }
 
 // Adds an address, and ends the line.
+#[tactic(auto, using(std::proofs::Common::append_assoc), unfolding(wind_machine::specs::Text::level_text))]
 fn add_level(out: &mut OutBuf, at: u32)
     requires { 80 ≤ out.old.room }
     ensures { Added 80 out.old out.new (level_text at) }

@@ -5,6 +5,7 @@ use Rattle.task_block.specs.declared.task.Task.{Task}
 use Rattle.wind_core.specs.State.{KernState, Lives, task_of}
 use Rattle.wind_core.specs.Moves.{unreserved}
 use Rattle.kernel_world.specs.Kept.{IsEarly, HasCounts}
+use Rattle.board_actors.specs.StepStart.{IsEarlyWorld}
 use Rattle.wind_machine.specs.State.{State}
 use Rattle.wind_machine.specs.Good.{Good}
 use Rattle.wind_machine.specs.Reserving.{drop_all}
@@ -20,6 +21,9 @@ good_early s g few = record {
   names = omega (arith, g.kept.names, few);
   starts = omega (arith, g.kept.starts, few);
 }
+
+pub good_world : (s : State) → Good s → s.steps < 10 ^ 12 → IsEarlyWorld (record s.world { slots = [] })
+good_world s g few = record { kept = g.kept.world; early = good_early s g few }
 
 -- before an event, a task that lives still does
 pub all_live : (k : KernState) (who : ℕ) → Lives k who → Lives (drop_all k) who

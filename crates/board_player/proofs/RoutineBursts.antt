@@ -1,8 +1,9 @@
 -- An instruction of an interrupt routine is a silent step, and the routine goes on.
-use Rattle.std.proofs.Common.{◌≡◌, ℕ, ◌+◌, true, List, [], ◌∷◌, Option, None, Some, is_some, IsSome, refl, sym, ap, ap₂, ◌∙◌, subst, arith}
+use Rattle.std.proofs.Common.{◌≡◌, ℕ, ◌+◌, true, cond, List, [], ◌∷◌, Option, None, Some, is_some, IsSome, refl, sym, ap, ap₂, ◌∙◌, subst, arith}
 use Rattle.std.specs.List.{All}
 use Rattle.std.proofs.lemmas.List.Elements.{All-nil, All-cons, All-map}
 use Rattle.std.specs.Prelude.{unwrap_or}
+use Rattle.std.specs.Option.{option_map}
 use Rattle.wind_base.specs.Boards.{board_rules}
 use Rattle.wind_base.specs.declared.regs.Regs.{Regs}
 use Rattle.task_block.specs.declared.task.Task.{Task}
@@ -10,7 +11,7 @@ use Rattle.wind_core.specs.State.{KernState, IsKern}
 use Rattle.wind_core.specs.Moves.{unreserved}
 use Rattle.board_bus.specs.BusState.{BusState}
 use Rattle.kernel_world.specs.State.{WorldState}
-use Rattle.kernel_world.specs.declared.actor.Actor.TheVariants.{Interrupt}
+use Rattle.kernel_world.specs.declared.actor.Actor.TheVariants.{Task as by_task, Interrupt}
 use Rattle.kernel_world.specs.Kept.{ReservedBy}
 use Rattle.kernel_world.specs.Settling.{HasExact}
 use Rattle.kernel_world.specs.Starting.{no_regs}
@@ -21,7 +22,7 @@ use Rattle.wind_machine.specs.Processor.{bus_of, regs_of, actor_part}
 use Rattle.wind_machine.specs.ActorSteps.{after_part, routine_step}
 use Rattle.wind_machine.specs.Events.{cleared, unreserved_world}
 use Rattle.wind_machine.specs.Next.{next}
-use Rattle.wind_machine.specs.Machine.{file_of, file_asked, settled_state, Steps}
+use Rattle.wind_machine.specs.Machine.{actor_of, file_of, file_asked, settled_state, Steps}
 use Rattle.wind_machine.specs.declared.next.Next.TheVariants.{Routine}
 use Rattle.wind_machine.proofs.Reserving.{all_none}
 use Rattle.board_actors.specs.Instructions.{Executes}
@@ -82,7 +83,18 @@ module _ (s : State) (is : IsKern s.world.kern) (exact : HasExact s.world) (on :
     steps = steps_on s (moved s Interrupt r b 1) Routine comes (λ said. ap (λ t. Some (settled_state t)) made ∙ ap Some (still_settled s (moved s Interrupt r b 1) is refl refl exact))
 
     one_step : IsSilentStep s (moved s Interrupt r b 1)
-    one_step = record { unasked = unasked; steps = steps; silent = on.silent; counted = refl; uneventful = refl }
+    one_step = record {
+      who = Interrupt;
+      last = ap (λ b. cond b (Some Interrupt) (option_map (λ n. by_task n) s.world.kern.last)) on.active;
+      instruction = record { comes = ap actor_of (sym comes); in_call = λ e. absurd (cc); no_gate = ex.no_gate };
+      goes_on = refl;
+      last_stays = refl;
+      unasked = unasked;
+      steps = steps;
+      silent = on.silent;
+      counted = refl;
+      uneventful = refl;
+    }
 
 -- ---- the routine goes on after them
 module _ (s : State) (is : IsKern s.world.kern) (exact : HasExact s.world) (on : RoutineRunsOn s) where

@@ -22,7 +22,7 @@ use Rattle.dev_irq.specs.State.{is_waiting}
 use Rattle.board_bus.specs.BusState.{BusState}
 use Rattle.isr_watch.specs.State.{WatchState}
 use Rattle.kernel_world.specs.State.{WorldState}
-use Rattle.kernel_world.specs.declared.actor.Actor.TheVariants.{Task as by_task}
+use Rattle.kernel_world.specs.declared.actor.Actor.TheVariants.{Task as by_task, Interrupt}
 use Rattle.kernel_world.specs.Actors.{shell_id}
 use Rattle.kernel_world.specs.Kept.{ReservedBy}
 use Rattle.kernel_world.specs.Settling.{HasExact}
@@ -35,12 +35,12 @@ use Rattle.wind_machine.specs.Task.{is_at_console, waits_for_console}
 use Rattle.wind_machine.specs.Reserving.{unless_own, drop_others}
 use Rattle.wind_machine.specs.Part.{with_kern, part_of}
 use Rattle.wind_machine.specs.Processor.{bus_of, with_bus, regs_of, gate_under, actor_part}
-use Rattle.wind_machine.specs.Silent.{IsSilentStep, SilentSteps}
+use Rattle.wind_machine.specs.Silent.{IsSilentStep, SilentSteps, last_actor}
 use Rattle.board_actors.specs.Instructions.{Executes, executed_to}
 use Rattle.wind_machine.specs.Events.{next_event}
 use Rattle.wind_machine.specs.ActorSteps.{at_step_start, stepped, file_at, file_in, file_for, shell_step, task_step, step_of}
 use Rattle.wind_machine.specs.Next.{event_of, holds_back, is_open, is_active, due_at, due_event, next}
-use Rattle.wind_machine.specs.Machine.{file_of, file_asked, settled_state, Steps}
+use Rattle.wind_machine.specs.Machine.{actor_of, file_of, file_asked, settled_state, Steps}
 use Rattle.wind_machine.specs.declared.next.Next.TheVariants.{Act}
 use Rattle.wind_machine.proofs.Reserving.{last_own, own_regs}
 use Rattle.board_player.specs.declared.order.Running.{Running}
@@ -143,6 +143,10 @@ module _ (s : State) (who : ℕ) (is : IsKern s.world.kern) (exact : HasExact s.
   none : None ≡ option_map event_of (due_event s)
   none = no_event (is_open s) (next_event s) s.time room
 
+  -- the task made the last step of a task
+  last : last_actor s.world ≡ Some (by_task who)
+  last = ap₂ (λ b l. cond b (Some Interrupt) (option_map (λ n. by_task n) l)) on.idle on.last
+
   started : at_step_start s.world who ≡ s.world
   started = ap₂ (λ k o. record s.world { kern = k; output = o }) on.alone (sym on.silent)
 
@@ -191,7 +195,18 @@ module _ (s : State) (who : ℕ) (is : IsKern s.world.kern) (exact : HasExact s.
     steps = steps_on s (moved s (by_task who) r b 1) (Act who) comes (λ said. ap (λ t. Some (settled_state t)) (own_step ∙ made) ∙ ap Some stays)
 
     one_step : IsSilentStep s (moved s (by_task who) r b 1)
-    one_step = record { unasked = unasked; steps = steps; silent = on.silent; counted = refl; uneventful = refl }
+    one_step = record {
+      who = by_task who;
+      last = last;
+      instruction = record { comes = ap actor_of (sym comes); in_call = λ e. on.calls (eqb-true who shell_id e); no_gate = ex.no_gate };
+      goes_on = last;
+      last_stays = refl;
+      unasked = unasked;
+      steps = steps;
+      silent = on.silent;
+      counted = refl;
+      uneventful = refl;
+    }
 
 -- ---- the task runs on after them
 module _ (s : State) (who : ℕ) (up : Rising task_id s.world.kern.tasks) (on : RunsOn s who) where

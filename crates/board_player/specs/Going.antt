@@ -1,10 +1,19 @@
 -- What is known after an instruction about who makes the next step.
 use Rattle.std.specs.Prelude.{◌≡◌, ℕ, true, false, not, Option, None, Some, is_some}
+use Rattle.wind_base.specs.Boards.{board_rules}
+use Rattle.wind_base.specs.Gates.{gate_at}
+use Rattle.wind_base.specs.declared.gate.Gate.{Gate}
 use Rattle.wind_base.specs.declared.regs.Regs.{Regs}
-use Rattle.wind_core.specs.State.{KernState}
+use Rattle.wind_core.specs.State.{KernState, Lives}
 use Rattle.wind_core.specs.Orders.{running, runner}
 use Rattle.wind_core.specs.Moves.{set_regs}
 use Rattle.kernel_world.specs.Kept.{ReservedBy}
+use Rattle.kernel_world.specs.Objects.{IsReady}
+use Rattle.kernel_world.specs.declared.actor.Actor.TheVariants.{Task as by_task}
+use Rattle.wind_machine.specs.State.{State}
+use Rattle.wind_machine.specs.Processor.{regs_of}
+use Rattle.wind_machine.specs.ActorSteps.{file_for}
+use Rattle.wind_machine.specs.declared.phase.Phase.TheVariants as phases
 use Rattle.wind_machine.specs.Reserving.{drop_others}
 use Rattle.wind_machine.specs.Next.{holds_back}
 use Rattle.board_player.specs.declared.order.Running.{Running}
@@ -32,3 +41,13 @@ IsKnown k level Routine = IsRoutine k level
 -- dropped, and the task ran last
 abbrev pub OnlyStepped : KernState → KernState → ℕ → Type 0
 OnlyStepped old new who = (regs : Regs) × (new ≡ record (set_regs (drop_others old who) who regs) { last = Some who })
+
+-- a task is about to make its step at this gate, at which its program counter is: it lives, is ready, and needs no file;
+-- the shell's task is in a call
+pub record StandsAt (s : State) (who at : ℕ) (gate : Gate) : Type 0 where
+  pub live : Lives s.world.kern who
+  pub ready : IsReady s.world.kern who
+  pub phase : who ≡ 1 → s.shell.phase ≡ phases.Call
+  pub counter : at ≡ (regs_of s.world (by_task who)).pc
+  pub there : gate_at (board_rules s.world.board).gates_start at ≡ Some gate
+  pub asks : file_for s who ≡ None

@@ -21,7 +21,7 @@ use std::alloc::Global;
 use tick_file::{Event, Schedule};
 use wind_base::limits::CHUNK_BYTES;
 use wind_base::{BoardKind, Name, NoMemory, OutBuf, Profile};
-use wind_machine::{slot_law, step_law};
+use wind_machine::{Next, Phase, slot_law, step_law};
 use wind_outside::{Device, Slots};
 
 // The room, in bytes, for what one step writes. Each byte of the console echoes at most three
@@ -102,14 +102,13 @@ impl Board {
 }
 
 impl Board {
-    ghost use Rattle.std.specs.Prelude.{◌≢◌, ◌↔◌, ◌<◌, ℕ, Some, None, IfSome, OnOk, OnErr, true};
-    ghost use Rattle.std.specs.Prelude.{◌≤◌, ◌-◌, ◌^◌};
+    ghost use Rattle.std.specs.Prelude.{◌≢◌, ◌↔◌, ◌<◌, ◌≤◌, ◌-◌, ◌^◌, ℕ, Some, None, IfSome, OnOk, OnErr, true};
     ghost use Rattle.std.specs.List.{All};
     ghost use Rattle.wind_base.specs.Limits.{most_steps};
+    ghost use Rattle.live_loading.specs.Said.{said_of};
     ghost use Rattle.wind_machine.specs.Extending.{extended, more_of};
     ghost use Rattle.wind_machine.specs.Silent.{SilentSteps};
     ghost use Rattle.wind_machine.specs.Interrupts.{StepsSlot};
-    ghost use Rattle.live_loading.specs.Said.{said_of};
     ghost use Rattle.wind_machine.specs.Machine.{file_asked, machine_step, Steps, IsOver, may_exhaust_memory};
     ghost use Rattle.board_player.specs.Asking.{needed};
     ghost use Rattle.board_player.specs.Seen.{seen};
@@ -144,9 +143,9 @@ impl Board {
         make(&mut self.parts, &mut self.known, next)
     }
 
-    /// Makes at most `most` steps at once: instructions of whoever is known to make the next steps.
-    /// They need no file and write nothing. Returns how many it made, which may always be 0; only
-    /// `step` tells what the next step is.
+    /// Makes at most `most` steps at once: instructions of the task or routine that is known to make
+    /// the next steps. They need no file and write nothing. Returns how many it made, which may
+    /// always be 0; only `step` tells what the next step is.
     #[tactic(auto, using(crate::proofs::TaskBursts::holds_on))]
     #[inline(always)]
     pub fn burst(&mut self, most: u64) -> u64
@@ -239,5 +238,36 @@ impl Board {
         ensures { Good (seen ⟦<dyn Device as Device>⟧ self.now) }
     {
         let _ = &self.parts;
+    }
+}
+
+impl Board {
+    ghost use Rattle.std.specs.Prelude.{IfOk, OnErr, true};
+    ghost use Rattle.wind_machine.specs.Machine.{may_exhaust_memory};
+    ghost use Rattle.wind_machine.specs.Next.{next as next_lem};
+    ghost use Rattle.board_player.specs.Seen.{seen};
+
+    /// What the next step is. Host memory may run out only for the name of a file, if the state
+    /// permits it.
+    pub fn what_comes(&self) -> Result<Next, NoMemory>
+        ensures next { IfOk result (λ n. n ≡ next_lem (seen ⟦<dyn Device as Device>⟧ self.now)) }
+        ensures no_memory { OnErr result (may_exhaust_memory (seen ⟦<dyn Device as Device>⟧ self.now) ≡ true) }
+    {
+        let mut known = self.known;
+        next(&self.parts, &mut known)
+    }
+
+    /// The bytes of the console file that haven't arrived yet.
+    pub fn left(&self) -> &[u8]
+        ensures { result.now ≡ (seen ⟦<dyn Device as Device>⟧ self.now).left }
+    {
+        self.parts.feed.left()
+    }
+
+    /// The shell's phase.
+    pub fn phase(&self) -> Phase
+        ensures { result ≡ (seen ⟦<dyn Device as Device>⟧ self.now).shell.phase }
+    {
+        self.parts.shell.phase()
     }
 }

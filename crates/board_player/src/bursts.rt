@@ -4,8 +4,6 @@ ghost use Rattle.std.specs.Prelude.{◌≡◌, ◌+◌, ◌<◌, ◌≤◌, true
 ghost use Rattle.wind_base.specs.Limits.{most_steps};
 ghost use Rattle.wind_base.specs.declared.regs.Regs.{Regs};
 ghost use Rattle.wind_core.specs.Moves.{set_regs};
-ghost use Rattle.isr_watch.specs.Calls.{with_level};
-ghost use Rattle.kernel_world.specs.Kept.{ReservedBy};
 ghost use Rattle.wind_machine.specs.Good.{Good};
 ghost use Rattle.wind_machine.specs.Silent.{SilentSteps};
 ghost use Rattle.wind_machine.specs.Events.{next_event};

@@ -86,7 +86,7 @@ pub(crate) fn file_for(parts: &Parts, who: Ident) -> Result<Option<Name>, NoMemo
 
 // The shell's task loads the file with this name, given what is said of that file. If memory runs
 // out, nothing changes.
-#[tactic(auto, using(crate::proofs::Beginning::good_early, crate::proofs::Asked::wanted, crate::proofs::Asked::asker_ready))]
+#[tactic(auto, using(crate::proofs::Beginning::good_world, crate::proofs::Asked::wanted, crate::proofs::Asked::asker_ready))]
 fn load_file(parts: &mut Parts, name: &Name, file: &FileAnswer) -> Result<(), NoMemory>
     requires good { Good (inside parts.old) }
     requires few { parts.old.clock.steps < most_steps }

@@ -16,7 +16,7 @@ use wind_outside::Device;
 
 /// Makes a step of the active interrupt routine. After an instruction that caused no exception, the
 /// routine is still active, and no task has a reservation.
-#[tactic(auto, using(crate::proofs::Beginning::good_early))]
+#[tactic(auto, using(crate::proofs::Beginning::good_world))]
 #[inline(never)]
 pub(crate) fn step_routine(parts: &mut Parts) -> StepKind
     requires active { is_active (parts_seen ⟦<dyn Device as Device>⟧ parts.old).world ≡ true }

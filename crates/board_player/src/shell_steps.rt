@@ -24,7 +24,7 @@ use wind_machine::Phase;
 use wind_outside::Device;
 
 // The shell writes its prompt, and waits for the console if there is no finished line.
-#[tactic(auto, using(crate::proofs::Beginning::good_early))]
+#[tactic(auto, using(crate::proofs::Beginning::good_world))]
 fn prompt(parts: &mut Parts)
     requires good { Good (inside parts.old) }
     requires few { parts.old.clock.steps < most_steps }
@@ -56,7 +56,7 @@ fn copy_line(console: &Console, room: &mut [u8; LINE_ROOM]) -> usize
 }
 
 // The shell takes a line and reads it. If memory runs out, nothing changes.
-#[tactic(auto, using(crate::proofs::Beginning::good_early))]
+#[tactic(auto, using(crate::proofs::Beginning::good_world))]
 fn read(parts: &mut Parts) -> Result<(), NoMemory>
     requires good { Good (inside parts.old) }
     requires few { parts.old.clock.steps < most_steps }
@@ -84,7 +84,7 @@ fn read(parts: &mut Parts) -> Result<(), NoMemory>
 }
 
 // The shell goes on with its first statement. If memory runs out, nothing changes.
-#[tactic(auto, using(crate::proofs::Beginning::good_early))]
+#[tactic(auto, using(crate::proofs::Beginning::good_world))]
 fn evaluate(parts: &mut Parts) -> Result<(), NoMemory>
     requires good { Good (inside parts.old) }
     requires few { parts.old.clock.steps < most_steps }

@@ -1,6 +1,6 @@
 //! A step of a task: what it does at a gate, or an instruction.
 
-ghost use Rattle.std.specs.Prelude.{◌≡◌, ◌^◌, ◌<◌, true, false, Some, None, Ok, OnOk, OnErr};
+ghost use Rattle.std.specs.Prelude.{◌≡◌, ◌^◌, ◌<◌, true, false, None, Ok, OnOk, OnErr};
 ghost use Rattle.wind_base.specs.Limits.{most_steps};
 ghost use Rattle.wind_base.specs.Boards.{board_rules};
 ghost use Rattle.wind_base.specs.Gates.{gate_at as gate_at_lem};
@@ -15,7 +15,7 @@ ghost use Rattle.wind_machine.specs.Machine.{gate_may};
 ghost use Rattle.wind_machine.specs.declared.phase.Phase.TheVariants as phases;
 ghost use Rattle.board_actors.specs.declared.step_kind.StepKind.TheVariants as kinds;
 ghost use Rattle.board_player.specs.Inside.{inside, parts_seen, IsSpacious};
-ghost use Rattle.board_player.specs.Going.{OnlyStepped};
+ghost use Rattle.board_player.specs.Going.{OnlyStepped, StandsAt};
 ghost use Rattle.board_player.specs.Moves.{noted_step};
 
 use crate::parts::Parts;
@@ -41,7 +41,7 @@ pub(crate) fn end(parts: &mut Parts, who: Ident)
 }
 
 // Makes an instruction of a task that is at no gate.
-#[tactic(auto, using(crate::proofs::Beginning::good_early))]
+#[tactic(auto, using(crate::proofs::Beginning::good_world))]
 #[inline(always)]
 fn run_word(parts: &mut Parts, who: Ident, at: u32) -> StepKind
     requires good { Good (inside parts.old) }
@@ -64,32 +64,22 @@ fn run_word(parts: &mut Parts, who: Ident, at: u32) -> StepKind
 }
 
 // What a task does at a gate whose call can't run out of memory.
-#[tactic(auto, using(crate::proofs::Beginning::good_early))]
+#[tactic(auto, using(crate::proofs::Beginning::good_world))]
 #[inline(never)]
 fn run_sure_gate(parts: &mut Parts, who: Ident, at: u32, gate: Gate)
     requires good { Good (inside parts.old) }
     requires few { parts.old.clock.steps < most_steps }
     requires space { IsSpacious parts.old }
-    requires live { Lives parts.old.world.kern who }
-    requires ready { IsReady parts.old.world.kern who }
-    requires phase { who ≡ 1 → parts.old.shell.phase ≡ phases.Call }
-    requires counter { at ≡ (regs_of (parts_seen ⟦<dyn Device as Device>⟧ parts.old).world (actors.Task who)).pc }
-    requires gate { gate_at_lem (board_rules parts.old.world.board).gates_start at ≡ Some gate }
-    requires asks { file_for (parts_seen ⟦<dyn Device as Device>⟧ parts.old) who ≡ None }
+    requires stands { StandsAt (parts_seen ⟦<dyn Device as Device>⟧ parts.old) who at gate }
     requires sure { may_exhaust_memory_lem gate ≡ false }
     ensures step { parts_seen ⟦<dyn Device as Device>⟧ parts.new
         ≡ task_step (parts_seen ⟦<dyn Device as Device>⟧ parts.old) who }
     ensures space { IsSpacious parts.new }
 {
     let _ = at;
+    let task = Actor::Task(who);
     start_step(&mut parts.world, who);
-    match at_gate(
-        parts.alloc,
-        &mut parts.shell,
-        &mut parts.world,
-        &Actor::Task(who),
-        gate,
-    ) {
+    match at_gate(parts.alloc, &mut parts.shell, &mut parts.world, &task, gate) {
         Ok(()) => end(parts, who),
         Err(NoMemory) => unreachable!(),
     }
@@ -97,18 +87,13 @@ fn run_sure_gate(parts: &mut Parts, who: Ident, at: u32, gate: Gate)
 
 // What a task does at a gate whose call may run out of memory. If it does, nothing changes: what
 // undoes the call is held until then.
-#[tactic(auto, using(crate::proofs::Beginning::good_early))]
+#[tactic(auto, using(crate::proofs::Beginning::good_world))]
 #[inline(never)]
 fn run_revocable_gate(parts: &mut Parts, who: Ident, at: u32, gate: Gate) -> Result<(), NoMemory>
     requires good { Good (inside parts.old) }
     requires few { parts.old.clock.steps < most_steps }
     requires space { IsSpacious parts.old }
-    requires live { Lives parts.old.world.kern who }
-    requires ready { IsReady parts.old.world.kern who }
-    requires phase { who ≡ 1 → parts.old.shell.phase ≡ phases.Call }
-    requires counter { at ≡ (regs_of (parts_seen ⟦<dyn Device as Device>⟧ parts.old).world (actors.Task who)).pc }
-    requires gate { gate_at_lem (board_rules parts.old.world.board).gates_start at ≡ Some gate }
-    requires asks { file_for (parts_seen ⟦<dyn Device as Device>⟧ parts.old) who ≡ None }
+    requires stands { StandsAt (parts_seen ⟦<dyn Device as Device>⟧ parts.old) who at gate }
     ensures ok { OnOk result (parts_seen ⟦<dyn Device as Device>⟧ parts.new
         ≡ task_step (parts_seen ⟦<dyn Device as Device>⟧ parts.old) who) }
     ensures memory { OnErr result (may_exhaust_memory_lem gate ≡ true) }
@@ -117,14 +102,9 @@ fn run_revocable_gate(parts: &mut Parts, who: Ident, at: u32, gate: Gate) -> Res
     ensures space { IsSpacious parts.new }
 {
     let _ = at;
+    let task = Actor::Task(who);
     let kept = start_revocable_step(&mut parts.world, &mut parts.spare, who);
-    match at_gate(
-        parts.alloc,
-        &mut parts.shell,
-        &mut parts.world,
-        &Actor::Task(who),
-        gate,
-    ) {
+    match at_gate(parts.alloc, &mut parts.shell, &mut parts.world, &task, gate) {
         Ok(()) => {
             end(parts, who);
             Ok(())
@@ -134,31 +114,6 @@ fn run_revocable_gate(parts: &mut Parts, who: Ident, at: u32, gate: Gate) -> Res
             Err(NoMemory)
         }
     }
-}
-
-// What a task does at a gate. If memory runs out, nothing changes.
-fn run_gate(parts: &mut Parts, who: Ident, at: u32, gate: Gate) -> Result<(), NoMemory>
-    requires good { Good (inside parts.old) }
-    requires few { parts.old.clock.steps < most_steps }
-    requires space { IsSpacious parts.old }
-    requires live { Lives parts.old.world.kern who }
-    requires ready { IsReady parts.old.world.kern who }
-    requires phase { who ≡ 1 → parts.old.shell.phase ≡ phases.Call }
-    requires counter { at ≡ (regs_of (parts_seen ⟦<dyn Device as Device>⟧ parts.old).world (actors.Task who)).pc }
-    requires gate { gate_at_lem (board_rules parts.old.world.board).gates_start at ≡ Some gate }
-    requires asks { file_for (parts_seen ⟦<dyn Device as Device>⟧ parts.old) who ≡ None }
-    ensures ok { OnOk result (parts_seen ⟦<dyn Device as Device>⟧ parts.new
-        ≡ task_step (parts_seen ⟦<dyn Device as Device>⟧ parts.old) who) }
-    ensures memory { OnErr result (may_exhaust_memory_lem gate ≡ true) }
-    ensures err { OnErr result (parts_seen ⟦<dyn Device as Device>⟧ parts.new
-        ≡ parts_seen ⟦<dyn Device as Device>⟧ parts.old) }
-    ensures space { IsSpacious parts.new }
-{
-    if may_exhaust_memory(gate) {
-        return run_revocable_gate(parts, who, at, gate);
-    }
-    run_sure_gate(parts, who, at, gate);
-    Ok(())
 }
 
 /// Makes a step of a task: what it does at a gate, or an instruction. Memory may run out only at a
@@ -184,11 +139,13 @@ pub(crate) fn run(parts: &mut Parts, who: Ident) -> Result<StepKind, NoMemory>
     ensures space { IsSpacious parts.new }
 {
     let at = counter(&parts.world, &Actor::Task(who));
-    match gate_at(parts.world.board, at) {
-        Some(gate) => {
-            run_gate(parts, who, at, gate)?;
-            Ok(StepKind::Other)
-        }
-        None => Ok(run_word(parts, who, at)),
+    let Some(gate) = gate_at(parts.world.board, at) else {
+        return Ok(run_word(parts, who, at));
+    };
+    if may_exhaust_memory(gate) {
+        run_revocable_gate(parts, who, at, gate)?;
+        return Ok(StepKind::Other);
     }
+    run_sure_gate(parts, who, at, gate);
+    Ok(StepKind::Other)
 }

@@ -1,8 +1,7 @@
 -- What a contract sees of tasks that wait for a tick: their ids and wakes in the order in which they are due,
 -- and the greatest number of them.
 use Rattle.std.specs.Prelude.{ℕ, nat_le, if◌then◌else◌, List, [], ◌∷◌, Option, None, Some}
-use Rattle.std.specs.Option.{option_map}
-use Rattle.wind_lists.specs.Records as records
+use Rattle.id_table.specs.Rows as rows
 use Rattle.wind_lists.specs.Arrivals.{put_after}
 
 -- the tasks, each as its id and the tick at which it is due, and the room
@@ -10,17 +9,16 @@ pub record Order : Type 0 where
   pub tasks : List (ℕ × ℕ)
   pub room : ℕ
 
--- the id of a task
+-- a task is a row of a table: its id, with its wake
 abbrev pub task_id : ℕ × ℕ → ℕ
-task_id t = t.0
+task_id = rows.row_id
 
--- the wake of a task
 abbrev pub task_wake : ℕ × ℕ → ℕ
-task_wake t = t.1
+task_wake = rows.row_object
 
 -- the wake of this task, if it is among them
 abbrev pub wake_of : List (ℕ × ℕ) → ℕ → Option ℕ
-wake_of ts id = option_map task_wake (records.of_id task_id ts id)
+wake_of = rows.object_of
 
 -- the tasks with one more, after all with the same wake or an earlier one
 abbrev pub put_in : List (ℕ × ℕ) → ℕ × ℕ → List (ℕ × ℕ)
@@ -32,7 +30,7 @@ with_task o t = record o { tasks = put_in o.tasks t }
 
 -- the tasks without the one with this id
 abbrev pub taken_out : List (ℕ × ℕ) → ℕ → List (ℕ × ℕ)
-taken_out ts id = records.without task_id ts id
+taken_out = rows.without
 
 -- without the task with this id
 abbrev pub without_task : Order → ℕ → Order

@@ -4,7 +4,5 @@
 mod delays;
 mod gaps;
 mod laws;
-#[cfg(test)]
-mod tests;
 
 pub use delays::Delays;

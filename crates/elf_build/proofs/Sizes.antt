@@ -3,8 +3,8 @@ use Rattle.std.proofs.Common.{◌≡◌, ℕ, suc, ◌+◌, ◌*◌, ◌<◌, Li
 use Rattle.std.specs.List.{flat_map}
 use Rattle.std.proofs.lemmas.List.{drop_more}
 use Rattle.elf_read.specs.declared.module.Sect.{Sect}
-use Rattle.elf_read.specs.declared.module.Sym.{Sym}
-use Rattle.elf_build.specs.File.{sect_name, sym_name, sect_content}
+use Rattle.elf_build.specs.Entries.{ended}
+use Rattle.elf_build.specs.File.{sect_content}
 
 -- the rest of the contents, one section further
 pub contents_left : (ss : List Sect) (i : ℕ) (d : Sect) → i < length ss → length (flat_map sect_content (drop i ss)) ≡ length (sect_content (get_or ss i d)) + length (flat_map sect_content (drop (i + 1) ss))
@@ -25,16 +25,10 @@ length_flat f n h (x ∷ xs) =
     mul-suc_flip n k = grind arith
 
 -- the rest of the names, one further
-names_left : {X : Type 0} (ended name : X → List ℕ) → ((x : X) → ended x ≡ name x ++ 0 ∷ []) → (xs : List X) (i : ℕ) (d : X) → i < length xs
-    → length (flat_map ended (drop i xs)) ≡ length (name (get_or xs i d)) + 1 + length (flat_map ended (drop (i + 1) xs))
-names_left ended name is xs i d h =
-    let a = ap (λ ys. length (flat_map ended ys)) (drop_more xs i d h) in
-    let b = length-append (ended (get_or xs i d)) (flat_map ended (drop (i + 1) xs)) in
-    let c = ap length (is (get_or xs i d)) ∙ length-append (name (get_or xs i d)) (0 ∷ []) in
+pub names_left : {X : Type 0} (name : X → List ℕ) (xs : List X) (i : ℕ) (d : X) → i < length xs
+    → length (flat_map (λ x. ended (name x)) (drop i xs)) ≡ length (name (get_or xs i d)) + 1 + length (flat_map (λ x. ended (name x)) (drop (i + 1) xs))
+names_left name xs i d h =
+    let a = ap (λ ys. length (flat_map (λ x. ended (name x)) ys)) (drop_more xs i d h) in
+    let b = length-append (ended (name (get_or xs i d))) (flat_map (λ x. ended (name x)) (drop (i + 1) xs)) in
+    let c = length-append (name (get_or xs i d)) (0 ∷ []) in
     omega arith
-
-pub sect_names_left : (ss : List Sect) (i : ℕ) (d : Sect) → i < length ss → length (flat_map sect_name (drop i ss)) ≡ length (get_or ss i d).name + 1 + length (flat_map sect_name (drop (i + 1) ss))
-sect_names_left ss i d h = names_left sect_name (λ s. s.name) (λ s. refl) ss i d h
-
-pub sym_names_left : (ss : List Sym) (i : ℕ) (d : Sym) → i < length ss → length (flat_map sym_name (drop i ss)) ≡ length (get_or ss i d).name + 1 + length (flat_map sym_name (drop (i + 1) ss))
-sym_names_left ss i d h = names_left sym_name (λ s. s.name) (λ s. refl) ss i d h

@@ -7,6 +7,7 @@ mod headers;
 mod judging;
 mod laws;
 mod lengths;
+mod named;
 mod put;
 mod tables;
 

@@ -4,10 +4,11 @@ ghost use Rattle.std.specs.Prelude.{◌≡◌, ◌+◌, ◌*◌, ◌++◌, ◌^�
 ghost use Rattle.std.specs.List.{All, flat_map};
 ghost use Rattle.wind_base.specs.Limits.{most_symbol_entries};
 ghost use Rattle.elf_read.specs.Standard.{stb_weak, stt_common};
-ghost use Rattle.elf_build.specs.Entries.{content_of as content_of_body, number_of as number_of_place, sym_entry as sym_entry_of, rel_entry as rel_entry_of};
-ghost use Rattle.elf_build.specs.File.{fixed_names, sect_name, sym_name, names_of, strings_of, sect_content, contents_of, symbols_from, symbols_of, rel_bytes, relocs_of};
+ghost use Rattle.elf_build.specs.Entries.{ended, content_of as content_of_body, number_of as number_of_place, sym_entry as sym_entry_of, rel_entry as rel_entry_of};
+ghost use Rattle.elf_build.specs.File.{fixed_names, names_of, strings_of, sect_content, contents_of, symbols_from, symbols_of, rel_bytes, relocs_of};
 ghost use Rattle.elf_build.specs.Writable.{HasNumber, HasEntry, HasNumbers};
 
+use crate::named::Named;
 use crate::put::{put_bytes, put_name, put_relocation, put_symbol};
 use elf_read::standard::{SHN_ABS, SHN_COMMON, SHN_UNDEF};
 use elf_read::{Body, Rel, RelaEntry, Sect, Sym, SymPlace, SymbolEntry};
@@ -42,12 +43,13 @@ fn put_fixed_names(out: &mut Vec<u8>) -> Result<(), AllocError>
     put_bytes(out, b"\0.symtab\0.strtab\0.shstrtab\0.rela\0")
 }
 
+// Appends names, each with its terminating zero.
 #[tactic(auto, using(crate::proofs::Joins::flat_step))]
-fn put_sect_names(out: &mut Vec<u8>, sections: &[Sect]) -> Result<(), AllocError>
-    ensures { IfOk result (λ u. out.new.items ≡ out.old.items ++ flat_map sect_name sections.now) }
+fn put_each_name<T: Named>(out: &mut Vec<u8>, list: &[T]) -> Result<(), AllocError>
+    ensures { IfOk result (λ u. out.new.items ≡ out.old.items ++ flat_map (λ x. ended (T.name_of x)) list.now) }
 {
-    for s in sections {
-        put_name(out, s.name.bytes())?;
+    for x in list {
+        put_name(out, x.name().bytes())?;
     }
     Ok(())
 }
@@ -58,17 +60,7 @@ pub(crate) fn put_names(out: &mut Vec<u8>, sections: &[Sect]) -> Result<(), Allo
     ensures { IfOk result (λ u. out.new.items ≡ out.old.items ++ names_of sections.now) }
 {
     put_fixed_names(out)?;
-    put_sect_names(out, sections)
-}
-
-#[tactic(auto, using(crate::proofs::Joins::flat_step))]
-fn put_sym_names(out: &mut Vec<u8>, symbols: &[Sym]) -> Result<(), AllocError>
-    ensures { IfOk result (λ u. out.new.items ≡ out.old.items ++ flat_map sym_name symbols.now) }
-{
-    for s in symbols {
-        put_name(out, s.name.bytes())?;
-    }
-    Ok(())
+    put_each_name(out, sections)
 }
 
 /// Appends the table of symbol names.
@@ -77,7 +69,7 @@ pub(crate) fn put_strings(out: &mut Vec<u8>, symbols: &[Sym]) -> Result<(), Allo
     ensures { IfOk result (λ u. out.new.items ≡ out.old.items ++ strings_of symbols.now) }
 {
     put_bytes(out, &[0])?;
-    put_sym_names(out, symbols)
+    put_each_name(out, symbols)
 }
 
 // The section number for a place.

@@ -5,4 +5,4 @@ mod inputs;
 mod summary;
 
 pub use inputs::{console_of, schedule_of};
-pub use summary::Summary;
+pub use summary::{Summary, put_all};

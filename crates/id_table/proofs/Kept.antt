@@ -1,6 +1,6 @@
 -- The rows of a table, from its entries and slab.
 use Rattle.std.proofs.Common.{◌≡◌, ℕ, zero, suc, ◌+◌, ◌<◌, true, false, cond, not, eqb, List, [], ◌∷◌, ◌++◌, map, length, get_or, take, drop, Option, None, Some, refl, sym, ap, ◌∙◌, subst, arith, ⊎_elim}
-use Rattle.std.specs.Prelude.{nat_lt, if◌then◌else◌}
+use Rattle.std.specs.Prelude.{nat_lt}
 use Rattle.std.specs.Option.{IsSome, option_map}
 use Rattle.std.specs.List.{AllPairs, All, find, cons_option, remove}
 use Rattle.std.proofs.lemmas.Grind.{common_steps}
@@ -12,12 +12,14 @@ use Rattle.std.proofs.lemmas.Option.{same_Some}
 use Rattle.slab.proofs.SlabLemmas.{Updates-with_value}
 use Rattle.slab.specs.Slab.{Slab, get, slab_len, with_value, Updates}
 use Rattle.id_table.specs.declared.entry.Entry.{Entry}
-use Rattle.wind_lists.specs.Records.{of_id, Rising}
+use Rattle.wind_lists.specs.Records.{of_id, Rising, StandsAt}
+use Rattle.wind_lists.proofs.Halving.{none_of}
 use Rattle.id_table.specs.Rows.{Rows, IsId, IsTable, Rises, row_id, row_object, ids, next_above, objects, object_of, with_object, without, IdsBelow}
-use Rattle.id_table.specs.Inside.{row_at, rows_in, IsKept, EntryAt}
+use Rattle.id_table.specs.Entries.{entry_id}
+use Rattle.id_table.specs.Inside.{row_at, rows_in, IsKept}
 
 -- only the entry of an id has its key
-pub alike_at : (order : List Entry) (id at : ℕ) (d : Entry) → AllPairs (λ c e. c.id < e.id) order → AllPairs (λ c e. c.key ≡ e.key → ⊥) order → EntryAt order id at
+pub alike_at : (order : List Entry) (id at : ℕ) (d : Entry) → AllPairs (λ c e. c.id < e.id) order → AllPairs (λ c e. c.key ≡ e.key → ⊥) order → StandsAt entry_id order id at
     → (k : ℕ) (e : Entry) → k < length order → eqb (get_or order k e).id id ≡ eqb (get_or order k e).key (get_or order at d).key
 alike_at order id at d up apart stands k e hk =
     let here = stands.same e in
@@ -39,14 +41,10 @@ apart_at order at x apart hat here k d hk ne q =
 fewer : (order : List Entry) (at : ℕ) → at < length order → length (remove order at) + 1 ≡ length order
 fewer order at hat = omega (arith, length-append (take at order) (drop (suc at) order), length-take at order, length-drop (suc at) order)
 
--- the least live id above a number is that of the first entry above it
-above_ids : (order : List Entry) (n : ℕ) → find (λ id. nat_lt n id) (map (λ e. e.id) order) ≡ option_map (λ e. e.id) (find (λ (e : Entry). nat_lt n e.id) order)
-above_ids [] n = refl
-above_ids (e ∷ es) n =
-    elim (nat_lt n e.id) as (λ b. (if b then Some e.id else find (λ id. nat_lt n id) (map (λ x. x.id) es)) ≡ option_map (λ x. x.id) (if b then Some e else find (λ (x : Entry). nat_lt n x.id) es)) [
-      | true ↦ refl
-      | false ↦ above_ids es n
-    ]
+-- no entry of a list has this id: not the first one, and none of the others
+none_here : (e : Entry) (es : List Entry) (id : ℕ) → of_id entry_id (e ∷ es) id ≡ None → (eqb e.id id ≡ false) × (of_id entry_id es id ≡ None)
+none_here e es id none =
+    elim (eqb e.id id) as (λ b. cond b (Some e) (of_id entry_id es id) ≡ None → (b ≡ false) × (of_id entry_id es id ≡ None)) [ true ↦ λ q. absurd (cc) | false ↦ λ q. (refl, q) ] none
 
 -- the ids of entries rise
 rises_map : (order : List Entry) → AllPairs (λ c e. c.id < e.id) order → AllPairs (λ i j. i < j) (map (λ e. e.id) order)
@@ -86,7 +84,7 @@ module _ {T : Type 0} where
       elim (eqb i id) as (λ b. option_map row_object (cond b (Some (i, v)) (of_id row_id rs id)) ≡ cond b (Some v) (object_of rs id)) [ true ↦ refl | false ↦ refl ]
 
   -- the object with an id is the one under its entry's key
-  pub object_at : (order : List Entry) (slots : Slab T) (id at : ℕ) (d : Entry) → Present order slots → AllPairs (λ c e. c.id < e.id) order → EntryAt order id at
+  pub object_at : (order : List Entry) (slots : Slab T) (id at : ℕ) (d : Entry) → Present order slots → AllPairs (λ c e. c.id < e.id) order → StandsAt entry_id order id at
       → object_of (rows_in order slots) id ≡ get slots (get_or order at d).key
   object_at [] slots id at d h up stands = absurd (omega (arith, stands.within))
   object_at (e ∷ es) slots id zero d h up stands =
@@ -102,14 +100,13 @@ module _ {T : Type 0} where
       ap (λ rs. object_of rs id) row.2 ∙ object_of-cons e.id row.0 (rows_in es slots) id ∙ ap (λ b. cond b (Some row.0) (object_of (rows_in es slots) id)) other
       ∙ object_at es slots id at d (rest_present slots e es h) (λ i j c hij hj. up (suc i) (suc j) c (omega arith) (omega arith)) (record { within = within; same = stands.same })
 
-  pub object_none : (order : List Entry) (slots : Slab T) (id : ℕ) → Present order slots → ((k : ℕ) (d : Entry) → k < length order → (get_or order k d).id ≡ id → ⊥)
-      → object_of (rows_in order slots) id ≡ None
+  pub object_none : (order : List Entry) (slots : Slab T) (id : ℕ) → Present order slots → of_id entry_id order id ≡ None → object_of (rows_in order slots) id ≡ None
   object_none [] slots id h none = refl
   object_none (e ∷ es) slots id h none =
       let row = row_is slots e es (h 0 e (omega arith)) in
-      let other : eqb e.id id ≡ false = ne_eqb e.id id (none 0 e (omega arith)) in
-      ap (λ rs. object_of rs id) row.2 ∙ object_of-cons e.id row.0 (rows_in es slots) id ∙ ap (λ b. cond b (Some row.0) (object_of (rows_in es slots) id)) other
-      ∙ object_none es slots id (rest_present slots e es h) (λ k d hk. none (suc k) d (omega arith))
+      let rest = none_here e es id none in
+      ap (λ rs. object_of rs id) row.2 ∙ object_of-cons e.id row.0 (rows_in es slots) id ∙ ap (λ b. cond b (Some row.0) (object_of (rows_in es slots) id)) rest.0
+      ∙ object_none es slots id (rest_present slots e es h) rest.1
 
   -- the live ids are those of the entries
   ids_rows : (order : List Entry) (slots : Slab T) → Present order slots → ids (rows_in order slots) ≡ map (λ e. e.id) order
@@ -143,8 +140,8 @@ module _ {T : Type 0} where
     ranged = ranged_rows order slots is.present is.ranged;
   }
 
-  pub above_rows : (order : List Entry) (slots : Slab T) (n : ℕ) → Present order slots → next_above (rows_in order slots) n ≡ option_map (λ e. e.id) (find (λ (e : Entry). nat_lt n e.id) order)
-  above_rows order slots n h = ap (find (λ id. nat_lt n id)) (ids_rows order slots h) ∙ above_ids order n
+  pub above_rows : (order : List Entry) (slots : Slab T) (n : ℕ) → Present order slots → next_above (rows_in order slots) n ≡ find (λ id. nat_lt n id) (map entry_id order)
+  above_rows order slots n h = ap (find (λ id. nat_lt n id)) (ids_rows order slots h)
 
   -- if the keys of a list keep their objects, the rows stay
   pub rows_same : (order : List Entry) (old new : Slab T) → ((k : ℕ) (d : Entry) → k < length order → get new (get_or order k d).key ≡ get old (get_or order k d).key) → rows_in order new ≡ rows_in order old
@@ -171,14 +168,14 @@ module _ {T : Type 0} where
       one_row : (i id : ℕ) (w v : T) (rs : List (ℕ × T)) → cons_option (option_map (λ x. (i, x)) (cond (eqb i id) (Some w) (Some v))) (with_object rs id w) ≡ with_object ((i, v) ∷ rs) id w
       one_row i id w v rs = elim (eqb i id) as (λ b. cons_option (option_map (λ x. (i, x)) (cond b (Some w) (Some v))) (with_object rs id w) ≡ cond b (i, w) (i, v) ∷ with_object rs id w) [ true ↦ refl | false ↦ refl ]
 
-  kept_all : (order : List Entry) (slots : Slab T) (id : ℕ) → Present order slots → ((k : ℕ) (d : Entry) → k < length order → (get_or order k d).id ≡ id → ⊥) → without (rows_in order slots) id ≡ rows_in order slots
+  kept_all : (order : List Entry) (slots : Slab T) (id : ℕ) → Present order slots → of_id entry_id order id ≡ None → without (rows_in order slots) id ≡ rows_in order slots
   kept_all [] slots id h none = refl
   kept_all (e ∷ es) slots id h none =
       let row = row_is slots e es (h 0 e (omega arith)) in
-      let other : eqb e.id id ≡ false = ne_eqb e.id id (none 0 e (omega arith)) in
+      let rest = none_here e es id none in
       ap (λ rs. without rs id) row.2
-      ∙ ap (λ b. cond (not b) ((e.id, row.0) ∷ without (rows_in es slots) id) (without (rows_in es slots) id)) other
-      ∙ ap (λ rs. (e.id, row.0) ∷ rs) (kept_all es slots id (rest_present slots e es h) (λ k d hk. none (suc k) d (omega arith)))
+      ∙ ap (λ b. cond (not b) ((e.id, row.0) ∷ without (rows_in es slots) id) (without (rows_in es slots) id)) rest.0
+      ∙ ap (λ rs. (e.id, row.0) ∷ rs) (kept_all es slots id (rest_present slots e es h) rest.1)
       ∙ sym row.2
 
   -- one row is added
@@ -201,7 +198,7 @@ module _ {T : Type 0} where
       ids_below es slots n (rest_present slots e es h) (λ j c hj. all (suc j) c (omega arith)) k d (omega arith)
 
   -- the object of one key is removed
-  pub rows_removed : (order : List Entry) (old new : Slab T) (id at : ℕ) → Present order old → AllPairs (λ c e. c.id < e.id) order → EntryAt order id at
+  pub rows_removed : (order : List Entry) (old new : Slab T) (id at : ℕ) → Present order old → AllPairs (λ c e. c.id < e.id) order → StandsAt entry_id order id at
       → ((k : ℕ) (d : Entry) → k < length order → (k ≡ at → ⊥) → get new (get_or order k d).key ≡ get old (get_or order k d).key)
       → rows_in (remove order at) new ≡ without (rows_in order old) id
   rows_removed [] old new id at h up stands says = absurd (omega (arith, stands.within))
@@ -209,7 +206,7 @@ module _ {T : Type 0} where
       let row = row_is old e es (h 0 e (omega arith)) in
       let same : eqb e.id id ≡ true = eq-eqb e.id id (stands.same e) in
       rows_same es old new (λ k d hk. says (suc k) d (omega arith) (λ q. omega arith))
-      ∙ sym (kept_all es old id (rest_present old e es h) (λ k d hk q. let above : e.id < (get_or es k d).id = up 0 (suc k) d (omega arith) (omega arith) in let here : e.id ≡ id = stands.same e in omega arith))
+      ∙ sym (kept_all es old id (rest_present old e es h) (none_of entry_id es id (λ k d hk q. let above : e.id < (get_or es k d).id = up 0 (suc k) d (omega arith) (omega arith) in let here : e.id ≡ id = stands.same e in omega arith)))
       ∙ ap (λ b. cond (not b) ((e.id, row.0) ∷ without (rows_in es old) id) (without (rows_in es old) id)) (sym same)
       ∙ ap (λ rs. without rs id) (sym row.2)
   rows_removed (e ∷ es) old new id (suc at) h up stands says =
@@ -236,7 +233,7 @@ module _ {T : Type 0} where
       (cases_eq j key)
 
   -- a write through a key is a write of the object with its id
-  pub object_written : (order : List Entry) (slots : Slab T) (room id at : ℕ) (x : Entry) (v w : T) → IsKept order slots room → EntryAt order id at → x ≡ get_or order at x → get slots x.key ≡ Some v
+  pub object_written : (order : List Entry) (slots : Slab T) (room id at : ℕ) (x : Entry) (v w : T) → IsKept order slots room → StandsAt entry_id order id at → x ≡ get_or order at x → get slots x.key ≡ Some v
       → rows_in order (with_value slots x.key w) ≡ with_object (rows_in order slots) id w
   object_written order slots room id at x v w is stands here has =
       rows_written order slots (with_value slots x.key w) id x.key w is.present
@@ -266,7 +263,7 @@ module _ {T : Type 0} where
       )
 
   -- and after one is removed
-  pub IsKept-remove : (order : List Entry) (old new : Slab T) (room id at : ℕ) (x : Entry) → IsKept order old room → EntryAt order id at → x ≡ get_or order at x
+  pub IsKept-remove : (order : List Entry) (old new : Slab T) (room id at : ℕ) (x : Entry) → IsKept order old room → StandsAt entry_id order id at → x ≡ get_or order at x
       → Updates old new x.key None → slab_len new + 1 ≡ slab_len old → new.capacity ≡ old.capacity
       → IsKept (remove order at) new room × (rows_in (remove order at) new ≡ without (rows_in order old) id)
   IsKept-remove order old new room id at x is stands here u len roomy =
@@ -294,7 +291,7 @@ module _ {T : Type 0} where
   rows_alike rs us n e = λ i. record { rows = e i; room = n }
 
   -- no entry has this id, so nothing changes
-  pub without_none : (order : List Entry) (slots : Slab T) (room id : ℕ) → IsKept order slots room → ((k : ℕ) (d : Entry) → k < length order → (get_or order k d).id ≡ id → ⊥) → rows_in order slots ≡ without (rows_in order slots) id
+  pub without_none : (order : List Entry) (slots : Slab T) (room id : ℕ) → IsKept order slots room → of_id entry_id order id ≡ None → rows_in order slots ≡ without (rows_in order slots) id
   without_none order slots room id is none = sym (kept_all order slots id is.present none)
 
   -- the object at a place is the one under its key

@@ -1,19 +1,10 @@
 -- What is inside a table: a list of entries, each an id and the key of its object in the slab.
-use Rattle.std.specs.Prelude.{slice_index_or, ◌≡◌, ℕ, ◌<◌, ◌≤◌, List, length, Option, IsSome}
+use Rattle.std.specs.Prelude.{◌≡◌, ℕ, ◌<◌, ◌≤◌, List, length, Option, IsSome}
 use Rattle.std.specs.List.{AllPairs, All, filter_map}
 use Rattle.std.specs.Option.{option_map}
 use Rattle.slab.specs.Slab.{Slab, get, slab_len}
 use Rattle.id_table.specs.declared.entry.Entry.{Entry}
 use Rattle.id_table.specs.Rows.{IsId}
-
--- the id of an entry
-abbrev pub entry_id : Entry → ℕ
-entry_id e = e.id
-
--- the entry with this id is at this place
-pub record EntryAt (order : List Entry) (id place : ℕ) : Type 0 where
-  pub within : place < length order
-  pub same : (d : Entry) → (slice_index_or order place d).id ≡ id
 
 module _ {T : Type 0} where
   -- an entry's id, with the object of its key

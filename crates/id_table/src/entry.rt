@@ -1,23 +1,24 @@
-//! Which ids are live, and where their objects are in the slab.
+//! An index by rising id: where in a slab what each id names is.
 
-ghost use Rattle.std.specs.Prelude.{◌≡◌, ◌<◌, ◌≤◌, ℕ, length, nat_lt, true, false, MatchOption, option_copied, slice_index_or};
+ghost use Rattle.std.specs.Prelude.{◌≡◌, ◌≤◌, length, map, nat_lt, true, false, None, MatchOption};
 ghost use Rattle.std.specs.List.{find};
 ghost use Rattle.std.specs.List.Sorted.{IsPartitionPoint};
-ghost use Rattle.wind_lists.specs.Records.{Rising};
-ghost use Rattle.id_table.specs.Inside.{EntryAt, entry_id};
-ghost use Rattle.id_table.specs.declared.entry.Entry.{Entry};
+ghost use Rattle.wind_lists.specs.Records.{of_id, Rising, StandsAt};
+ghost use Rattle.id_table.specs.Entries.{entry_id};
 
 use crate::ident::Ident;
 
-// A live id, and the key of its object in the slab.
-#[derive(Drop)]
-pub(crate) struct Entry {
-    pub(crate) id: Ident,
-    pub(crate) key: usize,
+/// An id, and the key of what it names in a slab.
+#[derive(Clone, Copy, Drop)]
+pub struct Entry {
+    /// The id.
+    pub id: Ident,
+    /// The key in the slab.
+    pub key: usize,
 }
 
-// The number of entries with an id below this one.
-fn rank_of(order: &[Entry], id: Ident) -> usize
+/// The number of entries with an id below this one.
+pub fn rank_of(order: &[Entry], id: Ident) -> usize
     requires { Rising entry_id order.now }
     ensures within { result ≤ length order.now }
     ensures split { IsPartitionPoint (λ e. nat_lt e.id id ≡ true) (λ e. nat_lt e.id id ≡ false) order.now result }
@@ -26,11 +27,11 @@ fn rank_of(order: &[Entry], id: Ident) -> usize
     order.partition_point(|entry| entry.id.get() < number)
 }
 
-// The place of the entry with this id. None if there is none.
+/// The place of the entry with this id. None if there is none.
 #[inline(never)]
-fn place_of(order: &[Entry], id: Ident) -> Option<usize>
+pub fn place_of(order: &[Entry], id: Ident) -> Option<usize>
     requires { Rising entry_id order.now }
-    ensures { MatchOption result ((k : ℕ) (d : Entry) → k < length order.now → (slice_index_or order.now k d).id ≡ id → ⊥) (λ place. EntryAt order.now id place) }
+    ensures { MatchOption result (of_id entry_id order.now id ≡ None) (λ place. StandsAt entry_id order.now id place) }
 {
     let rank = rank_of(order, id);
     if rank == order.len() {
@@ -47,7 +48,7 @@ fn place_of(order: &[Entry], id: Ident) -> Option<usize>
 #[inline]
 pub(crate) fn place_near(order: &[Entry], id: Ident, near: usize) -> Option<usize>
     requires { Rising entry_id order.now }
-    ensures { MatchOption result ((k : ℕ) (d : Entry) → k < length order.now → (slice_index_or order.now k d).id ≡ id → ⊥) (λ place. EntryAt order.now id place) }
+    ensures { MatchOption result (of_id entry_id order.now id ≡ None) (λ place. StandsAt entry_id order.now id place) }
 {
     if near < order.len() && order[near].id == id {
         return Some(near);
@@ -55,9 +56,9 @@ pub(crate) fn place_near(order: &[Entry], id: Ident, near: usize) -> Option<usiz
     place_of(order, id)
 }
 
-// The first entry with an id above `n`.
-pub(crate) fn entry_above(order: &[Entry], n: u32) -> Option<&Entry>
-    ensures { option_copied result ≡ find (λ e. nat_lt n e.id) order.now }
+// The first id above `n`.
+pub(crate) fn id_above(order: &[Entry], n: u32) -> Option<Ident>
+    ensures { result ≡ find (λ id. nat_lt n id) (map entry_id order.now) }
 {
-    order.iter().find(|entry| entry.id.get() > n)
+    order.iter().map(|entry| entry.id).find(|id| id.get() > n)
 }

@@ -1,13 +1,11 @@
 //! Tables of kernel objects, by ids that are never used again.
 #![tactic(auto)]
 
-mod entry;
+pub mod entry;
 mod ident;
 pub mod sides;
 mod source;
 mod table;
-#[cfg(test)]
-mod tests;
 
 pub use ident::{Ident, Place};
 pub use source::IdSource;

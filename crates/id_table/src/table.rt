@@ -7,7 +7,7 @@ ghost use Rattle.wind_base.specs.Limits.{greatest_id};
 ghost use Rattle.id_table.specs.Rows.{object_of, objects, add_refusal, added, removed, IdsBelow, IsTable, Rises, next_above};
 ghost use Rattle.id_table.specs.Source.{one_given};
 
-use crate::entry::{Entry, entry_above, place_near};
+use crate::entry::{Entry, id_above, place_near};
 use crate::ident::Ident;
 use crate::source::IdSource;
 use slab::Slab;
@@ -134,10 +134,7 @@ impl<T> Table<T> {
         ensures value { result ≡ next_above self.now.rows id }
         ensures rising { Rises self.now.rows }
     {
-        match entry_above(&self.order, id) {
-            Some(entry) => Some(entry.id),
-            None => None,
-        }
+        id_above(&self.order, id)
     }
 
     /// A mutable reference to the object with this id, which must exist.

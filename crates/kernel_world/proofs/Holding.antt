@@ -45,14 +45,14 @@ module _ (k : KernState) (p : PartState) (ms : List (ℕ × LoadedModule)) (kept
   }
 
   -- a block that is given is that of no module
-  none_yet : (n align at : ℕ) → IsPart p → alloc_of p n align ≡ Ok at → IsNoModules ms (record { addr = at; size = n })
+  none_yet : (n align at : ℕ) → IsPart p → alloc_of p n align ≡ Ok at → IsNoModules ms (record { addr = at; size = rounded n })
   none_yet n align at is e = elim (cases_eq (occurs at (held_by ms)) 0) [
     | inl none ↦ none
     | inr some ↦ absurd (fresh_address p.start p.end p.blocks (rounded n) at at Kernel is.laid (rounded_some n) (alloc_lies p n align at e).apart (rows_held ms p at kept.held.blocks (omega (arith, some))) refl)
   ]
 
   -- there is one more stack
-  pub loaded_more : (j : KernState) (n align at : ℕ) → IsPart p → alloc_of p n align ≡ Ok at → k.next_id ≤ j.next_id → task_stacks j ≡ task_stacks k ++ record { addr = at; size = n } ∷ [] → KeepsLoaded j (after_alloc p n align Kernel) ms
+  pub loaded_more : (j : KernState) (n align at : ℕ) → IsPart p → alloc_of p n align ≡ Ok at → k.next_id ≤ j.next_id → task_stacks j ≡ task_stacks k ++ record { addr = at; size = rounded n } ∷ [] → KeepsLoaded j (after_alloc p n align Kernel) ms
   loaded_more j n align at is e more same =
       let with_block : KeepsLoaded k (after_alloc p n align Kernel) ms = loaded_with (after_alloc p n align Kernel) (λ a there. kernels-alloc p n align Kernel a is there) in
       record {
@@ -60,5 +60,5 @@ module _ (k : KernState) (p : PartState) (ms : List (ℕ × LoadedModule)) (kept
         rising = kept.rising;
         below = later j.next_id more;
         held = with_block.held;
-        apart = subst (λ s. All (IsNoModules ms) (routine_stack ∷ s)) (sym same) (All-push (IsNoModules ms) (routine_stack ∷ task_stacks k) (record { addr = at; size = n }) kept.apart (none_yet n align at is e));
+        apart = subst (λ s. All (IsNoModules ms) (routine_stack ∷ s)) (sym same) (All-push (IsNoModules ms) (routine_stack ∷ task_stacks k) (record { addr = at; size = rounded n }) kept.apart (none_yet n align at is e));
       }

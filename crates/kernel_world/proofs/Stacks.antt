@@ -1,18 +1,19 @@
 -- The stacks stay Kernel blocks of their sizes when other blocks are allocated or freed.
-use Rattle.std.proofs.Common.{◌≡◌, ℕ, true, eqb, List, [], ◌∷◌, ◌++◌, get_or, Option, Some, None, IsSome, Result, Ok, Err, refl, sym, ◌∙◌, subst}
+use Rattle.std.proofs.Common.{◌≡◌, ℕ, max, true, eqb, List, [], ◌∷◌, ◌++◌, get_or, Option, Some, None, IsSome, Result, Ok, Err, refl, sym, ◌∙◌, subst, arith}
 use Rattle.std.proofs.lemmas.List.Elements.{All-weaker, All-push}
 use Rattle.std.proofs.lemmas.List.Quantifiers.{all_pairs_push}
 use Rattle.std.proofs.lemmas.Bool.{eq-eqb, ne_eqb, and_from, and_left}
 use Rattle.wind_base.specs.declared.board_kind.BoardKind.{BoardKind}
 use Rattle.wind_base.specs.declared.board_kind.Side.{Side}
 use Rattle.wind_base.specs.declared.board_kind.Side.TheVariants.{Low}
-use Rattle.mem_partition.specs.Place.{rounded}
+use Rattle.mem_partition.specs.Place.{aligned, rounded}
 use Rattle.mem_partition.specs.State.{PartState, IsPart, own_block, same_class, alloc_of, alloc_on, after_alloc, after_alloc_on, taken_at, size_or, freed, after_free, with_block}
 use Rattle.mem_partition.specs.declared.block.Block.{Block}
 use Rattle.mem_partition.specs.declared.block.Class.{Class}
 use Rattle.mem_partition.specs.declared.block.Class.TheVariants.{User, Kernel}
 use Rattle.mem_partition.specs.declared.block.PartErr.{PartErr}
 use Rattle.mem_partition.proofs.Keeping.{free_kept, with_blocks}
+use Rattle.mem_partition.proofs.Places.{aligned_above, aligned_least, aligned_multiple}
 use Rattle.mem_partition.proofs.Allocs.{rounded_some, find_with, alloc_on_lies, alloc_lies, alloc_on_kept, given_block, after_on_is, after_is}
 use Rattle.mem_partition.proofs.Owners.{is_own, find-with_block, fresh_address, own-without, classes_apart}
 use Rattle.kernel_world.specs.Kept.{KeepsPool, Stack, IsStack, AreApart, AreStacks}
@@ -92,19 +93,30 @@ stacks-free p at stacks is s = record {
   apart = s.apart;
 }
 
+-- the size of a block, rounded up once more
+rounded_again : (n : ℕ) → rounded (rounded n) ≡ rounded n
+unfolding rounded
+rounded_again n =
+    let m = aligned (max n 1) 16 in
+    let some = aligned_above (max n 1) 16 (omega arith) in
+    let above = aligned_above (max m 1) 16 (omega arith) in
+    let least = aligned_least (max m 1) 16 m (omega arith) (omega (arith, some)) (aligned_multiple (max n 1) 16 (omega arith)) in
+    omega (arith, some, above, least)
+
 -- a new Kernel block is one more stack
-new_stack : (p : PartState) (n align at : ℕ) → IsPart p → alloc_of p n align ≡ Ok at → IsStack (after_alloc p n align Kernel) (record { addr = at; size = n })
+new_stack : (p : PartState) (n align at : ℕ) → IsPart p → alloc_of p n align ≡ Ok at → IsStack (after_alloc p n align Kernel) (record { addr = at; size = rounded n })
 new_stack p n align at is e =
     let b = given_block n at Kernel in
-    subst (λ (q : PartState). own_block q.blocks at Kernel ≡ Some b) (sym (after_is p n align at Kernel e))
+    subst (λ size. own_block (after_alloc p n align Kernel).blocks at Kernel ≡ Some (record { addr = at; size = size; class = Kernel })) (sym (rounded_again n))
+    (subst (λ (q : PartState). own_block q.blocks at Kernel ≡ Some b) (sym (after_is p n align at Kernel e))
     (find_with (is_own at Kernel) b p.start p.end p.blocks is.laid (rounded_some n) (alloc_lies p n align at e).apart
     (and_from (eqb at at) true (eq-eqb at at refl) refl)
-    (λ c q. and_left (eqb c.addr at) (same_class c.class Kernel) (ne_eqb c.addr at q)))
+    (λ c q. and_left (eqb c.addr at) (same_class c.class Kernel) (ne_eqb c.addr at q))))
 
 pub stacks-more : (p : PartState) (n align at : ℕ) (stacks : List Stack) → IsPart p → alloc_of p n align ≡ Ok at → AreStacks p stacks
-    → AreStacks (after_alloc p n align Kernel) (stacks ++ record { addr = at; size = n } ∷ [])
+    → AreStacks (after_alloc p n align Kernel) (stacks ++ record { addr = at; size = rounded n } ∷ [])
 stacks-more p n align at stacks is e s =
-    let new : Stack = record { addr = at; size = n } in
+    let new : Stack = record { addr = at; size = rounded n } in
     let q = after_alloc p n align Kernel in
     record {
       kernels = All-push (IsStack q) stacks new (stacks-alloc p n align Kernel stacks is s).kernels (new_stack p n align at is e);

@@ -13,10 +13,11 @@ use Rattle.wind_lists.proofs.Records.{found_place}
 use Rattle.wind_lists.proofs.Halving.{IsRank}
 use Rattle.wind_lists.proofs.Sorting.{length-insert_sorted}
 use Rattle.wind_lists.proofs.Places.{place_of, insert_place, of_id-without, of_id-with_record, Rising-without, Rising-with_record}
-use Rattle.linked_lists.specs.declared.index.Entry.{Entry}
+use Rattle.id_table.specs.declared.entry.Entry.{Entry}
 use Rattle.linked_lists.specs.declared.id_lists.Member.{Member}
 use Rattle.linked_lists.specs.Chains.{Chains, cell_key, all_cells, chain_at, first_key, is_key, put_before, value_in, value_of, IsOnlyIn}
-use Rattle.linked_lists.specs.Named.{entry_id, member_id, named_cell, named_chains, named, entry_of, IsIndexed, key_found}
+use Rattle.id_table.specs.Entries.{entry_id}
+use Rattle.linked_lists.specs.Named.{member_id, named_cell, named_chains, named, entry_of, IsIndexed, key_found}
 use Rattle.linked_lists.proofs.Keeping.{Split, some_is, not_some, is_some_of}
 use Rattle.linked_lists.proofs.Telling.{no_cells}
 

@@ -7,10 +7,11 @@ use Rattle.std.proofs.lemmas.List.{get_or_past, length-map, length-append}
 use Rattle.std.proofs.lemmas.List.Elements.{All-cons, All-head, All-tail, All-weaker}
 use Rattle.std.proofs.lemmas.Option.{same_Some}
 use Rattle.wind_lists.specs.Records.{of_id}
-use Rattle.linked_lists.specs.declared.index.Entry.{Entry}
+use Rattle.id_table.specs.declared.entry.Entry.{Entry}
 use Rattle.linked_lists.specs.declared.id_lists.Member.{Member}
 use Rattle.linked_lists.specs.Chains.{cell_key, all_cells, chain_at, first_key, value_in, value_of, first_value, hold, ValueIs, NextIs, Apart}
-use Rattle.linked_lists.specs.Named.{entry_id, member_id, named_cell, named_chains, entry_of, IsIndexed}
+use Rattle.id_table.specs.Entries.{entry_id}
+use Rattle.linked_lists.specs.Named.{member_id, named_cell, named_chains, entry_of, IsIndexed}
 use Rattle.linked_lists.proofs.Naming.{IsAlike, all_back, all_chain, all_prefix, cells_alike, first_cell, head_same, named_at, no_cell, no_first, one_cell, tail_same, value_alike}
 
 module _ {T : Type 0} where

@@ -3,13 +3,10 @@ use Rattle.std.specs.Prelude.{◌≡◌, ℕ, List, map, length, Option, None, S
 use Rattle.std.specs.Option.{option_map}
 use Rattle.std.specs.List.{All}
 use Rattle.wind_lists.specs.Records.{of_id, Rising}
-use Rattle.linked_lists.specs.declared.index.Entry.{Entry}
+use Rattle.id_table.specs.declared.entry.Entry.{Entry}
+use Rattle.id_table.specs.Entries.{entry_id}
 use Rattle.linked_lists.specs.declared.id_lists.Member.{Member}
 use Rattle.linked_lists.specs.Chains.{Chains, all_cells, value_of, IsOnlyIn}
-
--- the id of an index entry
-abbrev pub entry_id : Entry → ℕ
-entry_id e = e.id
 
 module _ {T : Type 0} where
   abbrev pub member_id : Member T → ℕ

@@ -5,9 +5,10 @@ ghost use Rattle.std.specs.Option.{ForSome};
 ghost use Rattle.linked_lists.specs.Chains.{Chains, all_cells, chain_at, first_key, value_in, value_of, first_value as first_value_lem, with_cell, without_cell, with_value, AreChains, NextIs};
 ghost use Rattle.linked_lists.specs.Named.{list_found};
 
-use crate::index::{Entry, key_at, key_of, place_of, rank_of};
+use crate::index::{key_at, key_of};
 use crate::lists::Lists;
 use id_table::Ident;
+use id_table::entry::{Entry, place_of, rank_of};
 use std::alloc::Global;
 use std::marker::Model;
 use wind_base::NoMemory;

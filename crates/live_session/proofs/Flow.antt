@@ -1,5 +1,5 @@
 -- A session that goes on.
-use Rattle.std.proofs.Common.{◌≡◌, ℕ, ◌+◌, ◌≤◌, List, Option, sym, subst, arith}
+use Rattle.std.proofs.Common.{◌≡◌, ℕ, ◌+◌, List, Option, sym, subst, arith}
 use Rattle.wind_outside.specs.Files.{Files}
 use Rattle.wind_machine.specs.State.{State}
 use Rattle.wind_machine.specs.Extending.{Setup}
@@ -8,6 +8,7 @@ use Rattle.wind_session.specs.Outside.{Outside}
 use Rattle.wind_session.specs.Runs.{Ran}
 use Rattle.wind_session.specs.declared.run.RunEnd.{RunEnd}
 use Rattle.wind_session.specs.declared.run.RunEnd.TheVariants as ends
+use Rattle.live_session.proofs.Limits.{under_limit}
 use Rattle.live_session.specs.Ending.{IsGoing}
 use Rattle.live_session.specs.Seen.{LiveState, IsLiveAt, IsRun, GoesOn}
 
@@ -53,19 +54,7 @@ on_shelf end name f g l m now later same = subst (λ (files : Option Files). Goe
 stopped : (end : RunEnd) (shelf : Shelf) (start board : State) (n : ℕ) (old now : Outside) → IsGoing end → Ran end shelf start n board old now → Ran ends.Limit shelf start board.steps board old now
 stopped ends.Quiet shelf start board n old now going ran =
     let counted : board.steps ≡ ran.k = ran.made.counted in
-    record {
-      said = ran.said;
-      k = ran.k;
-      made = record {
-        counted = ran.made.counted;
-        answers = ran.made.answers;
-        part = record { within = omega (arith, counted); steps = ran.made.part.steps };
-        state = ran.made.state;
-        ended = sym counted;
-        fetches = record { last = ran.made.fetches.last; last_is = ran.made.fetches.last_is; requests = ran.made.fetches.requests };
-      };
-      written = ran.written;
-    }
+    under_limit ends.Quiet ends.Limit shelf start board n board.steps old now ran (omega (arith, counted)) (sym counted) ran.made.fetches.last_is ran.written
 stopped ends.Limit shelf start board n old now going ran =
     let at : n ≡ board.steps = omega (arith, ran.made.counted, ran.made.ended) in
     subst (λ limit. Ran ends.Limit shelf start limit board old now) at ran

@@ -1,9 +1,8 @@
 -- The files that are none of a record's stay as they are.
-use Rattle.std.proofs.Common.{◌≡◌, ◌≢◌, ℕ, Bool, true, false, cond, List, [], Option, None, Some, refl, sym, ap, ◌∙◌, subst}
-use Rattle.std.specs.Prelude.{IsSomeAnd}
+use Rattle.std.proofs.Common.{◌≡◌, ◌≢◌, ℕ, Bool, true, false, cond, List, [], Option, None, Some, refl, ap, ◌∙◌, subst}
 use Rattle.std.specs.Str.{bytes_eq}
 use Rattle.std.proofs.lemmas.Slice.Eq.{bytes_eq-Decides}
-use Rattle.wind_outside.specs.Files.{Files, with_file}
+use Rattle.wind_outside.specs.Files.{Files}
 use Rattle.live_session.specs.Folder.{Replaced}
 use Rattle.live_session.specs.Saving.{IsOther, KeepsOthers, WritesOnly, console_path, ticks_path, command_path}
 

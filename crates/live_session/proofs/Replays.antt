@@ -1,17 +1,17 @@
 -- The run of a record up to a limit with which it ends as the session did.
-use Rattle.std.proofs.Common.{◌≡◌, ℕ, ◌+◌, ◌<◌, ◌≤◌, Bool, true, false, cond, List, refl, subst, arith}
+use Rattle.std.proofs.Common.{◌≡◌, ℕ, ◌+◌, Bool, true, false, cond, List, refl, subst, arith}
 use Rattle.std.specs.Prelude.{nat_lt}
 use Rattle.wind_base.specs.Limits.{most_steps}
 use Rattle.tick_file.specs.Schedule.{timetable_of}
 use Rattle.wind_machine.specs.State.{State}
 use Rattle.wind_machine.specs.Machine.{IsOver}
 use Rattle.wind_machine.specs.Extending.{Setup, booted}
-use Rattle.wind_session.specs.Live.{IsLive}
 use Rattle.wind_session.specs.Modules.{Shelf}
 use Rattle.wind_session.specs.Outside.{Outside}
 use Rattle.wind_session.specs.Runs.{Ran}
 use Rattle.wind_session.specs.declared.run.RunEnd.{RunEnd}
 use Rattle.wind_session.specs.declared.run.RunEnd.TheVariants as ends
+use Rattle.live_session.proofs.Limits.{under_limit}
 use Rattle.live_session.specs.Ending.{IsAfterRun, IsGoing, is_quiet}
 use Rattle.live_session.specs.Saving.{replay_limit}
 
@@ -19,19 +19,8 @@ use Rattle.live_session.specs.Saving.{replay_limit}
 quiet_with_more : (shelf : Shelf) (start board : State) (old now : Outside) → Ran ends.Limit shelf start board.steps board old now → IsOver board → Ran ends.Quiet shelf start (board.steps + 1) board old now
 quiet_with_more shelf start board old now ran over =
     let at : ran.k ≡ board.steps = ran.made.ended in
-    record {
-      said = ran.said;
-      k = ran.k;
-      made = record {
-        counted = ran.made.counted;
-        answers = ran.made.answers;
-        part = record { within = omega (arith, at); steps = ran.made.part.steps };
-        state = ran.made.state;
-        ended = (omega (arith, at), subst (λ (s : State). IsOver s) ran.made.state over);
-        fetches = record { last = ran.made.fetches.last; last_is = ran.made.fetches.last_is; requests = ran.made.fetches.requests };
-      };
-      written = ran.written;
-    }
+    under_limit ends.Limit ends.Quiet shelf start board board.steps (board.steps + 1) old now ran (omega (arith, at))
+    (omega (arith, at), subst (λ (s : State). IsOver s) ran.made.state over) ran.made.fetches.last_is ran.written
 
 -- a run at some limit that can go on
 abbrev pub IsReplay : Shelf → State → ℕ → State → Outside → Outside → Type 0

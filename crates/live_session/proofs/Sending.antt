@@ -1,5 +1,5 @@
 -- A session to which an event was sent.
-use Rattle.std.proofs.Common.{◌≡◌, ℕ, ◌+◌, ◌<◌, ◌≤◌, List, [], ◌∷◌, ◌++◌, length, sym, ap, ◌∙◌, subst, arith}
+use Rattle.std.proofs.Common.{◌≡◌, ℕ, ◌+◌, ◌<◌, ◌≤◌, List, [], ◌∷◌, ◌++◌, length, sym, subst}
 use Rattle.wind_base.specs.Limits.{greatest_word, most_steps}
 use Rattle.wind_base.specs.OutBuf.{Output, appended}
 use Rattle.tick_file.specs.declared.event.Event.{Event}
@@ -11,7 +11,7 @@ use Rattle.wind_session.specs.Modules.{Shelf}
 use Rattle.wind_session.specs.Outside.{Outside}
 use Rattle.live_session.specs.Record.{IsRecord, IsWithinFile}
 use Rattle.live_session.specs.Seen.{LiveState, IsLiveAt, IsSound}
-use Rattle.live_session.proofs.Recording.{added, room_after, room_later, sent_live, within_file}
+use Rattle.live_session.proofs.Recording.{added, room_after, sent_live, within_file}
 
 -- an event at this time was sent and recorded, with its bytes and its line
 pub record IsSent (l m : LiveState) (time : ℕ) (event : Event) (bytes line : List ℕ) : Type 0 where

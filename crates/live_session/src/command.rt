@@ -4,18 +4,18 @@ ghost use Rattle.std.specs.Prelude.{◌≡◌, ◌≢◌, ◌≤◌, false, IfOk
 ghost use Rattle.std.specs.Str.{bytes_eq};
 ghost use Rattle.clap.specs.Words.{app_of, found_of, rows_of, rule_of};
 ghost use Rattle.wind_base.specs.Limits.{most_steps};
-ghost use Rattle.live_session.specs.Command.{app as app_lem, command_of as command_of_lem, flag_rule};
+ghost use Rattle.live_session.specs.Command.{app as app_lem, command_of as command_of_lem, command_of_rows, flag_rule};
 ghost use Rattle.live_session.specs.Words.{command_state};
 ghost use Rattle.wind_session.specs.Command.{value_of as value_of_lem};
 ghost use Rattle.wind_session.specs.declared.command.CommandErr.TheVariants as errors;
 
-use clap::error::ErrorKind;
 use clap::{Arg, ArgAction, ArgMatches};
 use std::alloc::{AllocError, Global};
 use wind_base::limits::STEPS;
 use wind_base::{BoardKind, Profile};
 use wind_session::{
-    BAD_BOARD, BAD_PROFILE, CommandErr, bad_value, board, number, option, profile, usage, value_of,
+    CommandErr, Machine, command_line, machine_of, matches_of, number_of, option, valid, value_of,
+    with_machine_options,
 };
 
 /// What the arguments ask for.
@@ -54,8 +54,8 @@ fn flag<'a>(alloc: Global, name: &'a str, help: &'a str) -> Arg<'a>
 fn app<'a>(alloc: Global) -> Result<clap::Command<'a>, AllocError>
     ensures { IfOk result (λ c. app_of c ≡ app_lem) }
 {
-    clap::Command::new(alloc, "windlive")
-        .about("Plays a session of a wind kernel's shell while it is typed")
+    let about = "Plays a session of a wind kernel's shell while it is typed";
+    let command = command_line(alloc, "windlive", about)
         .arg(option(alloc, "modules", "DIR", ".", "The folder of modules"))?
         .arg(option(alloc, "record", "DIR", "", "The folder for the record"))?
         .arg(flag(alloc, "force", "Replaces a record that is there"))?
@@ -65,15 +65,8 @@ fn app<'a>(alloc: Global) -> Result<clap::Command<'a>, AllocError>
             "N",
             "1000000",
             "The most steps between two lines, up to 1000000000000",
-        ))?
-        .arg(option(
-            alloc,
-            "profile",
-            "N",
-            "1",
-            "The rule by which owners of mutexes inherit priorities, 1 or 2",
-        ))?
-        .arg(option(alloc, "board", "N", "1", "The kind of board, 1 or 2"))
+        ))?;
+    with_machine_options(alloc, command)
 }
 
 // Whether an option without a value was given.
@@ -83,33 +76,37 @@ fn is_given(matches: &ArgMatches, name: &str) -> bool
     value_of(matches, name) == "true"
 }
 
+// The command of what clap found, with this command line.
+fn command_found<'a>(
+    alloc: Global,
+    mut app: clap::Command<'a>,
+    matches: &ArgMatches<'a>,
+) -> Result<Command<'a>, CommandErr>
+    ensures value { IfOk result (λ c. command_of_rows (rows_of (found_of matches.now)) ≡ Some (command_state c)) }
+    ensures usage { IfErr result (λ e. e ≢ errors.NoMemory → command_of_rows (rows_of (found_of matches.now)) ≡ None) }
+    ensures within { IfOk result (λ c. c.quiet_after ≤ most_steps) }
+{
+    let steps = number_of(matches, "quiet-after", STEPS);
+    let quiet_after = valid(alloc, &mut app, steps, BAD_STEPS)?;
+    let Machine { profile, board } = machine_of(alloc, &mut app, matches)?;
+    Ok(Command {
+        modules: value_of(matches, "modules"),
+        record: value_of(matches, "record"),
+        force: is_given(matches, "force"),
+        quiet_after,
+        profile,
+        board,
+    })
+}
+
 /// The command of these words; the first word is the program's name.
+#[tactic(auto, unfolding(crate::specs::Command::command_of))]
 pub fn command_of<'a>(alloc: Global, words: &'a [&'a str]) -> Result<Command<'a>, CommandErr>
     ensures value { IfOk result (λ c. command_of_lem (map (λ w. w.now) words.now) ≡ Some (command_state c)) }
     ensures usage { IfErr result (λ e. e ≢ errors.NoMemory → command_of_lem (map (λ w. w.now) words.now) ≡ None) }
     ensures within { IfOk result (λ c. c.quiet_after ≤ most_steps) }
 {
     let mut app = app(alloc)?;
-    let matches = match app.try_get_matches_from_mut(words) {
-        Ok(matches) => matches,
-        Err(error) if error.kind() == ErrorKind::OutOfMemory => return Err(CommandErr::NoMemory),
-        Err(error) => return Err(usage(alloc, &error)),
-    };
-    let Some(quiet_after) = number(value_of(&matches, "quiet-after"), STEPS) else {
-        return Err(bad_value(alloc, &mut app, BAD_STEPS));
-    };
-    let Some(profile) = profile(value_of(&matches, "profile")) else {
-        return Err(bad_value(alloc, &mut app, BAD_PROFILE));
-    };
-    let Some(board) = board(value_of(&matches, "board")) else {
-        return Err(bad_value(alloc, &mut app, BAD_BOARD));
-    };
-    Ok(Command {
-        modules: value_of(&matches, "modules"),
-        record: value_of(&matches, "record"),
-        force: is_given(&matches, "force"),
-        quiet_after,
-        profile,
-        board,
-    })
+    let matches = matches_of(alloc, &mut app, words)?;
+    command_found(alloc, app, &matches)
 }

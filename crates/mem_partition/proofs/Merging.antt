@@ -56,49 +56,48 @@ far_holes lo hi from x y (b ∷ bs) some after below (low, full, high, laid) =
 
 -- ---- addresses between the gaps on their sides
 
+-- looking up a gap finds its hole, or, if the gap is empty, the hole after it
+at_gap : {A : Type 0} (f : List Hole → A) (found : A) (lo hi : ℕ) (hs : List Hole) → f (hole lo hi ∷ hs) ≡ found → (hi ≤ lo → f hs ≡ found) → f (gap lo hi ++ hs) ≡ found
+at_gap f found lo hi hs full empty =
+    elim (ltb lo hi) as (λ t. ltb lo hi ≡ t → f (cond t (hole lo hi ∷ []) [] ++ hs) ≡ found) [
+      | true ↦ λ q. full
+      | false ↦ λ q. empty (ltb-false lo hi q)
+    ] refl
+
+-- what passes over a gap's hole passes over the gap
+gap_passed : {A : Type 0} (f : List Hole → A) (lo hi : ℕ) (hs : List Hole) → f (hole lo hi ∷ hs) ≡ f hs → f (gap lo hi ++ hs) ≡ f hs
+gap_passed f lo hi hs passed = at_gap f (f hs) lo hi hs passed (λ empty. refl)
+
 left_reach : (lo at : ℕ) (hs : List Hole) → lo ≤ at → ending at hs ≡ None → reach_down at (ending at (gap lo at ++ hs)) ≡ lo
 left_reach lo at hs low none =
-    elim (ltb lo at) as (λ t. ltb lo at ≡ t → reach_down at (ending at (cond t (hole lo at ∷ []) [] ++ hs)) ≡ lo) [
-      | true ↦ λ q. ap (λ t. reach_down at (cond t (Some (hole lo at)) (ending at hs))) (eq-eqb at at refl)
-      | false ↦ λ q. let more = ltb-false lo at q in ap (reach_down at) none ∙ omega arith
-    ] refl
+    at_gap (λ xs. reach_down at (ending at xs)) lo lo at hs
+    (ap (λ t. reach_down at (cond t (Some (hole lo at)) (ending at hs))) (eq-eqb at at refl))
+    (λ empty. ap (reach_down at) none ∙ omega arith)
 
 left_begins : (lo at end : ℕ) (hs : List Hole) → lo ≤ at → at < end → beginning end (gap lo at ++ hs) ≡ beginning end hs
 left_begins lo at end hs low some =
-    elim (ltb lo at) as (λ t. beginning end (cond t (hole lo at ∷ []) [] ++ hs) ≡ beginning end hs) [
-      | true ↦ ap (λ t. cond t (Some (hole lo at)) (beginning end hs)) (ne_eqb lo end (λ e. omega arith))
-      | false ↦ refl
-    ]
+    gap_passed (beginning end) lo at hs (ap (λ t. cond t (Some (hole lo at)) (beginning end hs)) (ne_eqb lo end (λ e. omega arith)))
 
 left_kept : (lo at end : ℕ) (hs : List Hole) → apart_from at end (gap lo at ++ hs) ≡ apart_from at end hs
 left_kept lo at end hs =
-    elim (ltb lo at) as (λ t. apart_from at end (cond t (hole lo at ∷ []) [] ++ hs) ≡ apart_from at end hs) [
-      | true ↦ ap (λ t. cond (not (t || eqb lo end)) (hole lo at ∷ apart_from at end hs) (apart_from at end hs)) (eq-eqb at at refl)
-      | false ↦ refl
-    ]
+    gap_passed (apart_from at end) lo at hs
+    (ap (λ t. cond (not (t || eqb lo end)) (hole lo at ∷ apart_from at end hs) (apart_from at end hs)) (eq-eqb at at refl))
 
 right_ends : (at end hi : ℕ) (hs : List Hole) → at < end → end ≤ hi → ending at (gap end hi ++ hs) ≡ ending at hs
 right_ends at end hi hs some high =
-    elim (ltb end hi) as (λ t. ending at (cond t (hole end hi ∷ []) [] ++ hs) ≡ ending at hs) [
-      | true ↦ ap (λ t. cond t (Some (hole end hi)) (ending at hs)) (ne_eqb hi at (λ e. omega arith))
-      | false ↦ refl
-    ]
+    gap_passed (ending at) end hi hs (ap (λ t. cond t (Some (hole end hi)) (ending at hs)) (ne_eqb hi at (λ e. omega arith)))
 
 right_reach : (end hi : ℕ) (hs : List Hole) → end ≤ hi → beginning end hs ≡ None → reach_up end (beginning end (gap end hi ++ hs)) ≡ hi
 right_reach end hi hs high none =
-    elim (ltb end hi) as (λ t. ltb end hi ≡ t → reach_up end (beginning end (cond t (hole end hi ∷ []) [] ++ hs)) ≡ hi) [
-      | true ↦ λ q. ap (λ t. reach_up end (cond t (Some (hole end hi)) (beginning end hs))) (eq-eqb end end refl)
-      | false ↦ λ q. let more = ltb-false end hi q in ap (reach_up end) none ∙ omega arith
-    ] refl
+    at_gap (λ xs. reach_up end (beginning end xs)) hi end hi hs
+    (ap (λ t. reach_up end (cond t (Some (hole end hi)) (beginning end hs))) (eq-eqb end end refl))
+    (λ empty. ap (reach_up end) none ∙ omega arith)
 
 right_kept : (at end hi : ℕ) (hs : List Hole) → at < end → end ≤ hi → apart_from at end (gap end hi ++ hs) ≡ apart_from at end hs
 right_kept at end hi hs some high =
-    elim (ltb end hi) as (λ t. apart_from at end (cond t (hole end hi ∷ []) [] ++ hs) ≡ apart_from at end hs) [
-      | true ↦
-          ap (λ t. cond (not (t || eqb end end)) (hole end hi ∷ apart_from at end hs) (apart_from at end hs)) (ne_eqb hi at (λ e. omega arith))
-          ∙ ap (λ t. cond (not t) (hole end hi ∷ apart_from at end hs) (apart_from at end hs)) (eq-eqb end end refl)
-      | false ↦ refl
-    ]
+    gap_passed (apart_from at end) end hi hs
+    (ap (λ t. cond (not (t || eqb end end)) (hole end hi ∷ apart_from at end hs) (apart_from at end hs)) (ne_eqb hi at (λ e. omega arith))
+    ∙ ap (λ t. cond (not t) (hole end hi ∷ apart_from at end hs) (apart_from at end hs)) (eq-eqb end end refl))
 
 -- a hole inserted at its place
 abbrev put_over : ℕ → ℕ → List Hole → List Hole

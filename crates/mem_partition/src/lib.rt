@@ -9,8 +9,6 @@ mod hole;
 mod holes;
 mod laws;
 mod part;
-#[cfg(test)]
-mod tests;
 
 pub use block::{Block, Class, PartErr};
 pub use gaps::{GRAIN, round_up};

@@ -16,6 +16,7 @@ use std::alloc::Global;
 use std::io;
 use verdict::Verdict;
 use wind_base::Profile;
+use wind_base::Profile::{One, Two};
 use wind_core::Kern;
 
 // A case.
@@ -27,37 +28,34 @@ enum Case {
     Crowd,
 }
 
+// The priorities of the four tasks: A, B and C in order, or B more urgent than A. D is the most
+// urgent.
+const IN_ORDER: [u32; 4] = [150, 160, 170, 10];
+
+const B_FIRST: [u32; 4] = [150, 50, 170, 10];
+
 // The cases and their names.
 const CASES: [(&str, Case); 9] = [
     ("turns of two ticks", Case::Slices),
-    (
-        "a chain of three owners",
-        Case::Four(Profile::One, [150, 160, 170, 10], &CHAIN),
-    ),
-    (
-        "a cycle of two owners",
-        Case::Four(Profile::One, [150, 160, 170, 10], &CYCLE),
-    ),
-    (
-        "an owner of two mutexes",
-        Case::Four(Profile::One, [150, 50, 170, 10], &TWO),
-    ),
+    ("a chain of three owners", Case::Four(One, IN_ORDER, &CHAIN)),
+    ("a cycle of two owners", Case::Four(One, IN_ORDER, &CYCLE)),
+    ("an owner of two mutexes", Case::Four(One, B_FIRST, &TWO)),
     (
         "normal priorities that are set",
-        Case::Four(Profile::One, [150, 160, 170, 10], &SET),
+        Case::Four(One, IN_ORDER, &SET),
     ),
     ("255 owners", Case::Crowd),
     (
         "a chain of three owners under profile 2",
-        Case::Four(Profile::Two, [150, 160, 170, 10], &CHAIN),
+        Case::Four(Two, IN_ORDER, &CHAIN),
     ),
     (
         "a cycle of two owners under profile 2",
-        Case::Four(Profile::Two, [150, 160, 170, 10], &CYCLE),
+        Case::Four(Two, IN_ORDER, &CYCLE),
     ),
     (
         "an owner of two mutexes under profile 2",
-        Case::Four(Profile::Two, [150, 50, 170, 10], &TWO_EXACT),
+        Case::Four(Two, B_FIRST, &TWO_EXACT),
     ),
 ];
 
@@ -73,7 +71,7 @@ fn main(rt: HostRuntime) -> io::Result<()> {
 fn profile(case: Case) -> Profile {
     match case {
         Case::Four(profile, _, _) => profile,
-        Case::Slices | Case::Crowd => Profile::One,
+        Case::Slices | Case::Crowd => One,
     }
 }
 

@@ -3,26 +3,11 @@
 ghost use Rattle.std.specs.Prelude.{◌≡◌, [], ◌∷◌, Some, IfOk};
 ghost use Rattle.std.specs.Option.{option_map};
 ghost use Rattle.wind_outside.specs.Requests.{request_of, outcome_of as outcome_of_lem};
-ghost use Rattle.outside_log.specs.Fetches.{outcome_seen, request_seen, requests_seen};
+ghost use Rattle.outside_log.specs.Fetches.{request_seen, requests_seen};
 
 use crate::entries::with_entry;
 use std::alloc::{AllocError, Global};
-use wind_outside::{Fetched, Folder};
-
-/// How a fetch ended.
-#[derive(Clone, Copy, Debug, PartialEq, Eq)]
-pub enum FetchOutcome {
-    /// The file was found.
-    Found,
-    /// There was no such file.
-    Missing,
-    /// The file was longer than the limit.
-    TooLong,
-    /// Reading failed.
-    Failed,
-    /// Host memory ran out.
-    NoMemory,
-}
+use wind_outside::{FetchOutcome, Fetched, Folder};
 
 /// A fetch.
 #[derive(Debug, Drop)]
@@ -65,7 +50,7 @@ impl<F: Folder + Drop> LoggedFolder<F> {
 
 // How a fetch with this result ended.
 fn outcome_of(answer: &Fetched) -> FetchOutcome
-    ensures { outcome_seen result ≡ outcome_of_lem answer.now }
+    ensures { result ≡ outcome_of_lem answer.now }
 {
     match answer {
         Fetched::Found(_) => FetchOutcome::Found,

@@ -6,8 +6,6 @@ mod command;
 mod listing;
 mod report;
 mod status;
-#[cfg(test)]
-mod tests;
 
 pub use asm_lines::{AsmErr, Cause};
 pub use assembling::{assemble, decoded_law, shown_law};

@@ -1,8 +1,7 @@
 //! The instructions of a module as text.
 
-ghost use Rattle.std.specs.Prelude.{◌≡◌, ◌<◌, ◌≤◌, ◌+◌, [], ◌∷◌, false, length, slice_index};
+ghost use Rattle.std.specs.Prelude.{◌≡◌, ◌<◌, ◌≤◌, ◌+◌, [], ◌∷◌, length, slice_index};
 ghost use Rattle.std.specs.Int.{from_be_bytes, w32};
-ghost use Rattle.std.specs.Fmt.{digit_glyph};
 ghost use Rattle.wind_base.specs.OutBuf.{Added, KeepsSpace};
 ghost use Rattle.ppc_word.specs.Rows.{row_of};
 ghost use Rattle.ppc_asm.specs.Listing.{hex_places, item_text, line_text, lines_from, section_lines, listing, PutsLines};
@@ -10,7 +9,7 @@ ghost use Rattle.ppc_asm.specs.Listing.{hex_places, item_text, line_text, lines_
 use elf_read::{Body, Module, Sect};
 use ppc_text::show;
 use ppc_word::decode;
-use wind_base::text::add;
+use wind_base::text::{add, glyph};
 use wind_base::{OutBuf, bytes_after};
 use wind_outside::{Put, Sink};
 
@@ -20,17 +19,6 @@ const EXECUTABLE: u32 = 4;
 /// The most bytes of a line: two numbers of 8 digits, a blank after each, an instruction of 64, and the line feed.
 pub(crate) const LINE_ROOM: u32 = 83;
 
-fn glyph(digit: u64) -> u8
-    requires { digit < 16 }
-    ensures { result ≡ digit_glyph false digit }
-{
-    if digit < 10 {
-        b'0' + digit as u8
-    } else {
-        b'a' + (digit - 10) as u8
-    }
-}
-
 // Adds the lowest `places` hexadecimal digits of a number.
 fn put_hex(line: &mut OutBuf, places: u32, number: u64)
     requires { places ≤ line.old.room }
@@ -38,7 +26,7 @@ fn put_hex(line: &mut OutBuf, places: u32, number: u64)
 {
     if places > 0 {
         put_hex(line, places - 1, number / 16);
-        add(line, &[glyph(number % 16)]);
+        add(line, &[glyph(false, (number % 16) as u32)]);
     }
 }
 

@@ -33,28 +33,23 @@ reversed_word n = reversed_half (n % 2 ^ 16) * 2 ^ 16 + reversed_half (n / 2 ^ 1
 -- the number of bytes that a load reads
 abbrev pub load_width : Load → ℕ
 load_width load.Byte = 1
-load_width load.Half = 2
-load_width load.HalfSigned = 2
-load_width load.HalfReversed = 2
 load_width load.Word = 4
 load_width load.WordReversed = 4
-
--- the content of the register after a load of a number
-abbrev pub taken : Load → ℕ → ℕ
-taken load.Byte n = n
-taken load.Half n = n
-taken load.HalfSigned n = sign_extended 16 n
-taken load.HalfReversed n = reversed_half n
-taken load.Word n = n
-taken load.WordReversed n = reversed_word n
+load_width _ = 2
 
 -- the number of bytes that a store writes
 abbrev pub store_width : Store → ℕ
 store_width store.Byte = 1
-store_width store.Half = 2
-store_width store.HalfReversed = 2
 store_width store.Word = 4
 store_width store.WordReversed = 4
+store_width _ = 2
+
+-- the content of the register after a load of a number
+abbrev pub taken : Load → ℕ → ℕ
+taken load.HalfSigned n = sign_extended 16 n
+taken load.HalfReversed n = reversed_half n
+taken load.WordReversed n = reversed_word n
+taken _ n = n
 
 -- the number that a store writes from a register's word
 abbrev pub given : Store → ℕ → ℕ

@@ -1,8 +1,8 @@
 //! Loads and stores of several words, and reservations.
 
-ghost use Rattle.std.specs.Prelude.{◌≡◌, ◌+◌, ◌*◌, ◌≤◌, ◌^◌, true};
+ghost use Rattle.std.specs.Prelude.{◌≡◌, ◌+◌, ◌*◌, ◌≤◌, ◌^◌, true, OnOk, IfErr};
 ghost use Rattle.ppc_core.specs.Buses.{all_ram};
-ghost use Rattle.ppc_core.specs.Outcomes.{Leaves};
+ghost use Rattle.ppc_core.specs.Outcomes.{Leaves, Outcome, Trapped};
 ghost use Rattle.ppc_core.specs.Multiples as multiple;
 
 use crate::bus::Bus;
@@ -41,6 +41,25 @@ fn store_words<B: Bus>(source: u32, at: u32, count: u32, regs: &Regs, bus: &mut 
     }
 }
 
+/// Refuses an access of `n` bytes at an address that isn't a multiple of 4, or to bytes that aren't
+/// all RAM.
+#[inline(always)]
+fn check_ram<B: Bus>(at: u32, n: u32, bus: &B) -> Result<(), Trap>
+    ensures ram { OnOk result (all_ram B.meaning (B.held bus.now) at n ≡ true) }
+    ensures ends { OnOk result (at + n ≤ 2 ^ 32) }
+    ensures passes { OnOk result ((o : Outcome B.Held) → multiple.in_ram B.meaning (B.held bus.now) at n o ≡ o) }
+    ensures traps { IfErr result
+        (λ trap. (o : Outcome B.Held) → multiple.in_ram B.meaning (B.held bus.now) at n o ≡ Trapped trap) }
+{
+    if at % 4 != 0 {
+        return Err(Trap::Align);
+    }
+    if !bus.is_ram(at, n) {
+        return Err(Trap::Access);
+    }
+    Ok(())
+}
+
 /// Loads the registers RT to 31 from the words at `at` and after it.
 #[tactic(auto, unfolding(crate::specs::Multiples::load_multiple_of))]
 pub fn load_multiple<B: Bus>(at: u32, regs: &mut Regs, word: u32, bus: &mut B) -> Result<(), Trap>
@@ -48,12 +67,7 @@ pub fn load_multiple<B: Bus>(at: u32, regs: &mut Regs, word: u32, bus: &mut B) -
         regs.old (B.held bus.old) regs.new (B.held bus.new) result }
 {
     let target = fields::rt(word);
-    if at % 4 != 0 {
-        return Err(Trap::Align);
-    }
-    if !bus.is_ram(at, 4 * (32 - target)) {
-        return Err(Trap::Access);
-    }
+    check_ram(at, 4 * (32 - target), bus)?;
     load_words(target, at, 32 - target, regs, bus);
     registers::step(regs);
     Ok(())
@@ -66,12 +80,7 @@ pub fn store_multiple<B: Bus>(at: u32, regs: &mut Regs, word: u32, bus: &mut B) 
         regs.old (B.held bus.old) regs.new (B.held bus.new) result }
 {
     let source = fields::rt(word);
-    if at % 4 != 0 {
-        return Err(Trap::Align);
-    }
-    if !bus.is_ram(at, 4 * (32 - source)) {
-        return Err(Trap::Access);
-    }
+    check_ram(at, 4 * (32 - source), bus)?;
     store_words(source, at, 32 - source, regs, bus);
     registers::step(regs);
     Ok(())
@@ -88,12 +97,7 @@ pub fn load_and_reserve<B: Bus>(
     ensures { Leaves (multiple.load_and_reserve_of B.meaning regs.old word (B.held bus.old) at)
         regs.old (B.held bus.old) regs.new (B.held bus.new) result }
 {
-    if at % 4 != 0 {
-        return Err(Trap::Align);
-    }
-    if !bus.is_ram(at, 4) {
-        return Err(Trap::Access);
-    }
+    check_ram(at, 4, bus)?;
     let Ok(value) = bus.load32(at) else {
         unreachable!();
     };
@@ -124,12 +128,7 @@ pub fn store_conditional<B: Bus>(
     ensures { Leaves (multiple.store_conditional_of B.meaning regs.old word (B.held bus.old) at)
         regs.old (B.held bus.old) regs.new (B.held bus.new) result }
 {
-    if at % 4 != 0 {
-        return Err(Trap::Align);
-    }
-    if !bus.is_ram(at, 4) {
-        return Err(Trap::Access);
-    }
+    check_ram(at, 4, bus)?;
     let stored = reserves(regs.reserve, at);
     let mark = if stored { 1 } else { 0 };
     let value = registers::in_rs(regs, word);

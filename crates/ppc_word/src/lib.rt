@@ -13,8 +13,6 @@ mod piece;
 mod row;
 mod rule;
 mod table;
-#[cfg(test)]
-mod tests;
 mod word;
 
 pub use coding::{decode, encode, row_for};

@@ -141,18 +141,6 @@ fn due(plain: &mut Plain<u64>, tick: u64) -> Option<u32> {
 
 // The first of the tasks with the least wake, if that wake is at most `tick`.
 fn earliest(entries: &[Entry<u64>], tick: u64) -> Option<u32> {
-    let mut best: Option<Entry<u64>> = None;
-    for entry in entries {
-        best = earlier(best, *entry, tick);
-    }
-    Some(best?.who)
-}
-
-// The task if it is due and has a lesser wake than the best so far; otherwise the best so far.
-fn earlier(best: Option<Entry<u64>>, entry: Entry<u64>, tick: u64) -> Option<Entry<u64>> {
-    match best {
-        _ if entry.key > tick => best,
-        Some(first) if entry.key >= first.key => best,
-        _ => Some(entry),
-    }
+    let due = entries.iter().filter(|entry| entry.key <= tick);
+    Some(due.min_by_key(|entry| entry.key)?.who)
 }

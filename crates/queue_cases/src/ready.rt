@@ -132,17 +132,6 @@ fn put(ready: &mut Ready, pri: Pri, who: Ident) -> Answer {
 
 // The first of the tasks with the least priority number.
 fn first(entries: &[Entry<u32>]) -> Option<u32> {
-    let mut best: Option<Entry<u32>> = None;
-    for entry in entries {
-        best = more_urgent(best, *entry);
-    }
-    Some(best?.who)
-}
-
-// The task if it is more urgent than the best so far; otherwise the best so far.
-fn more_urgent(best: Option<Entry<u32>>, entry: Entry<u32>) -> Option<Entry<u32>> {
-    match best {
-        Some(first) if entry.key >= first.key => best,
-        _ => Some(entry),
-    }
+    let best = entries.iter().min_by_key(|entry| entry.key)?;
+    Some(best.who)
 }

@@ -168,30 +168,9 @@ fn put(waits: &mut Waits, place: Place, who: Ident, pri: u32, since: u64) -> Ans
     Answer::Put { again, room }
 }
 
-// The first task that waits at a side of an object.
+// The first task that waits at a side of an object: by priority, then by order number, then by id.
 fn first(entries: &[Entry<Key>], side: u8, object: u32) -> Option<u32> {
-    let mut best: Option<Entry<Key>> = None;
-    for entry in entries {
-        if entry.key.side == side && entry.key.object == object {
-            best = better(best, *entry);
-        }
-    }
-    Some(best?.who)
-}
-
-// The waiter if it is before the best so far; otherwise the best so far.
-fn better(best: Option<Entry<Key>>, entry: Entry<Key>) -> Option<Entry<Key>> {
-    match best {
-        Some(first) if stands_before(first, entry) => best,
-        _ => Some(entry),
-    }
-}
-
-// Whether waiter `a` is before waiter `b`: by priority, then by order number, then by id.
-fn stands_before(a: Entry<Key>, b: Entry<Key>) -> bool {
-    let (a, b) = (
-        (a.key.pri, a.key.since, a.who),
-        (b.key.pri, b.key.since, b.who),
-    );
-    a.0 < b.0 || a.0 == b.0 && (a.1 < b.1 || a.1 == b.1 && a.2 < b.2)
+    let here = entries.iter().filter(|entry| entry.key.side == side && entry.key.object == object);
+    let best = here.min_by_key(|entry| (entry.key.pri, entry.key.since, entry.who))?;
+    Some(best.who)
 }

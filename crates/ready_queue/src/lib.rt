@@ -4,7 +4,5 @@
 mod laws;
 mod map;
 mod ready;
-#[cfg(test)]
-mod tests;
 
 pub use ready::Ready;

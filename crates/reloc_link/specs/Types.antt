@@ -1,6 +1,6 @@
 -- The types of relocation (System V ABI, PowerPC Processor Supplement, "Relocation Types") and the forms of their fields.
 use Rattle.std.specs.Prelude.{◌≡◌, ◌⊎◌, ℕ, Bool, true, false, ◌==◌, List, [], ◌∷◌, Option, None, Some}
-use Rattle.std.specs.List.{find}
+use Rattle.std.specs.List.{find, list_any}
 use Rattle.reloc_link.specs.declared.kind.RelocType.{RelocType}
 use Rattle.reloc_link.specs.declared.kind.RelocType.TheVariants.{Nothing, Addr32, Addr24, Addr16, Addr16Lo, Addr16Hi, Addr16Ha, Addr14, Addr14BrTaken, Addr14BrNTaken, Rel24, Rel14, Rel14BrTaken, Rel14BrNTaken, Uaddr32, Uaddr16, Rel32}
 use Rattle.reloc_link.specs.declared.kind.Hint.TheVariants.{Kept, Taken, NotTaken}
@@ -56,14 +56,12 @@ form_of Uaddr32 = Word
 form_of Uaddr16 = Half
 form_of Rel32 = Word
 
--- the type writes the distance from the field instead of an address
+-- the types that write the distance from the field instead of an address
+abbrev pub relative_types : List RelocType
+relative_types = Rel24 ∷ Rel14 ∷ Rel14BrTaken ∷ Rel14BrNTaken ∷ Rel32 ∷ []
+
 abbrev pub is_relative : RelocType → Bool
-is_relative Rel24 = true
-is_relative Rel14 = true
-is_relative Rel14BrTaken = true
-is_relative Rel14BrNTaken = true
-is_relative Rel32 = true
-is_relative _ = false
+is_relative t = list_any (λ r. type_number r == type_number t) relative_types
 
 -- how many bytes a form has
 abbrev pub width_by : Form → ℕ

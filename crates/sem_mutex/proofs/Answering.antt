@@ -101,16 +101,14 @@ found ms n id e =
     record { same = p.0; there = p.1 }
 
 -- the mutex that is found is the caller's
-pub record IsOwn (ms : List (ℕ × Mutex)) (n id caller depth : ℕ) : Type 0 where
+pub record IsOwn (ms : List (ℕ × Mutex)) (n id caller : ℕ) : Type 0 where
   pub mutex : Mutex
   pub same : id ≡ n
   pub here : object_of ms n ≡ Some mutex
   pub own : mutex.owner ≡ Some caller
-  pub deep : depth ≡ mutex.depth
 
-pub is_own : (ms : List (ℕ × Mutex)) (n id owner caller depth : ℕ) → Some id ≡ live_mutex ms n → Some owner ≡ owner_in (object_of ms id) → not (eqb owner caller) ≡ false
-    → ((m : Mutex) → object_of ms id ≡ Some m → depth ≡ m.depth) → IsOwn ms n id caller depth
-is_own ms n id owner caller depth e owned alike deep =
+pub is_own : (ms : List (ℕ × Mutex)) (n id owner caller : ℕ) → Some id ≡ live_mutex ms n → Some owner ≡ owner_in (object_of ms id) → not (eqb owner caller) ≡ false → IsOwn ms n id caller
+is_own ms n id owner caller e owned alike =
     let f = found ms n id e in
     let m = live_is (object_of ms n) f.there in
     record {
@@ -118,7 +116,6 @@ is_own ms n id owner caller depth e owned alike deep =
       same = f.same;
       here = m.1;
       own = sym (ap owner_in m.1) ∙ subst (λ j. owner_in (object_of ms j) ≡ Some owner) f.same (sym owned) ∙ ap Some (eqb-true owner caller (not-false (eqb owner caller) alike));
-      deep = deep m.0 (ap (object_of ms) f.same ∙ m.1);
     }
 
 pub not_found : (ms : List (ℕ × Mutex)) (n : ℕ) → None ≡ live_mutex ms n → object_of ms n ≡ None
@@ -332,6 +329,15 @@ given_is s t who id m v w j n e state rule lends guards goes eases =
     ∙ sym (ap (given_up s who id) e)
 
 -- ---- give
+-- after a give of one of several takes, or of the last one
+pub gives_once : (s : MutexState) (who id n : ℕ) (o : Option Mutex) → IsSome o → ((m : Mutex) → o ≡ Some m → n ≡ m.depth) → 1 < n → given_once s who id o ≡ give_alone s who id o
+gives_once s who id n None there deep more = absurd (cc)
+gives_once s who id n (Some m) there deep more = sym (ap (λ b. cond b (shallow s who id m) (give_up s who id m)) (lt-ltb 1 m.depth (omega (arith, deep m refl))))
+
+pub gives_up : (s : MutexState) (who id n : ℕ) (o : Option Mutex) → IsSome o → ((m : Mutex) → o ≡ Some m → n ≡ m.depth) → n ≤ 1 → given_up s who id o ≡ give_alone s who id o
+gives_up s who id n None there deep last = absurd (cc)
+gives_up s who id n (Some m) there deep last = sym (ap (λ b. cond b (shallow s who id m) (give_up s who id m)) (le-ltb 1 m.depth (omega (arith, deep m refl))))
+
 module _ (s : MutexState) (who id : ℕ) (is : IsKern s.kern) (are : AreMutexes s.mutexes) (lives : Lives s.kern who) (kept : KeepsMutexes s) where
   -- what the contract says about a give that was made
   pub record Given (t : MutexState) : Type 0 where
@@ -339,20 +345,12 @@ module _ (s : MutexState) (who id : ℕ) (is : IsKern s.kern) (are : AreMutexes 
     pub state : t ≡ give s who id
     pub keeps : KeepsMutexes t
 
-  given : (t : MutexState) (m : Mutex) → object_of s.mutexes id ≡ Some m → m.owner ≡ Some who → t ≡ give_alone s who id (object_of s.mutexes id) → Given t
-  given t m e own row =
+  pub gave : (t : MutexState) (m : Mutex) → object_of s.mutexes id ≡ Some m → m.owner ≡ Some who → t ≡ give_alone s who id (object_of s.mutexes id) → Given t
+  gave t m e own row =
       let fine : give_refusal who (object_of s.mutexes id) ≡ None = ap (give_refusal who) e ∙ ap (λ o. cond (is_id who o) None (Some errors.InvalidOperation)) own ∙ ap (λ b. cond b None (Some errors.InvalidOperation)) (eq-eqb who who refl) in
       let all = give_same s who id is are.rising lives kept fine in
       let state : t ≡ give s who id = row ∙ sym all.0 in
       record { fine = fine; state = state; keeps = subst KeepsMutexes (sym state) all.1 }
-
-  pub gave_once : (t : MutexState) (m : Mutex) → object_of s.mutexes id ≡ Some m → m.owner ≡ Some who → 1 < m.depth → t ≡ given_once s who id (object_of s.mutexes id) → Given t
-  gave_once t m e own deep state =
-      given t m e own (state ∙ ap (given_once s who id) e ∙ sym (ap (give_alone s who id) e ∙ ap (λ b. cond b (shallow s who id m) (give_up s who id m)) (lt-ltb 1 m.depth deep)))
-
-  pub gave_up : (t : MutexState) (m : Mutex) → object_of s.mutexes id ≡ Some m → m.owner ≡ Some who → m.depth ≤ 1 → t ≡ given_up s who id (object_of s.mutexes id) → Given t
-  gave_up t m e own last state =
-      given t m e own (state ∙ ap (given_up s who id) e ∙ sym (ap (give_alone s who id) e ∙ ap (λ b. cond b (shallow s who id m) (give_up s who id m)) (le-ltb 1 m.depth last)))
 
 -- ---- delete
 since_waits : (k : KernState) (ts : List Task) (a : ℕ) (e : Option Errno) → (end_waits k ts a e).next_since ≤ k.next_since + length ts

@@ -48,11 +48,7 @@ impl Mutexes {
             × (both k.new self.new ≡ both k.old self.old)) }
         ensures kept { KeepsMutexes (both k.new self.new) }
     {
-        k.facts();
-        self.facts();
-        let Some(id) = self.find(id) else {
-            return Err(Errno::ObjIdError);
-        };
+        let id = self.live(k, id)?;
         k.wake_all(Place { side: OBJECT, id }, ERROR, Some(Errno::ObjDeleted));
         self.end_owner(k, id);
         self.table.remove(id);

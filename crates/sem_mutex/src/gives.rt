@@ -6,7 +6,7 @@ ghost use Rattle.wind_core.specs.State.{Lives};
 ghost use Rattle.inheritance.specs.declared.mutex.Mutex.{Mutex as Mutex_lem};
 ghost use Rattle.inheritance.specs.Mutexes.{both};
 ghost use Rattle.sem_mutex.specs.Kept.{KeepsMutexes, FewSinces, FewSafe};
-ghost use Rattle.sem_mutex.specs.Calls.{passed_on, given_up, given_once, give, give_refusal};
+ghost use Rattle.sem_mutex.specs.Calls.{passed_on, given_up, given_once, give, give_alone, give_refusal};
 
 use crate::mutexes::Mutexes;
 use crate::owners::{ease, free, let_go, take_depth};
@@ -69,6 +69,22 @@ impl Mutexes {
         take_depth(self.table.object_mut(id));
     }
 
+    // A give by the owner.
+    fn give_owned(&mut self, k: &mut Kern, who: Ident, id: Ident)
+        requires live { Lives k.old who }
+        requires there { IsSome (object_of self.old.rows id) }
+        requires kept { KeepsMutexes (both k.old self.old) }
+        requires since { FewSinces k.old }
+        requires safe { FewSafe k.old }
+        ensures { both k.new self.new ≡ give_alone (both k.old self.old) who id (object_of self.old.rows id) }
+    {
+        if self.depth(id) > 1 {
+            self.give_once(k, who, id);
+        } else {
+            self.give_up(k, who, id);
+        }
+    }
+
     /// Gives the mutex once, on behalf of its owner (semGive). After the last give the first
     /// waiting task owns it, or it is free; and under profile 1, if it is inversion-safe and the
     /// caller owns no other such mutex, the caller gets its normal priority back. Last of all, if
@@ -89,22 +105,14 @@ impl Mutexes {
             × (both k.new self.new ≡ both k.old self.old)) }
         ensures kept { KeepsMutexes (both k.new self.new) }
     {
-        k.facts();
-        self.facts();
-        let Some(id) = self.find(id) else {
-            return Err(Errno::ObjIdError);
-        };
+        let id = self.live(k, id)?;
         let Some(owner) = self.owner_by(id) else {
             return Err(Errno::InvalidOperation);
         };
         if owner != caller {
             return Err(Errno::InvalidOperation);
         }
-        if self.depth(id) > 1 {
-            self.give_once(k, caller, id);
-        } else {
-            self.give_up(k, caller, id);
-        }
+        self.give_owned(k, caller, id);
         Ok(())
     }
 }

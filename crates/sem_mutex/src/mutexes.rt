@@ -3,7 +3,8 @@
 ghost use Rattle.std.specs.Prelude.{◌≡◌, ◌<◌, ◌^◌, true, false, [], Some, None, IsSome, IfOk, IfErr, is_some};
 ghost use Rattle.wind_base.specs.SemBits.{is_priority, is_inversion_safe};
 ghost use Rattle.id_table.specs.Rows.{object_of};
-ghost use Rattle.wind_core.specs.State.{Lives};
+ghost use Rattle.wind_core.specs.State.{IsKern, Lives};
+ghost use Rattle.wind_base.specs.declared.errno.Errno.TheVariants.{ObjIdError};
 ghost use Rattle.wind_base.specs.declared.profile.Profile.TheVariants.{One};
 ghost use Rattle.inheritance.specs.Mutexes.{both, owner_in, AreMutexes};
 ghost use Rattle.inheritance.specs.Laws.{OwnersUrgentBut};
@@ -80,6 +81,19 @@ impl Mutexes {
         ensures { result ≡ live_mutex self.now.rows id }
     {
         self.table.find(id)
+    }
+
+    // The same, with the invariants of the kernel and of the list of mutexes. `ObjIdError` if there
+    // is no such mutex.
+    pub(crate) fn live(&self, k: &Kern, id: u32) -> Result<Ident, Errno>
+        ensures ok { IfOk result (λ i. Some i ≡ live_mutex self.now.rows id) }
+        ensures err { IfErr result (λ e. (e ≡ ObjIdError) × (live_mutex self.now.rows id ≡ None)) }
+        ensures kern { IsKern k.now }
+        ensures mutexes { AreMutexes self.now.rows }
+    {
+        k.facts();
+        self.facts();
+        self.find(id).ok_or(Errno::ObjIdError)
     }
 
     // The owner of the mutex with this id, live or ended. None if it is free.

@@ -78,11 +78,7 @@ impl Mutexes {
             × (both k.new self.new ≡ both k.old self.old)) }
         ensures kept { KeepsMutexes (both k.new self.new) }
     {
-        k.facts();
-        self.facts();
-        let Some(id) = self.find(id) else {
-            return Err(Errno::ObjIdError);
-        };
+        let id = self.live(k, id)?;
         let Some(owner) = self.owner_by(id) else {
             self.hand(k, caller, id);
             return Ok(Took::Taken);

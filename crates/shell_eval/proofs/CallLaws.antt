@@ -1,5 +1,5 @@
 -- A call leaves one hole, and an answer fills it.
-use Rattle.std.proofs.Common.{◌≡◌, ℕ, zero, suc, ◌<◌, Bool, true, false, if◌then◌else◌, List, ◌∷◌, Option, Some, None, Ok, Err, refl, subst, arith}
+use Rattle.std.proofs.Common.{◌≡◌, ℕ, zero, suc, ◌<◌, Bool, true, false, if◌then◌else◌, List, ◌∷◌, Option, Some, None, Ok, Err, refl, sym, ◌∙◌, subst, arith}
 use Rattle.shell_parse.specs.declared.tree.BinOp.{BinOp}
 use Rattle.shell_parse.specs.declared.tree.BinOp.TheVariants as ops
 use Rattle.symbol_table.specs.declared.symbol.Symbol.{Symbol}
@@ -10,10 +10,11 @@ use Rattle.symbol_table.specs.Newest.{find}
 use Rattle.shell_eval.specs.Operators.{before_word}
 use Rattle.shell_eval.specs.State.{State}
 use Rattle.shell_eval.specs.Words.{Tried, combined, word_read, word_stored, is_value, name_word, name_value, string_made, variable_made}
-use Rattle.shell_eval.specs.Pending.{Pending, Number, Str, Name, Lone, Address, Word, Unary, Binary, Choice, SetName, SetWord, New, Call, Hole, Args, End, Then, filled_all, weight}
+use Rattle.shell_eval.specs.Pending.{Pending, Number, Str, Name, Lone, Address, Word, Unary, Binary, Choice, SetName, SetWord, New, Call, Hole, Args, End, Then, filled, filled_all, weight}
 use Rattle.shell_eval.specs.Reduce.{Outcome, Is, Steps, Calls, Faults, Waits, reduce, reduce_all, within, given, padded, decides, chosen, lone_by, kind_or_data, old_read, resolved, left_by, set_at}
 use Rattle.shell_eval.specs.Evaluate.{Evaluated, goes_on, reduced, evaluate}
 use Rattle.shell_eval.specs.Laws.{holes, holes_all, StepLaw, CallLaw, FillLaw, IsEnd, EndsLaw}
+use Rattle.shell_eval.proofs.Holes.{holes_set}
 use Rattle.shell_eval.proofs.Smaller.{smaller}
 
 mutual
@@ -27,7 +28,7 @@ mutual
   fills_holes (Unary o a) v = fills_holes a v
   fills_holes (Binary o a b) v = let p = fills_holes a v in let q = fills_holes b v in omega (arith, p, q)
   fills_holes (Choice w a b) v = let p = fills_holes a v in let q = fills_holes b v in omega (arith, p, q)
-  fills_holes (SetName aop x e) v = fills_holes e v
+  fills_holes (SetName aop x e) v = holes_set aop x (filled v e) ∙ fills_holes e v
   fills_holes (SetWord aop a e) v = let p = fills_holes a v in let q = fills_holes e v in omega (arith, p, q)
   fills_holes (New x e) v = fills_holes e v
   fills_holes (Call f es) v = let p = fills_holes f v in let q = fills_all es v in omega (arith, p, q)
@@ -109,7 +110,7 @@ mutual
   leaves s (Choice w a b) z =
       leaves_within holes holes (reduce s a) (λ t. Choice w t b) (λ n. Steps s (chosen w n b)) (leaves s a (omega arith)) (λ k t l. omega arith)
       (λ n. leaves_chosen s (decides w n) _ b (omega arith))
-  leaves s (SetName aop x e) z = leaves_left s aop x e (find s.symbols x) z
+  leaves s (SetName aop x e) z = leaves_left s aop x e (find s.symbols x) (sym (holes_set aop x e) ∙ z)
   leaves s (SetWord aop a e) z =
       leaves_within holes holes (reduce s a) (λ t. SetWord aop t e) (λ at. set_at s aop at e (reduce s e)) (leaves s a (omega arith)) (λ k t l. omega arith)
       (λ at. leaves_set s aop at e (reduce s e) (leaves s e (omega arith)) (omega arith))

@@ -12,6 +12,11 @@ use Rattle.shell_eval.specs.Laws.{holes, holes_all, BegunLaw}
 use Rattle.shell_eval.specs.Code.{form_of}
 use Rattle.shell_eval.specs.Frames.{Frame, InWord, InUnary, OnLeft, OnRight, OnLeftSide, Over, AsCallee, AsArgument, over, before, plugged}
 
+-- an assignment to a name has the holes of its right side
+pub holes_set : (aop : Option BinOp) (x : List ℕ) (e : Pending) → holes (SetName aop x e) ≡ holes e
+holes_set None x e = refl
+holes_set (Some op) x e = refl
+
 -- a tree of the grammar has no hole
 holes_two : (l : Option Logic) (o : BinOp) (a b : Pending) → holes (two_sided l o a b) ≡ holes a + holes b
 holes_two None o a b = refl
@@ -27,7 +32,7 @@ mutual
   no_hole (trees.Unary o a) = no_hole a
   no_hole (trees.Binary o a b) =
       let p = holes_two (logic_of o) o (begun a) (begun b) in let q = no_hole a in let r = no_hole b in omega (arith, p, q, r)
-  no_hole (trees.SetName aop x e) = no_hole e
+  no_hole (trees.SetName aop x e) = holes_set aop x (begun e) ∙ no_hole e
   no_hole (trees.SetWord aop a e) = let q = no_hole a in let r = no_hole e in omega (arith, q, r)
   no_hole (trees.Call f es) = let q = no_hole f in let r = no_holes es in omega (arith, q, r)
 

@@ -35,19 +35,29 @@ on_same xs = ([], sym (append-nil xs))
 on_on : {X : Type 0} (xs ys zs : List X) → GoesOn xs ys → GoesOn ys zs → GoesOn xs zs
 on_on xs ys zs (ms, e) (ns, f) = (ms ++ ns, f ∙ (ap (λ ts. ts ++ ns) e ∙ append_assoc xs ms ns))
 
-pub keeps_same : (s : State) → Keeps s s
-keeps_same s = record {
-  ram = refl;
+-- memory of the same size, with further symbols and output
+keeps_on : (s : State) (m : BusState) (symbols : List Symbol) (output : List ℕ) → length m.ram ≡ length s.memory.ram → GoesOn s.symbols symbols
+    → (length s.symbols ≤ most_symbols → length symbols ≤ most_symbols) → GoesOn s.output output
+    → Keeps s (record s { memory = m; symbols = symbols; output = output })
+keeps_on s m symbols output size more few written = record {
+  ram = size;
   start = refl;
   end = refl;
   room = refl;
   stays = λ b h. h;
   added = λ b h. inl h;
   sound = λ h. h;
-  symbols = on_same s.symbols;
-  few = λ h. h;
-  output = on_same s.output;
+  symbols = more;
+  few = few;
+  output = written;
 }
+
+-- memory of the same size
+keeps_memory : (s : State) (m : BusState) → length m.ram ≡ length s.memory.ram → Keeps s (record s { memory = m })
+keeps_memory s m e = keeps_on s m s.symbols s.output e (on_same s.symbols) (λ h. h) (on_same s.output)
+
+pub keeps_same : (s : State) → Keeps s s
+keeps_same s = keeps_memory s s.memory refl
 
 added_twice : (s t u : State) → Keeps s t → Keeps t u → (b : Block) → Contains u.pool.blocks b → Contains s.pool.blocks b ⊎ (b.class ≡ Kernel)
 added_twice s t u h k b c = elim (k.added b c) [ inl d ↦ h.added b d | inr e ↦ inr e ]
@@ -68,21 +78,6 @@ keeps_then s t u h k = record {
 
 pub pool_in_ram : (s t : State) → Keeps s t → IsPoolInRam s → IsPoolInRam t
 pool_in_ram s t k h = let e = k.end in let r = k.ram in omega arith
-
--- memory of the same size
-keeps_memory : (s : State) (m : BusState) → length m.ram ≡ length s.memory.ram → Keeps s (record s { memory = m })
-keeps_memory s m e = record {
-  ram = e;
-  start = refl;
-  end = refl;
-  room = refl;
-  stays = λ b h. h;
-  added = λ b h. inl h;
-  sound = λ h. h;
-  symbols = on_same s.symbols;
-  few = λ h. h;
-  output = on_same s.output;
-}
 
 -- ---- a block more
 
@@ -142,18 +137,8 @@ keeps_block s n at m e l =
 
 -- a symbol more, and a text
 keeps_symbol : (s : State) (y : Symbol) (text : List ℕ) → length s.symbols < most_symbols → Keeps s (record s { symbols = s.symbols ++ y ∷ []; output = s.output ++ text })
-keeps_symbol s y text h = record {
-  ram = refl;
-  start = refl;
-  end = refl;
-  room = refl;
-  stays = λ b k. k;
-  added = λ b k. inl k;
-  sound = λ k. k;
-  symbols = (y ∷ [], refl);
-  few = λ k. (omega (arith, length-append s.symbols (y ∷ [])));
-  output = (text, refl);
-}
+keeps_symbol s y text h =
+    keeps_on s s.memory (s.symbols ++ y ∷ []) (s.output ++ text) refl (y ∷ [], refl) (λ k. (omega (arith, length-append s.symbols (y ∷ [])))) (text, refl)
 
 -- ---- what is tried
 

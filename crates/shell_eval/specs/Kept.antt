@@ -1,5 +1,5 @@
 -- What evaluation keeps of the state, whatever is evaluated.
-use Rattle.std.specs.Prelude.{◌≡◌, ℕ, ◌+◌, ◌≤◌, ◌⊎◌, List, ◌++◌, length, Some, None}
+use Rattle.std.specs.Prelude.{◌≡◌, ℕ, ◌+◌, ◌≤◌, ◌⊎◌, List, ◌++◌, length}
 use Rattle.std.specs.List.{Contains}
 use Rattle.wind_base.specs.Limits.{most_symbols}
 use Rattle.mem_partition.specs.State.{IsPart}
@@ -7,7 +7,7 @@ use Rattle.mem_partition.specs.declared.block.Block.{Block}
 use Rattle.mem_partition.specs.declared.block.Class.TheVariants.{Kernel}
 use Rattle.shell_eval.specs.State.{State}
 use Rattle.shell_eval.specs.Words.{announcement}
-use Rattle.shell_eval.specs.Pending.{Pending, Number, Str, Name, Lone, Address, Word, Unary, Binary, Choice, SetName, SetWord, New, Call, Hole, Args, End, Then}
+use Rattle.shell_eval.specs.Pending.{Pending, Args, counted, counted_all}
 use Rattle.shell_eval.specs.Evaluate.{evaluate}
 
 -- the second list continues the first
@@ -32,28 +32,12 @@ pub record Keeps (old new : State) : Type 0 where
   pub few : length old.symbols ≤ most_symbols → length new.symbols ≤ most_symbols
   pub output : GoesOn old.output new.output
 
--- the total length in bytes of the announcements of a tree's assignments
-abbrev mutual
-  pub announced : Pending → ℕ
-  announced (Number n) = 0
-  announced (Str text) = 0
-  announced (Name x) = 0
-  announced (Lone x) = 0
-  announced (Address x) = 0
-  announced (Word a) = announced a
-  announced (Unary op a) = announced a
-  announced (Binary op a b) = announced a + announced b
-  announced (Choice w a b) = announced a + announced b
-  announced (SetName None x e) = announced e + length (announcement x)
-  announced (SetName (Some op) x e) = announced e
-  announced (SetWord aop a e) = announced a + announced e
-  announced (New x e) = announced e + length (announcement x)
-  announced (Call f es) = announced f + announced_all es
-  announced Hole = 0
+-- the total length in bytes of the announcements of the assignments in a tree, and in arguments
+abbrev pub announced : Pending → ℕ
+announced = counted 0 (λ x n. n + length (announcement x))
 
-  pub announced_all : Args → ℕ
-  announced_all End = 0
-  announced_all (Then e es) = announced e + announced_all es
+abbrev pub announced_all : Args → ℕ
+announced_all = counted_all 0 (λ x n. n + length (announcement x))
 
 -- evaluation keeps this if the pool is inside RAM
 abbrev pub KeepsLaw : Type 0

@@ -1,8 +1,8 @@
 -- What follows from the definitions alone.
-use Rattle.std.specs.Prelude.{◌≡◌, ℕ, ◌+◌, ◌<◌, List}
+use Rattle.std.specs.Prelude.{◌≡◌, ℕ, ◌<◌, List}
 use Rattle.shell_eval.specs.State.{State}
 use Rattle.shell_parse.specs.Trees.{PlainStmt}
-use Rattle.shell_eval.specs.Pending.{Pending, Args, weight, begun_stmt, Number, Str, Name, Lone, Address, Word, Unary, Binary, Choice, SetName, SetWord, New, Call, Hole, End, Then, filled}
+use Rattle.shell_eval.specs.Pending.{Pending, Args, weight, counted, counted_all, begun_stmt, filled}
 use Rattle.shell_eval.specs.Reduce.{Steps, Calls, reduce}
 use Rattle.shell_eval.specs.Evaluate.{Ending, Value, Call as CallEnd, Fault, Waiting, evaluate, goes_on}
 
@@ -14,27 +14,12 @@ SmallerLaw = (s : State) (p : Pending) (t : State) (q : Pending) → reduce s p 
 abbrev pub RepeatsLaw : Type 0
 RepeatsLaw = (s : State) (p : Pending) → evaluate s p ≡ goes_on (reduce s p) s evaluate
 
--- how many answers of calls are awaited
-abbrev mutual
-  pub holes : Pending → ℕ
-  holes (Number n) = 0
-  holes (Str b) = 0
-  holes (Name x) = 0
-  holes (Lone x) = 0
-  holes (Address x) = 0
-  holes (Word a) = holes a
-  holes (Unary op a) = holes a
-  holes (Binary op a b) = holes a + holes b
-  holes (Choice w a b) = holes a + holes b
-  holes (SetName aop x e) = holes e
-  holes (SetWord aop a e) = holes a + holes e
-  holes (New x e) = holes e
-  holes (Call f es) = holes f + holes_all es
-  holes Hole = 1
+-- how many answers of calls are awaited, in a tree and in arguments
+abbrev pub holes : Pending → ℕ
+holes = counted 1 (λ x n. n)
 
-  pub holes_all : Args → ℕ
-  holes_all End = 0
-  holes_all (Then e es) = holes e + holes_all es
+abbrev pub holes_all : Args → ℕ
+holes_all = counted_all 1 (λ x n. n)
 
 -- a statement awaits no answer at its beginning
 abbrev pub BegunLaw : Type 0

@@ -1,5 +1,6 @@
 -- The values of the operators on words, which are numbers below 2 ^ 32.
 use Rattle.std.specs.Prelude.{ℕ, ◌+◌, ◌-◌, ◌*◌, ◌%◌, ◌^◌, ◌==◌, ◌&&◌, ◌||◌, not, if◌then◌else◌, Option, Some, None, bit_and, bit_or, bit_xor, int_lt, int_le, int_div, int_rem}
+use Rattle.std.specs.Option.{option_map}
 use Rattle.std.specs.Int.{cast_unsigned, w32, int_shr}
 use Rattle.ppc_core.specs.Words.{signed, complement, bit}
 use Rattle.shell_parse.specs.declared.tree.BinOp.{BinOp}
@@ -29,9 +30,9 @@ moved_left a b = (a * 2 ^ (b % 32)) % 2 ^ 32
 abbrev pub moved_right : ℕ → ℕ → ℕ
 moved_right a b = cast_unsigned w32 (int_shr (signed a) (b % 32))
 
--- a value, if the divisor isn't 0
-abbrev pub by_divisor : ℕ → ℕ → Option ℕ
-by_divisor b value = if b == 0 then None else Some value
+-- the quotient and the remainder, if the divisor isn't 0
+abbrev pub divided : ℕ → ℕ → Option (ℕ × ℕ)
+divided a b = if b == 0 then None else Some (quotient a b, remainder a b)
 
 -- the value of an operator with two operands, or none for a divisor of 0
 abbrev pub between_words : BinOp → ℕ → ℕ → Option ℕ
@@ -51,5 +52,5 @@ between_words Shr a b = Some (moved_right a b)
 between_words Plus a b = Some ((a + b) % 2 ^ 32)
 between_words Minus a b = Some (((a + 2 ^ 32) - b) % 2 ^ 32)
 between_words Times a b = Some (a * b % 2 ^ 32)
-between_words Over a b = by_divisor b (quotient a b)
-between_words Rest a b = by_divisor b (remainder a b)
+between_words Over a b = option_map (λ x. x.0) (divided a b)
+between_words Rest a b = option_map (λ x. x.1) (divided a b)

@@ -119,3 +119,26 @@ abbrev mutual
   pub weight_all : Args → ℕ
   weight_all End = 0
   weight_all (Then e es) = weight e + weight_all es
+
+-- a count over a tree: that of a hole, and what each assignment that makes a variable of this name adds
+abbrev mutual
+  pub counted : ℕ → (List ℕ → ℕ → ℕ) → Pending → ℕ
+  counted hole made (Number n) = 0
+  counted hole made (Str b) = 0
+  counted hole made (Name x) = 0
+  counted hole made (Lone x) = 0
+  counted hole made (Address x) = 0
+  counted hole made (Word a) = counted hole made a
+  counted hole made (Unary op a) = counted hole made a
+  counted hole made (Binary op a b) = counted hole made a + counted hole made b
+  counted hole made (Choice w a b) = counted hole made a + counted hole made b
+  counted hole made (SetName None x e) = made x (counted hole made e)
+  counted hole made (SetName (Some op) x e) = counted hole made e
+  counted hole made (SetWord aop a e) = counted hole made a + counted hole made e
+  counted hole made (New x e) = made x (counted hole made e)
+  counted hole made (Call f es) = counted hole made f + counted_all hole made es
+  counted hole made Hole = hole
+
+  pub counted_all : ℕ → (List ℕ → ℕ → ℕ) → Args → ℕ
+  counted_all hole made End = 0
+  counted_all hole made (Then e es) = counted hole made e + counted_all hole made es

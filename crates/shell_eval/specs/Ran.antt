@@ -1,17 +1,20 @@
 -- What came of running code.
-use Rattle.std.specs.Prelude.{◌≡◌, ℕ, Bool, true, false, List}
+use Rattle.std.specs.Prelude.{◌≡◌, ℕ, ◌+◌, ◌<◌, ◌≤◌, Bool, true, false, List, length}
 use Rattle.shell_eval.specs.declared.code.Op.{Op}
 use Rattle.shell_eval.specs.declared.code.Entry.{Entry}
 use Rattle.shell_eval.specs.declared.step.Stepped.{Stepped}
 use Rattle.shell_eval.specs.declared.step.Stepped.TheVariants as steps
 use Rattle.shell_eval.specs.declared.run.Advanced.{Advanced}
 use Rattle.shell_eval.specs.declared.run.Advanced.TheVariants as code
+use Rattle.wind_base.specs.OutBuf.{KeepsSpace}
 use Rattle.shell_eval.specs.State.{State}
 use Rattle.shell_eval.specs.Room.{Entries}
+use Rattle.shell_eval.specs.declared.env.Env.{Env}
 use Rattle.shell_eval.specs.declared.went.Went.{Went}
 use Rattle.shell_eval.specs.declared.went.Went.TheVariants as went
 use Rattle.shell_eval.specs.Frames.{Stands, Awaits}
 use Rattle.shell_eval.specs.Machine.{Moved, Ends, Goes, Makes, Stops}
+use Rattle.shell_eval.specs.Seen.{Ready, SameEnv, SameSize}
 
 -- an operation's outcome
 abbrev pub of_step : Stepped → Advanced
@@ -39,6 +42,17 @@ IsEnd (code.Ends n) c d st ts = (d ≡ c) × (ts ≡ st)
 IsEnd code.Goes c d st ts = Unit {0}
 IsEnd (code.Calls callee words) c d st ts = Unit {0}
 IsEnd (code.Faults f) c d st ts = Unit {0}
+
+-- the code never grows, and shrinks if it goes on; with this room for entries after it, what is left
+-- of the code has its room, and the environment has what that code can need
+pub record Proceeds {I : Type 0} {X : I → Type 0} (next : Advanced) (before after : List Op) (room : ℕ) (old new : Env I X) : Type 0 where
+  pub less : next ≡ code.Goes → length after < length before
+  pub code : length after ≤ length before
+  pub entries : length after + left_room next ≤ room
+  pub ready : Ready (length after) new
+  pub space : KeepsSpace old.out.now new.out.now
+  pub same : SameEnv old new
+  pub size : SameSize old new
 
 -- the code and the entries after a run
 abbrev pub IsAfter : Went → List Op → List Entry → Type 0

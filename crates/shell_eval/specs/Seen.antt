@@ -1,12 +1,16 @@
 -- What contracts see of the environment.
-use Rattle.std.specs.Prelude.{◌≡◌, ℕ, List, ◌+◌, ◌-◌, ◌*◌, ◌≤◌, min, length}
+use Rattle.std.specs.Prelude.{◌≡◌, ℕ, List, ◌+◌, ◌-◌, ◌*◌, ◌≤◌, min, length, Result, OnErr}
 use Rattle.std.specs.declared.dyn_box.DynBox.{DynBox}
 use Rattle.std.specs.declared.alloc.Global.{Global}
 use Rattle.wind_outside.specs.declared.device.DeviceKind.{DeviceKind}
 use Rattle.wind_outside.specs.declared.device.Device.{Ghosts}
 use Rattle.wind_base.specs.Limits.{most_symbols}
+use Rattle.wind_base.specs.OutBuf.{KeepsSpace}
 use Rattle.board_bus.specs.Seen.{bus_by}
 use Rattle.shell_eval.specs.declared.env.Env.{Env}
+use Rattle.shell_eval.specs.declared.fault.EvalFault.{EvalFault}
+use Rattle.shell_eval.specs.Words.{Tried}
+use Rattle.shell_eval.specs.Moved.{attempt}
 use Rattle.shell_eval.specs.State.{State, state_of}
 
 -- the state of an environment, with each device seen by these two functions
@@ -51,3 +55,23 @@ pub record Ready {I : Type 0} {X : I → Type 0} (n : ℕ) (e : Env I X) : Type 
 pub record KeptParts {I : Type 0} {X : I → Type 0} (old new : Env I X) : Type 0 where
   pub syms : new.syms.now ≡ old.syms.now
   pub out : new.out.now ≡ old.out.now
+
+-- a word or a fault, with the state left, is what this definition gives
+abbrev pub Gives : {I : Type 0} {X : I → Type 0} → ((i : I) → Ghosts (X i)) → Result ℕ EvalFault → (State → Tried) → Env I X → Env I X → Type 0
+Gives devices result tried old new = attempt result (seen devices new) ≡ tried (seen devices old)
+
+-- the symbols and the output stay, and without a word everything does
+pub record Stays {I : Type 0} {X : I → Type 0} (devices : (i : I) → Ghosts (X i)) (result : Result ℕ EvalFault) (old new : Env I X) : Type 0 where
+  pub kept : OnErr result (seen devices new ≡ seen devices old)
+  pub parts : KeptParts old new
+  pub same : SameEnv old new
+  pub size : SameSize old new
+
+-- at most one symbol is added, and at most one announcement written
+pub record AddsOne {I : Type 0} {X : I → Type 0} (old new : Env I X) : Type 0 where
+  pub spare : length old.syms.now.list + old.syms.now.spare ≤ length new.syms.now.list + new.syms.now.spare
+  pub list : length new.syms.now.list ≤ length old.syms.now.list + 1
+  pub room : old.out.now.room ≤ new.out.now.room + most_announced
+  pub space : KeepsSpace old.out.now new.out.now
+  pub same : SameEnv old new
+  pub size : SameSize old new

@@ -4,11 +4,8 @@ ghost use Rattle.std.specs.Prelude.{◌≡◌, ◌≤◌, length, IfOk, OnOk, On
 ghost use Rattle.shell_parse.specs.Trees.{plain_stmt};
 ghost use Rattle.shell_eval.specs.Pending.{begun_stmt, filled};
 ghost use Rattle.shell_eval.specs.Laws.{holes};
-ghost use Rattle.shell_eval.specs.Evaluate.{evaluate};
 ghost use Rattle.shell_eval.specs.Seen.{seen, SameEnv, SameSize, SpaceGrows, kept_free};
-ghost use Rattle.shell_eval.specs.Moved.{came};
-ghost use Rattle.shell_eval.specs.Ran.{is_call as is_call_lem};
-ghost use Rattle.shell_eval.specs.Inside.{room_of};
+ghost use Rattle.shell_eval.specs.Inside.{ComesTo, AwaitsAfter};
 
 use crate::code::{Code, Entry, Stack};
 use crate::compile::emit_stmt;
@@ -34,10 +31,11 @@ pub struct Eval {
 
 impl Model for Eval {
     ghost use Rattle.shell_eval.specs.Pending.{Pending};
-    ghost use Rattle.shell_eval.specs.Coded.{coded_pending};
     ghost use Rattle.shell_eval.specs.Inside.{tree_at, IsEval};
 
     ghost Value = { Pending };
+
+    ghost use Rattle.shell_eval.specs.Coded.{coded_pending};
 
     ghost coded = { coded_pending };
 
@@ -70,9 +68,9 @@ impl Eval {
     pub fn go(&mut self, env: &mut Env<'_>) -> Result<Went, NoMemory>
         requires pool { env.old.part.now.end ≤ length env.old.bus.now.ram.bytes }
         requires waits { holes self.old ≡ 0 }
-        ensures went { IfOk result (λ went. came went (seen ⟦<dyn Device as Device>⟧ env.new) self.new
-            ≡ evaluate (seen ⟦<dyn Device as Device>⟧ env.old) self.old) }
-        ensures holes { IfOk result (λ went. holes self.new ≡ room_of (is_call_lem went)) }
+        ensures went { IfOk result (λ went. ComesTo (seen ⟦<dyn Device as Device>⟧ env.old) self.old went
+            (seen ⟦<dyn Device as Device>⟧ env.new) self.new) }
+        ensures holes { IfOk result (λ went. AwaitsAfter went self.new) }
         ensures room { OnOk result (kept_free ≤ env.new.out.now.room) }
         ensures space { SpaceGrows env.old env.new }
         ensures no_memory { OnErr result (seen ⟦<dyn Device as Device>⟧ env.new

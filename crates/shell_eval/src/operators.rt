@@ -1,7 +1,7 @@
 //! The values of the operators.
 
-ghost use Rattle.std.specs.Prelude.{◌≡◌, ◌<◌};
-ghost use Rattle.shell_eval.specs.Operators.{before_word, quotient as quotient_lem, remainder as remainder_lem, moved_right as moved_right_lem, by_divisor, between_words};
+ghost use Rattle.std.specs.Prelude.{◌≡◌};
+ghost use Rattle.shell_eval.specs.Operators.{before_word, moved_right as moved_right_lem, divided as divided_lem, between_words};
 ghost use Rattle.shell_eval.specs.Words.{combined};
 ghost use Rattle.shell_eval.specs.State.{State};
 ghost use Rattle.shell_eval.specs.Moved.{attempt};
@@ -20,26 +20,6 @@ pub(crate) fn before(op: UnOp, a: u32) -> u32
     }
 }
 
-// The quotient of signed numbers, rounded toward 0.
-fn quotient(a: u32, b: u32) -> u32
-    requires { 0 < b }
-    ensures { result ≡ quotient_lem a b }
-{
-    a.cast_signed()
-        .wrapping_div(b.cast_signed())
-        .cast_unsigned()
-}
-
-// The remainder of signed numbers.
-fn remainder(a: u32, b: u32) -> u32
-    requires { 0 < b }
-    ensures { result ≡ remainder_lem a b }
-{
-    a.cast_signed()
-        .wrapping_rem(b.cast_signed())
-        .cast_unsigned()
-}
-
 // A signed number shifted to the right.
 fn moved_right(a: u32, b: u32) -> u32
     ensures { result ≡ moved_right_lem a b }
@@ -47,24 +27,19 @@ fn moved_right(a: u32, b: u32) -> u32
     a.cast_signed().wrapping_shr(b).cast_unsigned()
 }
 
-// The quotient, if the divisor isn't 0.
-fn divided(a: u32, b: u32) -> Option<u32>
-    ensures { result ≡ by_divisor b (quotient_lem a b) }
+// The quotient, rounded toward 0, and the remainder of signed numbers, if the divisor isn't 0.
+fn divided(a: u32, b: u32) -> Option<(u32, u32)>
+    ensures { result ≡ divided_lem a b }
 {
     if b == 0 {
         return None;
     }
-    Some(quotient(a, b))
-}
-
-// The remainder, if the divisor isn't 0.
-fn left_over(a: u32, b: u32) -> Option<u32>
-    ensures { result ≡ by_divisor b (remainder_lem a b) }
-{
-    if b == 0 {
-        return None;
-    }
-    Some(remainder(a, b))
+    let dividend = a.cast_signed();
+    let divisor = b.cast_signed();
+    Some((
+        dividend.wrapping_div(divisor).cast_unsigned(),
+        dividend.wrapping_rem(divisor).cast_unsigned(),
+    ))
 }
 
 // The value of an operator with two operands; `None` for a divisor of 0.
@@ -88,8 +63,8 @@ fn between(op: BinOp, a: u32, b: u32) -> Option<u32>
         BinOp::Plus => Some(a.wrapping_add(b)),
         BinOp::Minus => Some(a.wrapping_sub(b)),
         BinOp::Times => Some(a.wrapping_mul(b)),
-        BinOp::Over => divided(a, b),
-        BinOp::Rest => left_over(a, b),
+        BinOp::Over => divided(a, b).map(|both| both.0),
+        BinOp::Rest => divided(a, b).map(|both| both.1),
     }
 }
 

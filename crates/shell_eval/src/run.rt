@@ -4,11 +4,9 @@ ghost use Rattle.std.specs.Prelude.{◌≡◌, ◌+◌, ◌*◌, ◌<◌, ◌≤
 ghost use Rattle.shell_eval.specs.Seen.{seen, SameEnv, SameSize, SpaceGrows, Ready, most_announced, kept_free};
 ghost use Rattle.shell_eval.specs.Machine.{move};
 ghost use Rattle.shell_eval.specs.Follows.{tree_of, tree_with_hole, Follows};
-ghost use Rattle.shell_eval.specs.Evaluate.{evaluate};
-ghost use Rattle.shell_eval.specs.Moved.{came};
 ghost use Rattle.shell_eval.specs.Frames.{Stands};
-ghost use Rattle.shell_eval.specs.Ran.{of_step, advanced, left_room, IsEnd, IsAfter, room_after, is_call as is_call_lem};
-ghost use Rattle.shell_eval.specs.Inside.{IsEval, most_operations};
+ghost use Rattle.shell_eval.specs.Ran.{of_step, advanced, IsEnd, Proceeds, IsAfter, room_after, is_call as is_call_lem};
+ghost use Rattle.shell_eval.specs.Inside.{IsEval, most_operations, ComesTo};
 ghost use Rattle.std.specs.Prelude.{◌-◌, min};
 ghost use Rattle.wind_base.specs.Limits.{most_symbols};
 ghost use Rattle.wind_base.specs.OutBuf.{KeepsSpace};
@@ -59,13 +57,7 @@ fn advance(code: &mut Code, stack: &mut Stack, env: &mut Env<'_>) -> Advanced
     ensures end { IsEnd result code.old code.new stack.old stack.new }
     ensures moved { advanced result (seen ⟦<dyn Device as Device>⟧ env.new) code.new stack.new.list
         ≡ move (seen ⟦<dyn Device as Device>⟧ env.old) code.old stack.old.list }
-    ensures less { result ≡ Advanced.Goes → length code.new < length code.old }
-    ensures code { length code.new ≤ length code.old }
-    ensures room { length code.new + left_room result ≤ stack.new.room }
-    ensures ready { Ready (length code.new) env.new }
-    ensures space { KeepsSpace env.old.out.now env.new.out.now }
-    ensures same { SameEnv env.old env.new }
-    ensures size { SameSize env.old env.new }
+    ensures proceeds { Proceeds result code.old code.new stack.new.room env.old env.new }
 {
     match code.pop() {
         Some(op) => from_step(step(op, code, stack, env)),
@@ -81,13 +73,7 @@ fn next(code: &mut Code, stack: &mut Stack, env: &mut Env<'_>) -> Advanced
     ensures end { IsEnd result code.old code.new stack.old stack.new }
     ensures follows { Follows (seen ⟦<dyn Device as Device>⟧ env.old) (tree_of code.old stack.old.list)
         (advanced result (seen ⟦<dyn Device as Device>⟧ env.new) code.new stack.new.list) }
-    ensures less { result ≡ Advanced.Goes → length code.new < length code.old }
-    ensures code { length code.new ≤ length code.old }
-    ensures room { length code.new + left_room result ≤ stack.new.room }
-    ensures ready { Ready (length code.new) env.new }
-    ensures space { KeepsSpace env.old.out.now env.new.out.now }
-    ensures same { SameEnv env.old env.new }
-    ensures size { SameSize env.old env.new }
+    ensures proceeds { Proceeds result code.old code.new stack.new.room env.old env.new }
 {
     advance(code, stack, env)
 }
@@ -97,8 +83,8 @@ pub(crate) fn run(code: &mut Code, stack: &mut Stack, env: &mut Env<'_>) -> Went
     requires stands { Stands code.old stack.old.list }
     requires room { length code.old ≤ stack.old.room }
     requires ready { Ready (length code.old) env.old }
-    ensures came { came result (seen ⟦<dyn Device as Device>⟧ env.new) (tree_with_hole code.new stack.new.list)
-        ≡ evaluate (seen ⟦<dyn Device as Device>⟧ env.old) (tree_of code.old stack.old.list) }
+    ensures came { ComesTo (seen ⟦<dyn Device as Device>⟧ env.old) (tree_of code.old stack.old.list) result
+        (seen ⟦<dyn Device as Device>⟧ env.new) (tree_with_hole code.new stack.new.list) }
     ensures at { IsAfter result code.new stack.new.list }
     ensures room { length code.new + room_after result ≤ stack.new.room }
     ensures code { length code.new ≤ length code.old }
@@ -161,9 +147,8 @@ pub(crate) fn prepare(n: usize, env: &mut Env<'_>) -> Result<(), NoMemory>
 pub(crate) fn go_on(code: &mut Code, stack: &mut Stack, env: &mut Env<'_>) -> Result<Went, NoMemory>
     requires at { IsEval false code.old stack.old }
     requires pool { env.old.part.now.end ≤ length env.old.bus.now.ram.bytes }
-    ensures went { IfOk result (λ went.
-        came went (seen ⟦<dyn Device as Device>⟧ env.new) (tree_with_hole code.new stack.new.list)
-        ≡ evaluate (seen ⟦<dyn Device as Device>⟧ env.old) (tree_of code.old stack.old.list)) }
+    ensures went { IfOk result (λ went. ComesTo (seen ⟦<dyn Device as Device>⟧ env.old) (tree_of code.old stack.old.list) went
+        (seen ⟦<dyn Device as Device>⟧ env.new) (tree_with_hole code.new stack.new.list)) }
     ensures at { IfOk result (λ went. IsEval (is_call_lem went) code.new stack.new) }
     ensures no_memory { OnErr result (seen ⟦<dyn Device as Device>⟧ env.new ≡ seen ⟦<dyn Device as Device>⟧ env.old) }
     ensures kept { OnErr result ((code.new ≡ code.old) × (stack.new ≡ stack.old)) }

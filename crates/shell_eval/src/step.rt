@@ -6,7 +6,7 @@ ghost use Rattle.wind_base.specs.OutBuf.{KeepsSpace};
 ghost use Rattle.ppc_core.specs.Words.{bit};
 ghost use Rattle.symbol_table.specs.Newest.{find};
 ghost use Rattle.shell_eval.specs.State.{State};
-ghost use Rattle.shell_eval.specs.Seen.{seen, SameEnv, SameSize, KeptParts, Ready, most_announced};
+ghost use Rattle.shell_eval.specs.Seen.{seen, SameEnv, SameSize, KeptParts, AddsOne, Ready, most_announced};
 ghost use Rattle.shell_eval.specs.Machine.{pushes, places, left_effect, decides_step, side_step, mixed_effect, close_effect, alone as alone_lem, asks, op_step, argument as argument_lem, top_word, top_entry, below};
 ghost use Rattle.shell_eval.specs.Moved.{attempt, effect_of, moved, held};
 
@@ -182,13 +182,7 @@ fn closed(env: &mut Env<'_>, stack: &mut Stack) -> Stepped
         ≡ close_effect (seen ⟦<dyn Device as Device>⟧ env.old) (top_word stack.old.list)
         (top_entry (below stack.old.list)) (below (below stack.old.list)) }
     ensures entry { stack.old.room + held result ≤ stack.new.room + 1 }
-    ensures spare { length env.old.syms.now.list + env.old.syms.now.spare
-        ≤ length env.new.syms.now.list + env.new.syms.now.spare }
-    ensures list { length env.new.syms.now.list ≤ length env.old.syms.now.list + 1 }
-    ensures room { env.old.out.now.room ≤ env.new.out.now.room + most_announced }
-    ensures space { KeepsSpace env.old.out.now env.new.out.now }
-    ensures same { SameEnv env.old env.new }
-    ensures size { SameSize env.old env.new }
+    ensures adds { AddsOne env.old env.new }
 {
     let v = take_word(stack);
     match stack.take_entry() {

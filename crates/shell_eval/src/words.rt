@@ -2,14 +2,13 @@
 
 ghost use Rattle.std.specs.Prelude.{◌≡◌, ◌+◌, ◌<◌, ◌≤◌, length, replicate, None, OnErr, IsOk, IsSome, IfSome};
 ghost use Rattle.std.specs.Option.{option_map};
-ghost use Rattle.wind_base.specs.OutBuf.{Added, KeepsSpace};
+ghost use Rattle.wind_base.specs.OutBuf.{Added};
 ghost use Rattle.wind_base.specs.Limits.{longest_name, most_symbols};
 ghost use Rattle.board_mem.specs.Memory.{with_bytes};
 ghost use Rattle.mem_partition.specs.Place.{rounded};
 ghost use Rattle.symbol_table.specs.Newest.{find};
 ghost use Rattle.shell_eval.specs.Words.{word_read as word_read_lem, word_stored as word_stored_lem, name_word as name_word_lem, name_value as name_value_lem, string_made as string_made_lem, variable_made as variable_made_lem, announcement, is_value as is_value_lem, block_of, with_block_of, variable_bytes};
-ghost use Rattle.shell_eval.specs.Moved.{attempt};
-ghost use Rattle.shell_eval.specs.Seen.{seen, SameEnv, SameSize, KeptParts, most_announced};
+ghost use Rattle.shell_eval.specs.Seen.{seen, Gives, Stays, AddsOne, most_announced};
 
 use crate::code::Text;
 use crate::env::Env;
@@ -27,12 +26,8 @@ use wind_outside::Device;
 #[tactic(auto, unfolding(crate::specs::Words::word_read))]
 pub(crate) fn word_read(env: &mut Env<'_>, at: u32) -> Result<u32, EvalFault>
     requires { Unit {0} }
-    ensures word { attempt result (seen ⟦<dyn Device as Device>⟧ env.new)
-        ≡ word_read_lem (seen ⟦<dyn Device as Device>⟧ env.old) at }
-    ensures kept { OnErr result (seen ⟦<dyn Device as Device>⟧ env.new ≡ seen ⟦<dyn Device as Device>⟧ env.old) }
-    ensures parts { KeptParts env.old env.new }
-    ensures same { SameEnv env.old env.new }
-    ensures size { SameSize env.old env.new }
+    ensures word { Gives ⟦<dyn Device as Device>⟧ result (λ s. word_read_lem s at) env.old env.new }
+    ensures stays { Stays ⟦<dyn Device as Device>⟧ result env.old env.new }
 {
     match env.bus.load32(at) {
         Ok(word) => Ok(word),
@@ -44,13 +39,9 @@ pub(crate) fn word_read(env: &mut Env<'_>, at: u32) -> Result<u32, EvalFault>
 #[tactic(auto, unfolding(crate::specs::Words::word_stored))]
 pub(crate) fn word_stored(env: &mut Env<'_>, at: u32, v: u32) -> Result<u32, EvalFault>
     requires { Unit {0} }
-    ensures word { attempt result (seen ⟦<dyn Device as Device>⟧ env.new)
-        ≡ word_stored_lem (seen ⟦<dyn Device as Device>⟧ env.old) at v }
-    ensures kept { OnErr result (seen ⟦<dyn Device as Device>⟧ env.new ≡ seen ⟦<dyn Device as Device>⟧ env.old) }
+    ensures word { Gives ⟦<dyn Device as Device>⟧ result (λ s. word_stored_lem s at v) env.old env.new }
+    ensures stays { Stays ⟦<dyn Device as Device>⟧ result env.old env.new }
     ensures inside { at + 4 ≤ length env.old.bus.now.ram.bytes → IsOk result }
-    ensures parts { KeptParts env.old env.new }
-    ensures same { SameEnv env.old env.new }
-    ensures size { SameSize env.old env.new }
 {
     match env.bus.store32(at, v) {
         Ok(()) => Ok(v),
@@ -62,12 +53,8 @@ pub(crate) fn word_stored(env: &mut Env<'_>, at: u32, v: u32) -> Result<u32, Eva
 #[tactic(auto, unfolding(crate::specs::Words::name_word))]
 pub(crate) fn name_word(env: &mut Env<'_>, name: Name) -> Result<u32, EvalFault>
     requires { Unit {0} }
-    ensures word { attempt result (seen ⟦<dyn Device as Device>⟧ env.new)
-        ≡ name_word_lem (seen ⟦<dyn Device as Device>⟧ env.old) name }
-    ensures kept { OnErr result (seen ⟦<dyn Device as Device>⟧ env.new ≡ seen ⟦<dyn Device as Device>⟧ env.old) }
-    ensures parts { KeptParts env.old env.new }
-    ensures same { SameEnv env.old env.new }
-    ensures size { SameSize env.old env.new }
+    ensures word { Gives ⟦<dyn Device as Device>⟧ result (λ s. name_word_lem s name) env.old env.new }
+    ensures stays { Stays ⟦<dyn Device as Device>⟧ result env.old env.new }
 {
     let Some((kind, value)) = looked_up(env.syms, name.bytes()) else {
         return Err(EvalFault::Undefined(name));
@@ -82,12 +69,8 @@ pub(crate) fn name_word(env: &mut Env<'_>, name: Name) -> Result<u32, EvalFault>
 #[tactic(auto, unfolding(crate::specs::Words::name_value))]
 pub(crate) fn name_value(env: &mut Env<'_>, name: Name) -> Result<u32, EvalFault>
     requires { Unit {0} }
-    ensures word { attempt result (seen ⟦<dyn Device as Device>⟧ env.new)
-        ≡ name_value_lem (seen ⟦<dyn Device as Device>⟧ env.old) name }
-    ensures kept { OnErr result (seen ⟦<dyn Device as Device>⟧ env.new ≡ seen ⟦<dyn Device as Device>⟧ env.old) }
-    ensures parts { KeptParts env.old env.new }
-    ensures same { SameEnv env.old env.new }
-    ensures size { SameSize env.old env.new }
+    ensures word { Gives ⟦<dyn Device as Device>⟧ result (λ s. name_value_lem s name) env.old env.new }
+    ensures stays { Stays ⟦<dyn Device as Device>⟧ result env.old env.new }
 {
     match looked_up(env.syms, name.bytes()) {
         Some((_, value)) => Ok(value),
@@ -150,12 +133,8 @@ fn put_bytes(ram: &mut Ram, at: u32, bytes: &[u8])
 #[tactic(auto, unfolding(crate::specs::Words::string_made))]
 pub(crate) fn string_made(env: &mut Env<'_>, text: &Text) -> Result<u32, EvalFault>
     requires pool { env.old.part.now.end ≤ length env.old.bus.now.ram.bytes }
-    ensures word { attempt result (seen ⟦<dyn Device as Device>⟧ env.new)
-        ≡ string_made_lem (seen ⟦<dyn Device as Device>⟧ env.old) text.now }
-    ensures kept { OnErr result (seen ⟦<dyn Device as Device>⟧ env.new ≡ seen ⟦<dyn Device as Device>⟧ env.old) }
-    ensures parts { KeptParts env.old env.new }
-    ensures same { SameEnv env.old env.new }
-    ensures size { SameSize env.old env.new }
+    ensures word { Gives ⟦<dyn Device as Device>⟧ result (λ s. string_made_lem s text.now) env.old env.new }
+    ensures stays { Stays ⟦<dyn Device as Device>⟧ result env.old env.new }
 {
     let bytes = text.with_zero();
     let Some(at) = block_with_room(env.part, bytes) else {
@@ -199,16 +178,9 @@ pub(crate) fn variable_made(env: &mut Env<'_>, name: Name, v: u32) -> Result<u32
     requires spare { length env.old.syms.now.list < most_symbols → 0 < env.old.syms.now.spare }
     requires room { most_announced ≤ env.old.out.now.room }
     requires pool { env.old.part.now.end ≤ length env.old.bus.now.ram.bytes }
-    ensures word { attempt result (seen ⟦<dyn Device as Device>⟧ env.new)
-        ≡ variable_made_lem (seen ⟦<dyn Device as Device>⟧ env.old) name v }
+    ensures word { Gives ⟦<dyn Device as Device>⟧ result (λ s. variable_made_lem s name v) env.old env.new }
     ensures kept { OnErr result (seen ⟦<dyn Device as Device>⟧ env.new ≡ seen ⟦<dyn Device as Device>⟧ env.old) }
-    ensures spare { length env.old.syms.now.list + env.old.syms.now.spare
-        ≤ length env.new.syms.now.list + env.new.syms.now.spare }
-    ensures list { length env.new.syms.now.list ≤ length env.old.syms.now.list + 1 }
-    ensures room { env.old.out.now.room ≤ env.new.out.now.room + most_announced }
-    ensures space { KeepsSpace env.old.out.now env.new.out.now }
-    ensures same { SameEnv env.old env.new }
-    ensures size { SameSize env.old env.new }
+    ensures adds { AddsOne env.old env.new }
 {
     if name.bytes().is_empty() {
         return Err(EvalFault::Undefined(name));

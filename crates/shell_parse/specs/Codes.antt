@@ -2,6 +2,9 @@
 use Rattle.std.specs.Prelude.{◌≡◌, ℕ, zero, suc, List, [], ◌∷◌, Option, Some, None, refl}
 use Rattle.std.specs.List.{slice_index_or}
 use Rattle.std.proofs.Common.{ap, sym, ◌∙◌}
+use denote.Enum.Declared.{tag_of}
+use Rattle.shell_parse.specs.contracts.tree.BinOp as between
+use Rattle.shell_parse.specs.contracts.tree.UnOp as before
 use Rattle.shell_parse.specs.declared.tree.BinOp.{BinOp}
 use Rattle.shell_parse.specs.declared.tree.BinOp.TheVariants.{OrElse, AndAlso, Or, Xor, And, Eq, Ne, Lt, Le, Gt, Ge, Shl, Shr, Plus, Minus, Times, Over, Rest}
 use Rattle.shell_parse.specs.declared.tree.UnOp.{UnOp}
@@ -15,24 +18,7 @@ operators = OrElse ∷ AndAlso ∷ Or ∷ Xor ∷ And ∷ Eq ∷ Ne ∷ Lt ∷ L
 
 -- the number of an operator in that order
 abbrev pub op_number : BinOp → ℕ
-op_number OrElse = 0
-op_number AndAlso = 1
-op_number Or = 2
-op_number Xor = 3
-op_number And = 4
-op_number Eq = 5
-op_number Ne = 6
-op_number Lt = 7
-op_number Le = 8
-op_number Gt = 9
-op_number Ge = 10
-op_number Shl = 11
-op_number Shr = 12
-op_number Plus = 13
-op_number Minus = 14
-op_number Times = 15
-op_number Over = 16
-op_number Rest = 17
+op_number = tag_of between.the_type
 
 -- the operator with this number
 abbrev pub op_of_number : ℕ → BinOp
@@ -49,9 +35,7 @@ set_of_number (suc n) = Some (op_of_number n)
 
 -- the number of an operator before an operand, and back
 abbrev pub un_number : UnOp → ℕ
-un_number Neg = 0
-un_number Not = 1
-un_number Com = 2
+un_number = tag_of before.the_type
 
 abbrev pub un_of_number : ℕ → UnOp
 un_of_number zero = Neg

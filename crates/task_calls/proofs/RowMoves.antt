@@ -16,6 +16,7 @@ use Rattle.board_mem.specs.Memory.{has, with_bytes, written, string_at}
 use Rattle.board_mem.proofs.Sizes.{length-written, length-with_range}
 use Rattle.symbol_table.specs.declared.symbol.Symbol.{Symbol}
 use Rattle.symbol_table.specs.declared.symbol.SymKind.{SymKind}
+use Rattle.mem_partition.specs.Place.{rounded}
 use Rattle.mem_partition.specs.State.{PartState, alloc_of, after_alloc, free_of, after_free}
 use Rattle.mem_partition.specs.declared.block.PartErr.{PartErr}
 use Rattle.mem_partition.specs.declared.block.Class.TheVariants.{User, Kernel}
@@ -111,7 +112,7 @@ module _ (w : WorldState) (kept : IsWorld w) (n : ℕ) (within : Within n w) whe
   spawned_advances s at room ok =
       let task : NewTask = started w.board s w.names at in
       let t : TaskRecord = new_task w.kern.next_id w.kern.next_since task in
-      let stacks : task_stacks (spawn w.kern task) ≡ task_stacks w.kern ++ record { addr = at; size = stack_bytes s.stack } ∷ [] = map-append stack_of w.kern.tasks (t ∷ []) in
+      let stacks : task_stacks (spawn w.kern task) ≡ task_stacks w.kern ++ record { addr = at; size = rounded (stack_bytes s.stack) } ∷ [] = map-append stack_of w.kern.tasks (t ∷ []) in
       record {
         steps = record {
           kept = record {

@@ -27,6 +27,7 @@ use Rattle.kernel_world.specs.declared.reply.Reply.TheVariants.{Answer, Refusal}
 abbrev pub least_stack : ℕ
 least_stack = 512
 
+-- the bytes that the partition is asked for, for a stack of n bytes; their block is the stack
 abbrev pub stack_bytes : ℕ → ℕ
 stack_bytes n = max n least_stack
 
@@ -54,7 +55,7 @@ started board s names at = record {
   name = task_name s.name names;
   entry = s.start;
   stack = at;
-  stack_size = stack_bytes s.stack;
+  stack_size = rounded (stack_bytes s.stack);
   pri = s.pri;
   regs = starting_regs (first_pointer at (stack_bytes s.stack)) (task_return board) s.start s.words;
 }

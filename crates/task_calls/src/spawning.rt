@@ -1,7 +1,7 @@
 //! taskSpawn and sp.
 
 ghost use Rattle.std.specs.Prelude.{◌≡◌, ◌+◌, ◌-◌, ◌^◌, ◌<◌, ◌≤◌, false, [], length};
-ghost use Rattle.wind_base.specs.{Limits.longest_short_name, OutBuf.{Added, KeepsSpace}};
+ghost use Rattle.wind_base.specs.{Limits.{frame_bytes, longest_short_name}, OutBuf.{Added, KeepsSpace}};
 ghost use Rattle.mem_partition.specs.Place.{rounded};
 ghost use Rattle.kernel_world.specs.{Kept.IsEarly, Seen.{world_seen, world_with}};
 ghost use Rattle.task_calls.specs.Spawning.{spawn_parts, spawn_state, after_spawn, after_quick, spawned_if, started as started_lem, stack_bytes as stack_bytes_lem, first_pointer as first_pointer_lem, task_name as task_name_lem, names_after, name_at as name_at_lem, task_wanted as task_wanted_lem, quick_wanted as quick_wanted_lem, spawn_text, quick_text};
@@ -138,27 +138,41 @@ fn take_name(name: Option<ShortName>, names: &mut u64) -> ShortName
     }
 }
 
-// The size of a stack, in bytes, if a task asks for `bytes`.
+// The bytes that the partition is asked for, if a task asks for a stack of `bytes`.
 fn stack_bytes(bytes: u32) -> u32
     ensures { result ≡ stack_bytes_lem bytes }
 {
     bytes.max(LEAST_STACK)
 }
 
-// r1 at the start of a task: one frame below the end of its stack's block.
-#[tactic(auto, using(mem_partition::proofs::Allocs::rounded_holds))]
-fn first_pointer(address: u32, bytes: u32) -> u32
-    requires least { 64 ≤ bytes }
-    requires within { address + rounded bytes < 2 ^ 32 }
-    ensures { result ≡ first_pointer_lem address bytes }
+// The size of the block that the partition gave for `bytes`, in bytes.
+fn block_size(bytes: u32) -> u32
+    requires within { rounded bytes < 2 ^ 32 }
+    ensures { result ≡ rounded bytes }
 {
-    let end = u64::from(address) + round_up(bytes);
-    (end - u64::from(FRAME_BYTES)) as u32
+    round_up(bytes) as u32
 }
 
-// The task, with its stack at an address, on a board of this kind.
-fn started(wanted: Wanted, names: &mut u64, address: u32, pointer: u32, board: BoardKind) -> NewTask
+// r1 at the start of a task: one frame below the end of its stack.
+fn first_pointer(address: u32, size: u32) -> u32
+    requires least { 64 ≤ size }
+    requires within { address + size < 2 ^ 32 }
+    ensures { result ≡ address + size - frame_bytes }
+{
+    address + (size - FRAME_BYTES)
+}
+
+// The task, with its stack of this size at an address, on a board of this kind.
+fn started(
+    wanted: Wanted,
+    names: &mut u64,
+    address: u32,
+    size: u32,
+    pointer: u32,
+    board: BoardKind,
+) -> NewTask
     requires names { names.old + 1 < 2 ^ 64 }
+    requires size { size ≡ rounded (stack_bytes_lem wanted.stack) }
     requires pointer { pointer ≡ first_pointer_lem address (stack_bytes_lem wanted.stack) }
     ensures task { result ≡ started_lem board wanted names.old address }
     ensures names { names.new ≡ names_after wanted.name names.old }
@@ -166,16 +180,16 @@ fn started(wanted: Wanted, names: &mut u64, address: u32, pointer: u32, board: B
     let Wanted {
         name,
         pri,
-        stack,
         start,
         words,
+        ..
     } = wanted;
     let link = gate_address(board, Gate::TaskReturn);
     NewTask {
         name: take_name(name, names),
         entry: start,
         stack: address,
-        stack_size: stack_bytes(stack),
+        stack_size: size,
         pri,
         regs: starting_regs(pointer, link, start, &words),
     }
@@ -217,9 +231,11 @@ fn spawn(
     let Ok(address) = part.alloc(bytes, GRAIN, Class::Kernel) else {
         return Reply::Refusal(Errno::NotEnoughMemory);
     };
-    let pointer = first_pointer(address, bytes);
+    let size = block_size(bytes);
+    let pointer = first_pointer(address, size);
     put_frame(ram, pointer, &wanted.words);
-    let Ok(id) = kern.spawn_record(started(wanted, names, address, pointer, board)) else {
+    let task = started(wanted, names, address, size, pointer, board);
+    let Ok(id) = kern.spawn_record(task) else {
         unreachable!()
     };
     Reply::Answer(id.get())

@@ -1,10 +1,13 @@
-//! The lines of a text, which line feeds end.
+//! The lines of a text, which line feeds end, and their words, which blanks part.
 #![tactic(auto)]
 
 ghost use Rattle.std.specs.Prelude.{◌≡◌, ◌<◌, length};
 ghost use Rattle.text_lines.specs.Lines.{after_line as after_line_lem};
 
+mod words;
+
 use wind_base::{bytes_after, line_len};
+pub use words::Blanks;
 
 /// What comes after the first line and its end; empty, if no line comes after it.
 pub fn after_line(text: &[u8]) -> &[u8]

@@ -1,6 +1,6 @@
 //! Texts in columns. A text is made as a whole before any of it is written.
 
-ghost use Rattle.std.specs.Prelude.{◌≡◌, ◌+◌, ◌≤◌, take, ◌-◌, ◌++◌, ◌∷◌, [], map, length, replicate, OnOk, OnErr};
+ghost use Rattle.std.specs.Prelude.{◌≡◌, ◌+◌, ◌-◌, ◌++◌, ◌∷◌, [], map, length, replicate, OnOk, OnErr};
 ghost use Rattle.text_show.specs.Columns.{blanks, cell_text, row, row_rest, with_text};
 
 use std::alloc::Global;
@@ -13,18 +13,6 @@ pub(crate) enum Cell<'a> {
     Left(usize, &'a [u8]),
     /// Right-justified in this width.
     Right(usize, &'a [u8]),
-}
-
-/// The first `most` bytes, or all if there are fewer.
-pub(crate) fn prefix(bytes: &[u8], most: usize) -> &[u8]
-    ensures value { result.now ≡ take most bytes.now }
-    ensures within { length result.now ≤ most }
-{
-    if bytes.len() <= most {
-        bytes
-    } else {
-        &bytes[..most]
-    }
 }
 
 /// Adds bytes.

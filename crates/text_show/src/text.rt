@@ -6,8 +6,8 @@ ghost use Rattle.text_show.specs.Columns.{blanks, zeros};
 ghost use Rattle.text_show.specs.Printf.{filled};
 
 use crate::format::Style;
-use crate::page::prefix;
 use arrayvec::ArrayVec;
+use wind_base::first_bytes;
 use wind_base::limits::PRINTF_BYTES;
 
 /// The text of one `printf`.
@@ -29,7 +29,7 @@ pub(crate) fn add(text: &mut Text, piece: &[u8])
     ensures { text.new.items ≡ take longest_print (text.old.items ++ piece.now) }
 {
     let room = TEXT_ROOM - text.len();
-    push_all(text, prefix(piece, room));
+    push_all(text, first_bytes(piece, room));
 }
 
 // Adds a byte `times` times.

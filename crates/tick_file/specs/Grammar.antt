@@ -4,6 +4,8 @@ use Rattle.std.specs.List.{list_all, position_or_len, prefix_len}
 use Rattle.std.specs.Str.{bytes_eq}
 use Rattle.wind_base.specs.Decimal.{decimal_value}
 use Rattle.wind_base.specs.Limits.{greatest_word, longest_chunk, most_slots}
+use Rattle.text_lines.specs.Words.{is_blank as parts_words}
+use Rattle.text_lines.specs.declared.words.Blanks.TheVariants.{SpacesAndTabs}
 use Rattle.tick_file.specs.declared.event.Event.TheVariants.{Tick, Rx, Irq}
 use Rattle.tick_file.specs.declared.event.Rule.{Rule}
 use Rattle.tick_file.specs.declared.event.Rule.TheVariants.{At, Every}
@@ -12,7 +14,7 @@ use Rattle.tick_file.specs.declared.event.Said.TheVariants.{Nothing, Says, Outsi
 
 -- a byte that separates words: a blank or a tab
 abbrev pub is_blank : ℕ → Bool
-is_blank b = b == 32 || b == 9
+is_blank b = parts_words SpacesAndTabs b
 
 -- the length of the first word, and how many blanks and tabs the text begins with
 abbrev pub word_length : List ℕ → ℕ

@@ -1,12 +1,16 @@
 //! One line of a tick file.
 
-ghost use Rattle.std.specs.Prelude.{◌≡◌, ◌≤◌, length};
+ghost use Rattle.std.specs.Prelude.{◌≡◌};
 ghost use Rattle.std.specs.List.{list_all};
-ghost use Rattle.tick_file.specs.Grammar.{is_blank as is_blank_lem, word_length, gap_length, first_word as first_word_lem, after_word as after_word_lem, word_number, tick_rule as tick_rule_lem, rx_rule as rx_rule_lem, every_rule as every_rule_lem, irq_rule as irq_rule_lem, irqs_rule as irqs_rule_lem, rule_of as rule_of_lem, is_comment as is_comment_lem, said as said_lem};
+ghost use Rattle.tick_file.specs.Grammar.{is_blank as is_blank_lem, first_word, after_word, word_number, tick_rule as tick_rule_lem, rx_rule as rx_rule_lem, every_rule as every_rule_lem, irq_rule as irq_rule_lem, irqs_rule as irqs_rule_lem, rule_of as rule_of_lem, is_comment as is_comment_lem, said as said_lem};
 
 use crate::event::{Event, Rule, Said};
+use text_lines::Blanks;
+use wind_base::decimal;
 use wind_base::limits::SLOTS;
-use wind_base::{bytes_after, decimal};
+
+// What parts the words of a line.
+const BLANKS: Blanks = Blanks::SpacesAndTabs;
 
 // The largest number of a tick file.
 const MOST: u64 = 4_294_967_295;
@@ -17,44 +21,6 @@ const BYTES_MOST: u64 = 4_096;
 // The most digits of a number.
 const DIGITS: usize = 10;
 
-// Whether a byte separates words: a blank or a tab.
-fn is_blank(byte: u8) -> bool
-    ensures { result ≡ is_blank_lem byte }
-{
-    byte == b' ' || byte == b'\t'
-}
-
-// The length in bytes of the first word.
-fn word_len(text: &[u8]) -> usize
-    ensures exact { result ≡ word_length text.now }
-    ensures inside { result ≤ length text.now }
-{
-    text.iter().take_while(|byte| !is_blank(**byte)).count()
-}
-
-// How many blanks and tabs the text begins with.
-fn gap_len(text: &[u8]) -> usize
-    ensures exact { result ≡ gap_length text.now }
-    ensures inside { result ≤ length text.now }
-{
-    text.iter().take_while(|byte| is_blank(**byte)).count()
-}
-
-// The first word.
-fn first_word(text: &[u8]) -> &[u8]
-    ensures { result.now ≡ first_word_lem text.now }
-{
-    &text[..word_len(text)]
-}
-
-// What comes after the first word and the blanks after it.
-fn after_word(text: &[u8]) -> &[u8]
-    ensures { result.now ≡ after_word_lem text.now }
-{
-    let rest = bytes_after(text, word_len(text));
-    bytes_after(rest, gap_len(rest))
-}
-
 // The number that a text spells.
 fn number(text: &[u8]) -> Option<u64>
     ensures { result ≡ word_number text.now }
@@ -63,6 +29,20 @@ fn number(text: &[u8]) -> Option<u64>
         return None;
     }
     decimal(text, MOST)
+}
+
+// The number that the first word spells.
+fn first_number(text: &[u8]) -> Option<u64>
+    ensures { result ≡ word_number (first_word text.now) }
+{
+    number(BLANKS.first_word(text))
+}
+
+// The number that all after the first word and its blanks spells.
+fn number_after(text: &[u8]) -> Option<u64>
+    ensures { result ≡ word_number (after_word text.now) }
+{
+    number(BLANKS.after_word(text))
 }
 
 // The rule of what comes after `tick`.
@@ -77,8 +57,8 @@ fn tick_rule(text: &[u8]) -> Option<Rule>
 fn rx_rule(text: &[u8]) -> Option<Rule>
     ensures { result ≡ rx_rule_lem text.now }
 {
-    let time = number(first_word(text))?;
-    let bytes = number(after_word(text))?;
+    let time = first_number(text)?;
+    let bytes = number_after(text)?;
     if bytes < 1 || bytes > BYTES_MOST {
         return None;
     }
@@ -89,8 +69,8 @@ fn rx_rule(text: &[u8]) -> Option<Rule>
 fn every_rule(text: &[u8]) -> Option<Rule>
     ensures { result ≡ every_rule_lem text.now }
 {
-    let period = number(first_word(text))?;
-    let count = number(after_word(text))?;
+    let period = first_number(text)?;
+    let count = number_after(text)?;
     if period < 1 || count < 1 {
         return None;
     }
@@ -101,8 +81,8 @@ fn every_rule(text: &[u8]) -> Option<Rule>
 fn irq_rule(text: &[u8]) -> Option<Rule>
     ensures { result ≡ irq_rule_lem text.now }
 {
-    let time = number(first_word(text))?;
-    let slot = number(after_word(text))?;
+    let time = first_number(text)?;
+    let slot = number_after(text)?;
     if slot >= SLOTS as u64 {
         return None;
     }
@@ -113,10 +93,10 @@ fn irq_rule(text: &[u8]) -> Option<Rule>
 fn irqs_rule(text: &[u8]) -> Option<Rule>
     ensures { result ≡ irqs_rule_lem text.now }
 {
-    let rest = after_word(text);
-    let period = number(first_word(text))?;
-    let count = number(first_word(rest))?;
-    let slot = number(after_word(rest))?;
+    let rest = BLANKS.after_word(text);
+    let period = first_number(text)?;
+    let count = first_number(rest)?;
+    let slot = number_after(rest)?;
     if period < 1 || count < 1 || slot >= SLOTS as u64 {
         return None;
     }
@@ -127,8 +107,8 @@ fn irqs_rule(text: &[u8]) -> Option<Rule>
 fn rule_of(line: &[u8]) -> Option<Rule>
     ensures { result ≡ rule_of_lem line.now }
 {
-    let word = first_word(line);
-    let rest = after_word(line);
+    let word = BLANKS.first_word(line);
+    let rest = BLANKS.after_word(line);
     if word == b"tick".as_slice() {
         return tick_rule(rest);
     }
@@ -151,7 +131,7 @@ fn rule_of(line: &[u8]) -> Option<Rule>
 fn is_empty(line: &[u8]) -> bool
     ensures { result ≡ list_all is_blank_lem line.now }
 {
-    line.iter().all(|byte| is_blank(*byte))
+    line.iter().all(|byte| BLANKS.contains(*byte))
 }
 
 // Whether a line begins with `#`.

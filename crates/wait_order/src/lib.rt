@@ -5,8 +5,6 @@ mod fronts;
 mod laws;
 mod order;
 mod runs;
-#[cfg(test)]
-mod tests;
 mod waits;
 
 pub use laws::{first_law, put_law, take_law};

@@ -1,91 +1,37 @@
 -- Each gate is at the place of its number.
-use Rattle.std.proofs.Common.{◌≡◌, ℕ, zero, suc, ◌+◌, ◌-◌, ◌*◌, ◌/◌, ◌%◌, ◌≤◌, List, [], ◌∷◌, Some, None, Bool, true, false, ◌&&◌, cond, leb, eqb, refl, ap, ◌∙◌, arith}
+use Rattle.std.proofs.Common.{◌≡◌, ℕ, zero, suc, ◌+◌, ◌-◌, ◌*◌, ◌/◌, ◌%◌, ◌<◌, ◌≤◌, List, [], ◌∷◌, length, Some, None, Bool, true, false, ◌&&◌, cond, leb, eqb, refl, ap, ◌∙◌, arith}
 use Rattle.std.proofs.lemmas.Bool.Decides.{nat_tests}
 use Rattle.std.specs.Prelude.{slice_get, ◌==◌}
+use Rattle.std.specs.List.{list_all}
 use Rattle.wind_base.specs.Gates.{gates, gate_of, gate_number, gate_at, gate_address}
 use Rattle.wind_base.specs.Laws.{GatesLaw}
 use Rattle.wind_base.specs.declared.gate.Gate.{Gate}
-use Rattle.wind_base.specs.declared.gate.Gate.TheVariants as variants
+use Rattle.wind_base.specs.contracts.gate.Gate.{the_type}
+use Rattle.wind_base.proofs.Variants.{ascend, are_variants, is_found, each_found}
 
--- these gates have the numbers from k on
-ascend : ℕ → List Gate → Bool
-ascend k [] = true
-ascend k (g ∷ gs) = (gate_number g == k) && ascend (suc k) gs
-
-all_ascend : ascend 0 gates ≡ true
-unfolding ascend gates
+all_ascend : ascend gate_number 0 gates ≡ true
+unfolding gates
 all_ascend = refl
 
-at_place : (k : ℕ) (gs : List Gate) (n : ℕ) (g : Gate) → ascend k gs ≡ true → slice_get gs n ≡ Some g → gate_number g ≡ k + n
-unfolding ascend
+at_place : (k : ℕ) (gs : List Gate) (n : ℕ) (g : Gate) → ascend gate_number k gs ≡ true → slice_get gs n ≡ Some g → gate_number g ≡ k + n
 at_place k [] n g all e = cc
 at_place k (x ∷ xs) zero g all e = grind (arith, nat_tests)
-at_place k (x ∷ xs) (suc n) g all e = at_place (suc k) xs n g (rest (gate_number x == k) (ascend (suc k) xs) all) e ∙ omega arith
+at_place k (x ∷ xs) (suc n) g all e = at_place (suc k) xs n g (rest (gate_number x == k) (ascend gate_number (suc k) xs) all) e ∙ omega arith
   where
     rest : (a b : Bool) → (a && b) ≡ true → b ≡ true
     rest true b h = h
     rest false b h = cc
 
+pub all_gates : are_variants the_type tt gates ≡ true
+unfolding gates
+all_gates = refl
+
+all_placed : list_all (λ g. is_found the_type tt g (gate_of (gate_number g))) gates ≡ true
+unfolding gates gate_of
+all_placed = refl
+
 own_place : (g : Gate) → gate_of (gate_number g) ≡ Some g
-unfolding gate_of gates
-own_place variants.TaskReturn = refl
-own_place variants.ShellReturn = refl
-own_place variants.InterruptReturn = refl
-own_place variants.TaskSpawn = refl
-own_place variants.Sp = refl
-own_place variants.TaskDelete = refl
-own_place variants.TaskSuspend = refl
-own_place variants.TaskResume = refl
-own_place variants.TaskPrioritySet = refl
-own_place variants.TaskPriorityGet = refl
-own_place variants.TaskDelay = refl
-own_place variants.TaskLock = refl
-own_place variants.TaskUnlock = refl
-own_place variants.TaskSafe = refl
-own_place variants.TaskUnsafe = refl
-own_place variants.TaskIdSelf = refl
-own_place variants.TaskIdVerify = refl
-own_place variants.TaskNameToId = refl
-own_place variants.KernelTimeSlice = refl
-own_place variants.TickGet = refl
-own_place variants.SemBCreate = refl
-own_place variants.SemCCreate = refl
-own_place variants.SemMCreate = refl
-own_place variants.SemTake = refl
-own_place variants.SemGive = refl
-own_place variants.SemFlush = refl
-own_place variants.SemDelete = refl
-own_place variants.MsgQCreate = refl
-own_place variants.MsgQSend = refl
-own_place variants.MsgQReceive = refl
-own_place variants.MsgQDelete = refl
-own_place variants.MsgQNumMsgs = refl
-own_place variants.WdCreate = refl
-own_place variants.WdStart = refl
-own_place variants.WdCancel = refl
-own_place variants.WdDelete = refl
-own_place variants.IntLock = refl
-own_place variants.IntUnlock = refl
-own_place variants.IntContext = refl
-own_place variants.Malloc = refl
-own_place variants.Free = refl
-own_place variants.Memalign = refl
-own_place variants.SymAdd = refl
-own_place variants.Printf = refl
-own_place variants.ErrnoGet = refl
-own_place variants.ErrnoSet = refl
-own_place variants.Ld = refl
-own_place variants.Unld = refl
-own_place variants.I = refl
-own_place variants.Lkup = refl
-own_place variants.ModuleShow = refl
-own_place variants.D = refl
-own_place variants.IntConnect = refl
-own_place variants.IntDisconnect = refl
-own_place variants.IntEnable = refl
-own_place variants.IntDisable = refl
-own_place variants.IntPending = refl
-own_place variants.DevRemove = refl
+own_place = each_found the_type tt (λ g. gate_of (gate_number g)) gates all_gates all_placed
 
 pub only_place : (n : ℕ) (g : Gate) → gate_of n ≡ Some g → gate_number g ≡ n
 unfolding gate_of

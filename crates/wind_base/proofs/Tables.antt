@@ -1,16 +1,18 @@
 -- No name and no number occurs twice in the tables of gates and errors.
-use Rattle.std.proofs.Common.{◌≡◌, ℕ, ◌-◌, ◌≤◌, List, [], ◌∷◌, Option, Some, None, Bool, false, ◌&&◌, refl, sym, ap, ◌∙◌, subst}
+use Rattle.std.proofs.Common.{◌≡◌, ℕ, ◌-◌, ◌<◌, ◌≤◌, List, [], ◌∷◌, length, Option, Some, None, Bool, true, false, ◌&&◌, refl, sym, ap, ◌∙◌, subst}
 use Rattle.std.proofs.lemmas.Bool.{false≢true}
 use Rattle.std.specs.Prelude.{bytes_eq, ◌==◌, ⊤, option_and_then}
-use Rattle.std.specs.List.{find}
+use Rattle.std.specs.List.{find, list_all}
 use Rattle.wind_base.specs.Gates.{gates, gate_of, gate_name, gate_number, rules_of}
 use Rattle.wind_base.specs.declared.gate.Gate.{Gate}
-use Rattle.wind_base.specs.declared.gate.Gate.TheVariants as variants
-use Rattle.wind_base.proofs.Gating.{only_place}
+use Rattle.wind_base.proofs.Gating.{only_place, all_gates}
+use Rattle.wind_base.proofs.Variants.{are_variants, true_of_each, is_found, found_is, each_found}
 use Rattle.wind_base.specs.Errno.{errno_number}
 use Rattle.wind_base.specs.Laws.{NamesLaw, NumbersLaw}
 use Rattle.wind_base.specs.declared.errno.Errno.{Errno}
 use Rattle.wind_base.specs.declared.errno.Errno.TheVariants as errors
+use Rattle.wind_base.specs.contracts.errno.Errno.{the_type as error_type}
+use Rattle.wind_base.specs.contracts.gate.Gate.{the_type as gate_type}
 
 -- a call has a name
 is_named : List ℕ → Option (List ℕ) → Bool
@@ -26,66 +28,21 @@ Found : Gate → Option (List ℕ) → Type 0
 Found g None = ⊤
 Found g (Some name) = gate_named name ≡ Some g
 
+is_named_found : Gate → Option (List ℕ) → Bool
+is_named_found g None = true
+is_named_found g (Some name) = is_found gate_type tt g (gate_named name)
+
+all_named : list_all (λ g. is_named_found g (rules_of g).name) gates ≡ true
+unfolding gates gate_named is_named is_named_found
+all_named = refl
+
+named_found : (g : Gate) (name : Option (List ℕ)) → is_named_found g name ≡ true → Found g name
+unfolding Found is_named_found
+named_found g None h = tt
+named_found g (Some name) h = found_is gate_type tt g (gate_named name) h
+
 found : (g : Gate) → Found g (rules_of g).name
-unfolding gate_named is_named gates Found
-found variants.TaskReturn = tt
-found variants.ShellReturn = tt
-found variants.InterruptReturn = tt
-found variants.TaskSpawn = refl
-found variants.Sp = refl
-found variants.TaskDelete = refl
-found variants.TaskSuspend = refl
-found variants.TaskResume = refl
-found variants.TaskPrioritySet = refl
-found variants.TaskPriorityGet = refl
-found variants.TaskDelay = refl
-found variants.TaskLock = refl
-found variants.TaskUnlock = refl
-found variants.TaskSafe = refl
-found variants.TaskUnsafe = refl
-found variants.TaskIdSelf = refl
-found variants.TaskIdVerify = refl
-found variants.TaskNameToId = refl
-found variants.KernelTimeSlice = refl
-found variants.TickGet = refl
-found variants.SemBCreate = refl
-found variants.SemCCreate = refl
-found variants.SemMCreate = refl
-found variants.SemTake = refl
-found variants.SemGive = refl
-found variants.SemFlush = refl
-found variants.SemDelete = refl
-found variants.MsgQCreate = refl
-found variants.MsgQSend = refl
-found variants.MsgQReceive = refl
-found variants.MsgQDelete = refl
-found variants.MsgQNumMsgs = refl
-found variants.WdCreate = refl
-found variants.WdStart = refl
-found variants.WdCancel = refl
-found variants.WdDelete = refl
-found variants.IntLock = refl
-found variants.IntUnlock = refl
-found variants.IntContext = refl
-found variants.Malloc = refl
-found variants.Free = refl
-found variants.Memalign = refl
-found variants.SymAdd = refl
-found variants.Printf = refl
-found variants.ErrnoGet = refl
-found variants.ErrnoSet = refl
-found variants.Ld = refl
-found variants.Unld = refl
-found variants.I = refl
-found variants.Lkup = refl
-found variants.ModuleShow = refl
-found variants.D = refl
-found variants.IntConnect = refl
-found variants.IntDisconnect = refl
-found variants.IntEnable = refl
-found variants.IntDisable = refl
-found variants.IntPending = refl
-found variants.DevRemove = refl
+found g = named_found g (rules_of g).name (true_of_each gate_type tt (λ x. is_named_found x (rules_of x).name) gates all_gates all_named g)
 
 entry : {A : Type 0} (a b : A) → Some a ≡ Some b → a ≡ b
 entry a b e = cc
@@ -115,34 +72,16 @@ all_errors = errors.ObjIdError ∷ errors.ObjUnavailable ∷ errors.ObjDeleted �
 error_of : ℕ → Option Errno
 error_of n = find (λ e. errno_number e == n) all_errors
 
+each_error : are_variants error_type tt all_errors ≡ true
+unfolding all_errors
+each_error = refl
+
+all_errors_found : list_all (λ e. is_found error_type tt e (error_of (errno_number e))) all_errors ≡ true
+unfolding all_errors error_of
+all_errors_found = refl
+
 error_found : (e : Errno) → error_of (errno_number e) ≡ Some e
-unfolding error_of all_errors
-error_found errors.ObjIdError = refl
-error_found errors.ObjUnavailable = refl
-error_found errors.ObjDeleted = refl
-error_found errors.ObjTimeout = refl
-error_found errors.NotEnoughMemory = refl
-error_found errors.NotABlock = refl
-error_found errors.BadAlign = refl
-error_found errors.BadAddress = refl
-error_found errors.IllegalPriority = refl
-error_found errors.NotSafe = refl
-error_found errors.TooMany = refl
-error_found errors.IdsSpent = refl
-error_found errors.TaskNotFound = refl
-error_found errors.InvalidState = refl
-error_found errors.InvalidOption = refl
-error_found errors.InvalidOperation = refl
-error_found errors.CountOver = refl
-error_found errors.InvalidMsgLength = refl
-error_found errors.NonZeroTimeout = refl
-error_found errors.BadSize = refl
-error_found errors.NotIsrCallable = refl
-error_found errors.NotShell = refl
-error_found errors.SymbolsFull = refl
-error_found errors.BadKind = refl
-error_found errors.LoadFailed = refl
-error_found errors.NoSuchModule = refl
+error_found = each_found error_type tt (λ e. error_of (errno_number e)) all_errors each_error all_errors_found
 
 pub numbers_apart : NumbersLaw
 numbers_apart e f same = entry e f (sym (error_found e) ∙ ap error_of same ∙ error_found f)

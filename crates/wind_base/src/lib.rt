@@ -26,7 +26,7 @@ pub use errno::Errno;
 pub use gate::Gate;
 pub use gate_rules::{Callers, GateRules, gate_name};
 pub use laws::tables_law;
-pub use line::{bytes_after, line_len};
+pub use line::{bytes_after, first_bytes, line_len};
 pub use name::{Name, NameErr, ShortName};
 pub use number::decimal;
 pub use out_buf::OutBuf;

@@ -1,6 +1,6 @@
 //! Lines of bytes.
 
-ghost use Rattle.std.specs.Prelude.{◌≡◌, ◌≤◌, ◌+◌, length, drop};
+ghost use Rattle.std.specs.Prelude.{◌≡◌, ◌≤◌, ◌+◌, length, take, drop};
 ghost use Rattle.wind_base.specs.Lines.{line_length};
 
 /// The number of bytes before the first 0x0A, or the length of `bytes` if there is no 0x0A.
@@ -9,6 +9,18 @@ pub fn line_len(bytes: &[u8]) -> usize
     ensures inside { result ≤ length bytes.now }
 {
     bytes.iter().take_while(|byte| **byte != b'\n').count()
+}
+
+/// The first `most` bytes, or all of them if there are fewer.
+pub fn first_bytes(bytes: &[u8], most: usize) -> &[u8]
+    ensures value { result.now ≡ take most bytes.now }
+    ensures within { length result.now ≤ most }
+{
+    if bytes.len() <= most {
+        bytes
+    } else {
+        &bytes[..most]
+    }
 }
 
 /// The bytes after the first `n`. `bytes` has at least `n` of them.

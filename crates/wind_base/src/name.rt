@@ -4,8 +4,8 @@ ghost use Rattle.std.specs.Prelude.{◌≡◌, ◌<◌, ◌≤◌, ◌↔◌, Er
 ghost use Rattle.wind_base.specs.Limits.{longest_name, longest_short_name};
 ghost use Rattle.wind_base.specs.declared.name.NameErr.TheVariants as errors;
 
-use crate::NoMemory;
 use crate::limits::{NAME_BYTES, SHORT_NAME_BYTES};
+use crate::{NoMemory, first_bytes};
 use arrayvec::ArrayVec;
 use std::alloc::Global;
 use std::marker::Model;
@@ -26,18 +26,6 @@ impl Model for ShortName {
     ghost view = { λ n. n.kept.items };
 
     ghost invariant = { λ n. length n.kept.items ≤ longest_short_name };
-}
-
-// The first `most` bytes, or all of them if there are fewer.
-fn first_bytes(bytes: &[u8], most: usize) -> &[u8]
-    ensures value { result.now ≡ take most bytes.now }
-    ensures within { length result.now ≤ most }
-{
-    if bytes.len() <= most {
-        bytes
-    } else {
-        &bytes[..most]
-    }
 }
 
 // A copy of bytes that fit.

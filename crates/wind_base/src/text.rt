@@ -18,13 +18,15 @@ pub fn add(out: &mut OutBuf, piece: &[u8])
     let _ = out.put(piece);
 }
 
-// The hexadecimal digit of a number below 16.
-fn glyph(digit: u32) -> u8
+/// The hexadecimal digit of a number below 16.
+pub fn glyph(upper: bool, digit: u32) -> u8
     requires { digit < 16 }
-    ensures { result ≡ digit_glyph false digit }
+    ensures { result ≡ digit_glyph upper digit }
 {
     if digit < 10 {
         b'0' + digit as u8
+    } else if upper {
+        b'A' + (digit - 10) as u8
     } else {
         b'a' + (digit - 10) as u8
     }
@@ -38,10 +40,10 @@ fn add_digits(out: &mut OutBuf, n: u32, places: u32)
     ensures { Added places out.old out.new (hex_within places n) }
 {
     if n < 16 {
-        add(out, &[glyph(n)]);
+        add(out, &[glyph(false, n)]);
     } else {
         add_digits(out, n / 16, places - 1);
-        add(out, &[glyph(n % 16)]);
+        add(out, &[glyph(false, n % 16)]);
     }
 }
 

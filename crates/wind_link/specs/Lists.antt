@@ -5,6 +5,8 @@ use Rattle.std.specs.Str.Lossy.{utf8_valid_len}
 use Rattle.std.specs.Str.Parse.{digits_value}
 use Prim.Native.Char.{code}
 use Rattle.text_lines.specs.Lines.{onto_first}
+use Rattle.text_lines.specs.Words.{is_blank as parts_words}
+use Rattle.text_lines.specs.declared.words.Blanks.TheVariants.{Spaces}
 use Rattle.module_image.specs.declared.segments.Places.{Places}
 use Rattle.module_image.specs.Exports.{no_symbols}
 
@@ -17,7 +19,7 @@ lines_of (b ∷ bs) = if b == 10 then [] ∷ lines_of bs else onto_first b (line
 -- ---- words
 -- words are parted by blanks
 abbrev pub is_blank : ℕ → Bool
-is_blank b = b == 32
+is_blank b = parts_words Spaces b
 
 -- the first word, and what comes after it and the blanks after it
 abbrev pub first_word : List ℕ → List ℕ

@@ -92,6 +92,7 @@ fn link_text<F: Folder, O: Sink>(
     }
 }
 
+// Links the modules of the list. `path` is the path of the last file that was read.
 fn link_list<F: Folder, O: Sink>(
     alloc: Global,
     list: &str,
@@ -108,29 +109,6 @@ fn link_list<F: Folder, O: Sink>(
         Ok(text) => link_text(alloc, &text, dir, path, folder, out),
         Err(end) => end,
     }
-}
-
-// Links the modules of the list, and writes the message that says how that ended.
-fn link_and_tell<F: Folder, O: Sink, E: Sink>(
-    alloc: Global,
-    list: &str,
-    dir: &str,
-    folder: &mut F,
-    out: &mut O,
-    err: &mut E,
-) -> LinkStatus
-    ensures { LinksList (F.files folder.old) list.now dir.now
-        (record { before = F.faults folder.old; after = F.faults folder.new })
-        (O.bytes out.old) (O.bytes out.new) (Rose (O.faults out.old) (O.faults out.new)) result }
-{
-    let mut path = String::new(alloc);
-    let status = link_list(alloc, list, dir, &mut path, folder, out);
-    let paths = Paths {
-        list,
-        module: path.as_str(),
-    };
-    tell(err, paths, status);
-    status
 }
 
 /// Links the modules that a list names into one image, and writes it to `out`. The arguments are the
@@ -150,7 +128,16 @@ pub fn windlink<F: Folder, O: Sink, E: Sink>(
     ensures untouched { result ≡ ends.Usage → O.bytes out.new ≡ O.bytes out.old }
 {
     match words {
-        [_, list, dir] => link_and_tell(alloc, list, dir, folder, out, err),
+        [_, list, dir] => {
+            let mut path = String::new(alloc);
+            let status = link_list(alloc, list, dir, &mut path, folder, out);
+            let paths = Paths {
+                list,
+                module: path.as_str(),
+            };
+            tell(err, paths, status);
+            status
+        }
         _ => {
             tell_usage(err);
             LinkStatus::Usage

@@ -1,17 +1,17 @@
 //! Reads a list.
 
 ghost use Rattle.std.specs.Prelude.{◌≡◌, ◌<◌, ◌≤◌, ◌^◌, length, map, option_map, Ok, Err, IfOk, IfErr, true};
-ghost use Rattle.std.specs.List.{list_all, position_or_len, prefix_len};
+ghost use Rattle.std.specs.List.{list_all};
 ghost use Rattle.std.specs.Char.{digit_value};
 ghost use Rattle.std.specs.Str.Parse.{digits_value};
-ghost use Rattle.wind_link.specs.Lists.{is_blank as is_blank_lem, first_word as first_word_lem, after_word as after_word_lem, is_name, mode_of, is_hex as is_hex_lem, address_of, places_said, most_lines, row_of, rows_of};
+ghost use Rattle.wind_link.specs.Lists.{first_word as first_word_lem, after_word as after_word_lem, is_name, mode_of, is_hex as is_hex_lem, address_of, places_said, most_lines, row_of, rows_of};
 ghost use Rattle.wind_link.specs.Rows.{row as row_lem, name_of, first_line as first_line_lem, TellsLine};
 
 use module_image::Places;
 use std::alloc::Global;
 use std::str;
-use text_lines::after_line;
-use wind_base::{bytes_after, line_len};
+use text_lines::{Blanks, after_line};
+use wind_base::line_len;
 
 /// The most lines of a list.
 const LINES: usize = 256;
@@ -42,41 +42,18 @@ pub(crate) enum ListErr {
     NoMemory,
 }
 
-fn is_blank(byte: u8) -> bool
-    ensures { result ≡ is_blank_lem byte }
-{
-    byte == b' '
-}
-
-// The length of the first word, in bytes.
-fn word_len(text: &[u8]) -> usize
-    ensures exact { result ≡ position_or_len is_blank_lem text.now }
-    ensures inside { result ≤ length text.now }
-{
-    text.iter().take_while(|byte| !is_blank(**byte)).count()
-}
-
-// The number of blanks at the beginning.
-fn blank_len(text: &[u8]) -> usize
-    ensures exact { result ≡ prefix_len is_blank_lem text.now }
-    ensures inside { result ≤ length text.now }
-{
-    text.iter().take_while(|byte| is_blank(**byte)).count()
-}
-
 // The first word.
 fn first_word(text: &[u8]) -> &[u8]
     ensures { result.now ≡ first_word_lem text.now }
 {
-    &text[..word_len(text)]
+    Blanks::Spaces.first_word(text)
 }
 
 // What comes after the first word and the blanks after it.
 fn after_word(text: &[u8]) -> &[u8]
     ensures { result.now ≡ after_word_lem text.now }
 {
-    let rest = bytes_after(text, word_len(text));
-    bytes_after(rest, blank_len(rest))
+    Blanks::Spaces.after_word(text)
 }
 
 // The name that a word is.

@@ -102,28 +102,14 @@ keeps_then w v u who n t a = record {
 pub nowhere : (w : WorldState) (who : Actor) (n : ℕ) → IsWorld w → Within n w → KeepsWorld w w who n
 nowhere w who n kept within = keeps_by w w who n 0 0 (omega arith) (omega arith) (stays w kept n within)
 
-pub more_counts : (w v : WorldState) (who : Actor) (n : ℕ) → KeepsWorld w v who n → KeepsWorld w v who (n + 1)
-more_counts w v who n t = record {
-  kept = t.kept;
-  shell = t.shell;
-  gone = t.gone;
-  within = within_more v n (n + 1) (omega arith) t.within;
-  reserves = t.reserves;
-  sinces = t.sinces;
-  count = t.count;
-  names = t.names;
-  starts = t.starts;
-  choice = t.choice;
-}
-
 module _ (w v : WorldState) (a : Actor) (n : ℕ) (t : KeepsWorld w v a n) where
-  -- RAM, devices and the output change, and RAM keeps its size
-  pub touched : (ram : List ℕ) (slots : List (Option DeviceState)) (output : List ℕ) → length ram ≡ length v.ram → KeepsWorld w (record v { ram = ram; slots = slots; output = output }) a n
-  touched ram slots output same = record {
+  -- RAM, devices and the output change, RAM keeps its size, and counts may become larger
+  changed : (m : ℕ) (ram : List ℕ) (slots : List (Option DeviceState)) (output : List ℕ) → n ≤ m → length ram ≡ length v.ram → KeepsWorld w (record v { ram = ram; slots = slots; output = output }) a m
+  changed m ram slots output more same = record {
     kept = record { kern = t.kept.kern; home = t.kept.home; kind = t.kept.kind; objects = t.kept.objects; pool = t.kept.pool; stacks = t.kept.stacks; modules = t.kept.modules; ram = same ∙ t.kept.ram; symbols = t.kept.symbols; watch = t.kept.watch; ids = t.kept.ids };
     shell = t.shell;
     gone = t.gone;
-    within = t.within;
+    within = within_more v n m more t.within;
     reserves = t.reserves;
     sinces = t.sinces;
     count = t.count;
@@ -131,6 +117,12 @@ module _ (w v : WorldState) (a : Actor) (n : ℕ) (t : KeepsWorld w v a n) where
     starts = t.starts;
     choice = t.choice;
   }
+
+  pub more_counts : KeepsWorld w v a (n + 1)
+  more_counts = changed (n + 1) v.ram v.slots v.output (omega arith) refl
+
+  pub touched : (ram : List ℕ) (slots : List (Option DeviceState)) (output : List ℕ) → length ram ≡ length v.ram → KeepsWorld w (record v { ram = ram; slots = slots; output = output }) a n
+  touched ram slots output same = changed n ram slots output (omega arith) same
 
   pub wrote : (output : List ℕ) → KeepsWorld w (record v { output = output }) a n
   wrote output = touched v.ram v.slots output refl

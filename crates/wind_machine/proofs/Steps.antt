@@ -16,6 +16,7 @@ use Rattle.con_line.specs.State.{ConsoleState}
 use Rattle.con_line.specs.Lines.{KeepsLines, has_line, first_line, line_dropped}
 use Rattle.con_line.proofs.Kept.{drop_keeps}
 use Rattle.kernel_world.specs.Actors.{shell_id}
+use Rattle.kernel_world.specs.declared.actor.Actor.{Actor}
 use Rattle.kernel_world.specs.declared.actor.Actor.TheVariants.{Task as by_task, Interrupt}
 use Rattle.isr_watch.specs.declared.watchdog.Watchdog.{Watchdog}
 use Rattle.isr_watch.specs.State.{watchdog_id, is_due}
@@ -26,7 +27,7 @@ use Rattle.dev_irq.specs.State.{routines_of}
 use Rattle.dev_irq.specs.Calls.{delivered}
 use Rattle.isr_watch.proofs.Ids.{ids_stay}
 use Rattle.isr_watch.proofs.Keeping.{watch_stays}
-use Rattle.kernel_world.specs.Kept.{routine_stack, AreStacks, KeepsWatch, IsWorld, ReservedBy, Within}
+use Rattle.kernel_world.specs.Kept.{routine_stack, AreStacks, KeepsWatch, ReservedBy, Within}
 use Rattle.kernel_world.specs.Objects.{IsReady}
 use Rattle.kernel_world.specs.State.{WorldState}
 use Rattle.kernel_world.proofs.Goes.{goes_nowhere}
@@ -41,12 +42,13 @@ use Rattle.live_loading.specs.Laws.{LoadLaw}
 use Rattle.wind_machine.specs.State.{State}
 use Rattle.wind_machine.specs.Good.{Keeps, bare, settle_sinces, KeepsEffect, Good}
 use Rattle.wind_machine.specs.Feed.{chunk, after_chunk, brought}
-use Rattle.wind_machine.specs.Part.{Part, part_of}
+use Rattle.wind_machine.specs.Part.{Part, part_of, with_kern}
 use Rattle.wind_machine.specs.Shell.{prompt_part, read_part, shell_read, eval_part}
 use Rattle.wind_machine.specs.Processor.{without_own, actor_part}
+use Rattle.wind_machine.specs.Reserving.{drop_others}
 use Rattle.wind_machine.specs.Routine.{interrupt_top, routine_return, with_return}
 use Rattle.wind_machine.specs.Events.{Heard, heard_by, arrived, arrival, ticked, received, lines_raised, event_comes, event_step, delivered_world, delivery_step, unreserved_world, without_next, jump, cleared, next_event}
-use Rattle.wind_machine.specs.ActorSteps.{at_step_start, shell_world, stepped, prompt_step, read_step, eval_step, task_step, shell_step, step_of, routine_step}
+use Rattle.wind_machine.specs.ActorSteps.{after_part, at_step_start, shell_world, stepped, prompt_step, read_step, eval_step, task_step, shell_step, step_of, routine_step}
 use Rattle.wind_machine.specs.Next.{is_active, next}
 use Rattle.std.specs.Option.{option_map}
 use Rattle.inheritance.specs.Mutexes.{both as with_mutexes}
@@ -63,6 +65,7 @@ use Rattle.wind_machine.proofs.Moves.{lent-tick, next-tick, last-tick, stacks-ti
 use Rattle.wind_machine.proofs.Free.{runner_ready, step_start_ready}
 use Rattle.wind_machine.proofs.Hearing.{heard_keeps, chunk_short}
 use Rattle.wind_machine.proofs.Order.{by_next}
+use Rattle.wind_machine.proofs.PartLaws.{MayReserve}
 use Rattle.wind_machine.proofs.Parts.{PartKeeps, prompt_keeps_world, read_keeps_world, eval_keeps, load_keeps, actor_keeps}
 
 -- from a good state
@@ -71,43 +74,52 @@ module _ (s : State) (g : Keeps 0 (bare s)) where
   more_counts = within_more s.world s.steps (s.steps + 1) (omega arith) g.within
 
   -- ---- a task makes a step
-  -- the world at the beginning of the step
-  pub step_start_advances : (who : ℕ) → Advances s.world (at_step_start s.world who) s.steps 0 0
-  step_start_advances who =
-      let a = others_advance s.world s.steps g.world g.within who in
+  -- clearing the output changes nothing that the invariant mentions
+  clear_advances : (w : WorldState) → Advances s.world w s.steps 0 0 → Advances s.world (cleared w) s.steps 0 0
+  clear_advances w a = record {
+    steps = record {
+      kept = record { kern = a.kept.kern; home = a.kept.home; kind = a.kept.kind; objects = a.kept.objects; pool = a.kept.pool; stacks = a.kept.stacks; modules = a.kept.modules; ram = a.kept.ram; symbols = a.kept.symbols; watch = a.kept.watch; ids = a.kept.ids };
+      within = a.within;
+      last = a.last;
+      reserves = a.reserves;
+      sinces = a.sinces;
+      count = a.count;
+      names = a.names;
+      starts = a.starts;
+      choice = a.choice;
+    };
+    lives = a.lives;
+  }
+
+  -- an actor leaves this part, with this console and this task noted as the last one
+  acted_keeps : (console : ConsoleState) (w : WorldState) (who : Actor) (p : Part) (last : Option ℕ) → Advances s.world w s.steps 0 0 → KeepsLines console.edited console.finished
+      → PartKeeps w p who (s.steps + 1) console.finished → MayReserve who last → ReservedBy last w.kern
+      → KeepsEffect (after_part (record s { console = console }) (part_of p.shell (with_kern p.world (record p.world.kern { last = last }))))
+  acted_keeps console w who p last a lines part may reserved =
+      let goes = part.keeps_world in
+      let kept = goes.kept in
       record {
-        steps = record {
-          kept = record { kern = a.kept.kern; home = a.kept.home; kind = a.kept.kind; objects = a.kept.objects; pool = a.kept.pool; stacks = a.kept.stacks; modules = a.kept.modules; ram = a.kept.ram; symbols = a.kept.symbols; watch = a.kept.watch; ids = a.kept.ids };
-          within = a.within;
-          last = a.last;
-          reserves = a.reserves;
-          sinces = a.sinces;
-          count = a.count;
-          names = a.names;
-          starts = a.starts;
-          choice = a.choice;
-        };
-        lives = a.lives;
+        console = lines;
+        read = part.read;
+        world = record { kern = move_keeps p.world.kern (SetLast last) kept.kern tt; home = kept.home; kind = kept.kind; objects = objects-move p.world.kern p.world.objects kept.kern kept.objects (SetLast last) (tt, tt, tt, tt); pool = kept.pool; stacks = kept.stacks; modules = kept.modules; ram = kept.ram; symbols = kept.symbols; watch = kept.watch; ids = kept.ids };
+        shell = goes.shell (a.lives shell_id g.shell);
+        reserved = goes.reserves last may reserved;
+        sinces = omega (arith, goes.sinces, a.sinces, g.sinces);
+        ticks = omega (arith, goes.count, a.count, g.ticks);
+        within = goes.within;
+        names = omega (arith, goes.names, a.names, g.names);
+        starts = omega (arith, goes.starts, a.starts, g.starts);
+        time = omega (arith, g.time);
       }
+
+  -- the world at the beginning of a task's step
+  pub step_start_advances : (who : ℕ) → Advances s.world (at_step_start s.world who) s.steps 0 0
+  step_start_advances who = clear_advances (with_kern s.world (drop_others s.world.kern who)) (others_advance s.world s.steps g.world g.within who)
 
   stepped_keeps : (console : ConsoleState) (who : ℕ) (p : Part) → KeepsLines console.edited console.finished → PartKeeps (at_step_start s.world who) p (by_task who) (s.steps + 1) console.finished
       → KeepsEffect (stepped (record s { console = console }) who p)
   stepped_keeps console who p lines part =
-      let keeps_world = part.keeps_world in
-      let kept = keeps_world.kept in
-      record {
-        console = lines;
-        read = part.read;
-        world = record { kern = move_keeps p.world.kern (SetLast (Some who)) kept.kern tt; home = kept.home; kind = kept.kind; objects = objects-move p.world.kern p.world.objects kept.kern kept.objects (SetLast (Some who)) (tt, tt, tt, tt); pool = kept.pool; stacks = kept.stacks; modules = kept.modules; ram = kept.ram; symbols = kept.symbols; watch = kept.watch; ids = kept.ids };
-        shell = keeps_world.shell ((step_start_advances who).lives shell_id g.shell);
-        reserved = keeps_world.reserves (Some who) refl (others_reserved s.world.kern who);
-        sinces = omega (arith, keeps_world.sinces, g.sinces);
-        ticks = omega (arith, keeps_world.count, g.ticks);
-        within = keeps_world.within;
-        names = omega (arith, keeps_world.names, g.names);
-        starts = omega (arith, keeps_world.starts, g.starts);
-        time = omega (arith, g.time);
-      }
+      acted_keeps console (at_step_start s.world who) (by_task who) p (Some who) (step_start_advances who) lines part refl (others_reserved s.world.kern who)
 
   -- what each of them does
   pub prompts : PartKeeps (shell_world s) (prompt_part (has_line s.console) s.shell (shell_world s)) by_shell (s.steps + 1) s.console.finished
@@ -163,32 +175,18 @@ module _ (s : State) (g : Keeps 0 (bare s)) where
       ] refl
 
   -- ---- an interrupt routine makes a step
+  routine_start_advances : Advances s.world (cleared (unreserved_world s.world)) s.steps 0 0
+  routine_start_advances = clear_advances (unreserved_world s.world) (all_advance s.world s.steps g.world g.within)
+
   pub routine_acts : is_active s.world ≡ true → PartKeeps (cleared (unreserved_world s.world)) (actor_part s.shell (cleared (unreserved_world s.world)) Interrupt) Interrupt (s.steps + 1) s.console.finished
   routine_acts active =
-      let a = all_advance s.world s.steps g.world g.within in
-      let w = cleared (unreserved_world s.world) in
-      let kept : IsWorld w = record { kern = a.kept.kern; home = a.kept.home; kind = a.kept.kind; objects = a.kept.objects; pool = a.kept.pool; stacks = a.kept.stacks; modules = a.kept.modules; ram = a.kept.ram; symbols = a.kept.symbols; watch = a.kept.watch; ids = a.kept.ids } in
-      actor_keeps w s.steps kept a.within s.console.finished s.shell g.read Interrupt active
+      let a = routine_start_advances in
+      actor_keeps (cleared (unreserved_world s.world)) s.steps a.kept a.within s.console.finished s.shell g.read Interrupt active
 
   routine_keeps : is_active s.world ≡ true → KeepsEffect (routine_step s)
   routine_keeps active =
-      let a = all_advance s.world s.steps g.world g.within in
-      let part = routine_acts active in
-      let goes = part.keeps_world in
-      let last = (routine_step s).world.kern.last in
-      record {
-        console = g.console;
-        read = part.read;
-        world = goes.kept;
-        shell = goes.shell (a.lives shell_id g.shell);
-        reserved = goes.reserves last tt (all_reserved s.world.kern last);
-        sinces = omega (arith, goes.sinces, g.sinces);
-        ticks = omega (arith, goes.count, g.ticks);
-        within = goes.within;
-        names = omega (arith, goes.names, g.names);
-        starts = omega (arith, goes.starts, g.starts);
-        time = omega (arith, g.time);
-      }
+      let p = actor_part s.shell (cleared (unreserved_world s.world)) Interrupt in
+      acted_keeps s.console (cleared (unreserved_world s.world)) Interrupt p p.world.kern.last routine_start_advances g.console (routine_acts active) tt (all_reserved s.world.kern p.world.kern.last)
 
   -- ---- bytes arrive
   arrived_keeps : (left bytes : List ℕ) (h : Heard) → length bytes ≤ 4097 → h ≡ heard_by s bytes → KeepsEffect (arrived s left h)

@@ -1,11 +1,35 @@
 -- Steps that need no file and write nothing.
-use Rattle.std.specs.Prelude.{◌≡◌, ℕ, zero, suc, ◌+◌, ◌<◌, ◌≤◌, [], None, IsSome}
+use Rattle.std.specs.Prelude.{◌≡◌, ℕ, zero, suc, ◌+◌, ◌<◌, ◌≤◌, [], None, Option, Some, IsSome, true, if◌then◌else◌}
+use Rattle.std.specs.Option.{option_map}
+use Rattle.kernel_world.specs.State.{WorldState}
+use Rattle.kernel_world.specs.Actors.{is_shell}
+use Rattle.kernel_world.specs.declared.actor.Actor.{Actor}
+use Rattle.kernel_world.specs.declared.actor.Actor.TheVariants.{Task as by_task, Interrupt}
 use Rattle.wind_machine.specs.State.{State}
-use Rattle.wind_machine.specs.Machine.{file_asked, machine_step, Steps}
+use Rattle.wind_machine.specs.Next.{is_active}
+use Rattle.wind_machine.specs.Processor.{gate_under}
+use Rattle.wind_machine.specs.Machine.{file_asked, machine_step, stepping, Steps}
 use Rattle.wind_machine.specs.Run.{Answers, after, text}
+use Rattle.wind_machine.specs.declared.phase.Phase.TheVariants as phases
 
--- one step leads from one state to the next; it needs no file, writes nothing, and takes no event
+-- the active interrupt routine, else the task that made the last step of a task
+abbrev pub last_actor : WorldState → Option Actor
+last_actor w = if is_active w then Some Interrupt else option_map (λ who. by_task who) w.kern.last
+
+-- the next step is an instruction of this task or routine: it is at no gate, and the shell's task is in a call
+pub record IsInstructionOf (who : Actor) (s : State) : Type 0 where
+  pub comes : stepping s ≡ Some who
+  pub in_call : is_shell who ≡ true → s.shell.phase ≡ phases.Call
+  pub no_gate : gate_under s.world who ≡ None
+
+-- one step leads from one state to the next; it needs no file, writes nothing, and takes no event. It is an instruction
+-- of the task or routine that made the last one, and would go on; the task that ran last is the same after it
 pub record IsSilentStep (s t : State) : Type 0 where
+  pub who : Actor
+  pub last : last_actor s.world ≡ Some who
+  pub instruction : IsInstructionOf who s
+  pub goes_on : last_actor t.world ≡ Some who
+  pub last_stays : t.world.kern.last ≡ s.world.kern.last
   pub unasked : file_asked s ≡ None
   pub steps : Steps s t
   pub silent : t.world.output ≡ []

@@ -138,6 +138,10 @@ module _ (k : KernState) (o : Objects) where
   mutexes None = unchanged errors.InvalidOption
   mutexes (Some options) = mutex_unless options (making.create_refusal (sem.mutexes k o))
 
+  -- at a mutex, or at another semaphore
+  by_kind : (id : ℕ) (mutexes plains : sem.ObjectRow) → LeavesQueues k o mutexes → LeavesQueues k o plains → LeavesQueues k o (cond (sem.is_mutex o id) mutexes plains)
+  by_kind id mutexes plains h g = elim (sem.is_mutex o id) as (λ b. LeavesQueues k o (cond b mutexes plains)) [ true ↦ h | false ↦ g ]
+
   plain_takes : (who id n : ℕ) (r : Option Errno) → LeavesQueues k o (sem.plain_take_unless r k o who id n)
   plain_takes who id n None = record { queues = refl; ids = omega (arith, next-sem_take (sem.sems k o) who id n (object_of o.semaphores id)) }
   plain_takes who id n (Some e) = unchanged e
@@ -148,11 +152,8 @@ module _ (k : KernState) (o : Objects) where
 
   takes : (a : Actor) (id n : ℕ) → LeavesQueues k o (sem.take_row k o a id n)
   takes Interrupt id n = unchanged errors.NotIsrCallable
-  takes (by_task who) id n =
-      elim (sem.is_mutex o id) as (λ b. LeavesQueues k o (cond b (sem.mutex_take k o who id n) (sem.plain_take k o who id n))) [
-        | true ↦ mutex_takes who id n (mutex.take_refusal who n (object_of o.mutexes.rows id))
-        | false ↦ plain_takes who id n (plain.take_refusal (sem.sems k o) id n)
-      ]
+  takes (by_task who) id n = by_kind id (sem.mutex_take k o who id n) (sem.plain_take k o who id n)
+      (mutex_takes who id n (mutex.take_refusal who n (object_of o.mutexes.rows id))) (plain_takes who id n (plain.take_refusal (sem.sems k o) id n))
 
   plain_gives : (id : ℕ) (r : Option Errno) → LeavesQueues k o (sem.plain_give_unless r k o id)
   plain_gives id None = record { queues = refl; ids = omega (arith, next-sem_give (sem.sems k o) id (object_of o.semaphores id)) }
@@ -163,38 +164,26 @@ module _ (k : KernState) (o : Objects) where
   mutex_gives who id (Some e) = unchanged e
 
   gives : (a : Actor) (id : ℕ) → LeavesQueues k o (sem.give_row k o a id)
-  gives Interrupt id =
-      elim (sem.is_mutex o id) as (λ b. LeavesQueues k o (cond b (sem.refused k o errors.NotIsrCallable) (sem.plain_give k o id))) [
-        | true ↦ unchanged errors.NotIsrCallable
-        | false ↦ plain_gives id (plain.give_refusal (sem.sems k o) id)
-      ]
-  gives (by_task who) id =
-      elim (sem.is_mutex o id) as (λ b. LeavesQueues k o (cond b (sem.mutex_give k o who id) (sem.plain_give k o id))) [
-        | true ↦ mutex_gives who id (mutex.give_refusal who (object_of o.mutexes.rows id))
-        | false ↦ plain_gives id (plain.give_refusal (sem.sems k o) id)
-      ]
+  gives Interrupt id = by_kind id (sem.refused k o errors.NotIsrCallable) (sem.plain_give k o id)
+      (unchanged errors.NotIsrCallable) (plain_gives id (plain.give_refusal (sem.sems k o) id))
+  gives (by_task who) id = by_kind id (sem.mutex_give k o who id) (sem.plain_give k o id)
+      (mutex_gives who id (mutex.give_refusal who (object_of o.mutexes.rows id))) (plain_gives id (plain.give_refusal (sem.sems k o) id))
 
   plain_flushes : (id : ℕ) (r : Option Errno) → LeavesQueues k o (sem.flush_unless r k o id)
   plain_flushes id None = record { queues = refl; ids = omega (arith, next-sem_flush (sem.sems k o) id) }
   plain_flushes id (Some e) = unchanged e
 
   flushes : (id : ℕ) → LeavesQueues k o (sem.flush_row k o id)
-  flushes id =
-      elim (sem.is_mutex o id) as (λ b. LeavesQueues k o (cond b (sem.refused k o errors.InvalidOperation) (sem.flush_unless (plain.flush_refusal (sem.sems k o) id) k o id))) [
-        | true ↦ unchanged errors.InvalidOperation
-        | false ↦ plain_flushes id (plain.flush_refusal (sem.sems k o) id)
-      ]
+  flushes id = by_kind id (sem.refused k o errors.InvalidOperation) (sem.flush_unless (plain.flush_refusal (sem.sems k o) id) k o id)
+      (unchanged errors.InvalidOperation) (plain_flushes id (plain.flush_refusal (sem.sems k o) id))
 
   plain_deletes : (id : ℕ) (r : Option Errno) → LeavesQueues k o (sem.plain_delete_unless r k o id)
   plain_deletes id None = record { queues = refl; ids = omega (arith, next-sem_delete (sem.sems k o) id) }
   plain_deletes id (Some e) = unchanged e
 
   sem_deletes : (id : ℕ) → LeavesQueues k o (sem.delete_row k o id)
-  sem_deletes id =
-      elim (sem.is_mutex o id) as (λ b. LeavesQueues k o (cond b (sem.by_mutexes o (mutex.delete (sem.mutexes k o) id) (done k).reply) (sem.plain_delete_unless (plain.delete_refusal (sem.sems k o) id) k o id))) [
-        | true ↦ record { queues = refl; ids = omega (arith, next-mutex_delete (sem.mutexes k o) id) }
-        | false ↦ plain_deletes id (plain.delete_refusal (sem.sems k o) id)
-      ]
+  sem_deletes id = by_kind id (sem.by_mutexes o (mutex.delete (sem.mutexes k o) id) (done k).reply) (sem.plain_delete_unless (plain.delete_refusal (sem.sems k o) id) k o id)
+      (record { queues = refl; ids = omega (arith, next-mutex_delete (sem.mutexes k o) id) }) (plain_deletes id (plain.delete_refusal (sem.sems k o) id))
 
   priorities : (pri : ℕ) (who : Option ℕ) → LeavesQueues k o (sem.priority_row k o pri who)
   priorities pri None = unchanged errors.ObjIdError

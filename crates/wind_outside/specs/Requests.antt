@@ -2,29 +2,23 @@
 use Rattle.std.specs.Prelude.{◌≡◌, ℕ, List, ◌++◌, Option, IfSome, IsSomeAnd}
 use Rattle.wind_outside.specs.declared.folder.Fetched.{Fetched}
 use Rattle.wind_outside.specs.declared.folder.Fetched.TheVariants as fetched
+use Rattle.wind_outside.specs.declared.folder.FetchOutcome.{FetchOutcome}
+use Rattle.wind_outside.specs.declared.folder.FetchOutcome.TheVariants as outcomes
 use Rattle.wind_outside.specs.declared.sink.Put.{Put}
 
--- how a fetch ended, without the file's content
-pub data Outcome : Type 0 where
-  Found : Outcome
-  Missing : Outcome
-  TooLong : Outcome
-  Failed : Outcome
-  NoMemory : Outcome
-
 -- how a fetch with this result ended
-abbrev pub outcome_of : Fetched → Outcome
-outcome_of (fetched.Found bytes) = Found
-outcome_of fetched.Missing = Missing
-outcome_of fetched.TooLong = TooLong
-outcome_of fetched.Failed = Failed
-outcome_of fetched.NoMemory = NoMemory
+abbrev pub outcome_of : Fetched → FetchOutcome
+outcome_of (fetched.Found bytes) = outcomes.Found
+outcome_of fetched.Missing = outcomes.Missing
+outcome_of fetched.TooLong = outcomes.TooLong
+outcome_of fetched.Failed = outcomes.Failed
+outcome_of fetched.NoMemory = outcomes.NoMemory
 
 -- a fetch: the name of the file, the limit, and how it ended
 pub record Request : Type 0 where
   pub name : List ℕ
   pub limit : ℕ
-  pub outcome : Outcome
+  pub outcome : FetchOutcome
 
 -- a fetch as a request
 abbrev pub request_of : List ℕ → ℕ → Fetched → Request

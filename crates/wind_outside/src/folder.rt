@@ -23,6 +23,21 @@ pub enum Fetched {
     NoMemory,
 }
 
+/// How a fetch ended, without the file's content.
+#[derive(Clone, Copy, Debug, PartialEq, Eq)]
+pub enum FetchOutcome {
+    /// The file was found.
+    Found,
+    /// There was no such file.
+    Missing,
+    /// The file was longer than the limit.
+    TooLong,
+    /// Reading failed.
+    Failed,
+    /// Host memory ran out.
+    NoMemory,
+}
+
 /// A folder of files.
 ///
 /// A contract can see its files, its fetches so far and its count of faults. A folder can leave the

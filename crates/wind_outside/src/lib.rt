@@ -16,7 +16,7 @@ mod sink;
 pub use byte_fifo::ByteFifo;
 pub use device::{Device, DeviceKind, Slots};
 pub use event_counter::EventCounter;
-pub use folder::{Fetched, Folder};
+pub use folder::{FetchOutcome, Fetched, Folder};
 pub use host::{HostFolder, HostSink};
 pub use latch::Latch;
 pub use mem_folder::MemFolder;

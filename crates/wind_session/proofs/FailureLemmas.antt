@@ -5,8 +5,9 @@ use Rattle.std.specs.List.{All}
 use Rattle.std.specs.Str.{is_utf8}
 use Rattle.std.proofs.lemmas.List.{append-nil}
 use Rattle.std.proofs.lemmas.List.Elements.{All-nil, All-cons, All-append}
-use Rattle.wind_outside.specs.Requests.{GrowsBy, Request, Outcome}
-use Rattle.wind_outside.specs.Requests as outcomes
+use Rattle.wind_outside.specs.Requests.{GrowsBy, Request}
+use Rattle.wind_outside.specs.declared.folder.FetchOutcome.{FetchOutcome}
+use Rattle.wind_outside.specs.declared.folder.FetchOutcome.TheVariants as outcomes
 use Rattle.wind_machine.specs.State.{State}
 use Rattle.wind_machine.specs.Machine.{file_asked}
 use Rattle.wind_machine.specs.Run.{Answers, after}
@@ -27,14 +28,14 @@ one_fine : (r : Request) → IsFine r → All IsFine (r ∷ [])
 one_fine r fine = All-cons IsFine r [] fine (All-nil IsFine)
 
 -- ---- requests that didn't fail
-module_fine : (folder name : List ℕ) (o : Outcome) → o ≢ outcomes.Failed → All IsFine (module_request folder name o)
+module_fine : (folder name : List ℕ) (o : FetchOutcome) → o ≢ outcomes.Failed → All IsFine (module_request folder name o)
 module_fine folder name o fine =
     elim (is_utf8 name) as (λ b. All IsFine (cond b (path_request (module_path folder name) o ∷ []) [])) [
       | true ↦ one_fine (path_request (module_path folder name) o) fine
       | false ↦ All-nil IsFine
     ]
 
-step_fine : (folder : List ℕ) (asked : Option (List ℕ)) (o : Outcome) → o ≢ outcomes.Failed → All IsFine (step_request folder asked o)
+step_fine : (folder : List ℕ) (asked : Option (List ℕ)) (o : FetchOutcome) → o ≢ outcomes.Failed → All IsFine (step_request folder asked o)
 step_fine folder None o fine = All-nil IsFine
 step_fine folder (Some name) o fine = module_fine folder name o fine
 
@@ -91,11 +92,11 @@ module _ (c : CommandState) (s : Status) (old new : Option (List Request)) where
   first_fine : All IsFine (text_request c.console outcomes.Found ∷ [])
   first_fine = one_fine (text_request c.console outcomes.Found) (λ e. cc)
 
-  both_fine : (o : Outcome) → o ≢ outcomes.Failed → All IsFine (text_request c.console outcomes.Found ∷ text_request c.ticks o ∷ [])
+  both_fine : (o : FetchOutcome) → o ≢ outcomes.Failed → All IsFine (text_request c.console outcomes.Found ∷ text_request c.ticks o ∷ [])
   both_fine o fine = All-cons IsFine (text_request c.console outcomes.Found) (text_request c.ticks o ∷ []) (λ e. cc) (one_fine (text_request c.ticks o) fine)
 
   -- by how the fetch of the tick file ended
-  by_ticks : (o : Outcome) → LeadsTo which.Ticks o s (IsAfterFiles s) → GrowsBy old new (file_requests c outcomes.Found o) → FailsLast s old new
+  by_ticks : (o : FetchOutcome) → LeadsTo which.Ticks o s (IsAfterFiles s) → GrowsBy old new (file_requests c outcomes.Found o) → FailsLast s old new
   by_ticks outcomes.Found leads grown = none_failed s old new (file_requests c outcomes.Found outcomes.Found) (unplayed s leads) (both_fine outcomes.Found (λ e. cc)) grown
   by_ticks outcomes.Missing leads grown = none_failed s old new (file_requests c outcomes.Found outcomes.Missing) (other (status.Absent which.Ticks) leads (λ e. cc)) (both_fine outcomes.Missing (λ e. cc)) grown
   by_ticks outcomes.TooLong leads grown = none_failed s old new (file_requests c outcomes.Found outcomes.TooLong) (other (status.TooLong which.Ticks) leads (λ e. cc)) (both_fine outcomes.TooLong (λ e. cc)) grown
@@ -103,7 +104,7 @@ module _ (c : CommandState) (s : Status) (old new : Option (List Request)) where
   by_ticks outcomes.Failed leads grown = last_failed s old new (text_request c.console outcomes.Found ∷ []) (text_request c.ticks outcomes.Failed) leads refl first_fine grown
 
   -- and that of the console file
-  by_console : (o ticks : Outcome) → LeadsTo which.Console o s (LeadsTo which.Ticks ticks s (IsAfterFiles s)) → GrowsBy old new (file_requests c o ticks) → FailsLast s old new
+  by_console : (o ticks : FetchOutcome) → LeadsTo which.Console o s (LeadsTo which.Ticks ticks s (IsAfterFiles s)) → GrowsBy old new (file_requests c o ticks) → FailsLast s old new
   by_console outcomes.Found ticks leads grown = by_ticks ticks leads grown
   by_console outcomes.Missing ticks leads grown = none_failed s old new (file_requests c outcomes.Missing ticks) (other (status.Absent which.Console) leads (λ e. cc)) (one_fine (text_request c.console outcomes.Missing) (λ e. cc)) grown
   by_console outcomes.TooLong ticks leads grown = none_failed s old new (file_requests c outcomes.TooLong ticks) (other (status.TooLong which.Console) leads (λ e. cc)) (one_fine (text_request c.console outcomes.TooLong) (λ e. cc)) grown

@@ -5,8 +5,9 @@ use Rattle.std.specs.Str.{IsUtf8, is_utf8}
 use Rattle.std.proofs.lemmas.List.{append-nil}
 use Rattle.std.proofs.lemmas.Str.{IsUtf8-from_is_utf8, is_utf8-from_IsUtf8}
 use Rattle.wind_base.specs.Limits.{longest_module_file}
-use Rattle.wind_outside.specs.Requests.{GrowsBy, Request, Outcome}
-use Rattle.wind_outside.specs.Requests as outcomes
+use Rattle.wind_outside.specs.Requests.{GrowsBy, Request}
+use Rattle.wind_outside.specs.declared.folder.FetchOutcome.{FetchOutcome}
+use Rattle.wind_outside.specs.declared.folder.FetchOutcome.TheVariants as outcomes
 use Rattle.live_loading.specs.Said.{FileSaid, Held, Missing, TooLong}
 use Rattle.wind_machine.specs.State.{State}
 use Rattle.wind_machine.specs.Machine.{file_asked}
@@ -45,14 +46,14 @@ module _ {X : Type 0} where
 
 -- ---- the request for a module
 -- the request at the path of a module
-abbrev pub path_request : List ℕ → Outcome → Request
+abbrev pub path_request : List ℕ → FetchOutcome → Request
 path_request path o = record { name = path; limit = longest_module_file; outcome = o }
 
 -- its name is a text, and it isn't
-pub text_module : (folder name : List ℕ) (o : Outcome) → IsUtf8 name → module_request folder name o ≡ path_request (module_path folder name) o ∷ []
+pub text_module : (folder name : List ℕ) (o : FetchOutcome) → IsUtf8 name → module_request folder name o ≡ path_request (module_path folder name) o ∷ []
 text_module folder name o text = ap (λ b. cond b (path_request (module_path folder name) o ∷ []) []) (is_utf8-from_IsUtf8 name text)
 
-pub no_text_module : (folder name : List ℕ) (o : Outcome) → (IsUtf8 name → ⊥) → module_request folder name o ≡ []
+pub no_text_module : (folder name : List ℕ) (o : FetchOutcome) → (IsUtf8 name → ⊥) → module_request folder name o ≡ []
 no_text_module folder name o none =
     elim (is_utf8 name) as (λ b. is_utf8 name ≡ b → cond b (path_request (module_path folder name) o ∷ []) [] ≡ []) [
       | true ↦ λ e. absurd (none (IsUtf8-from_is_utf8 name e))
@@ -67,7 +68,7 @@ said_fine TooLong = λ e. cc
 
 module _ (folder name : List ℕ) (old new : Option (List Request)) where
   -- the request is that of a name that is a text
-  pub requested : (o : Outcome) → IsUtf8 name → GrowsBy old new (path_request (module_path folder name) o ∷ []) → GrowsBy old new (module_request folder name o)
+  pub requested : (o : FetchOutcome) → IsUtf8 name → GrowsBy old new (path_request (module_path folder name) o ∷ []) → GrowsBy old new (module_request folder name o)
   requested o text grown = subst (GrowsBy old new) (sym (text_module folder name o text)) grown
 
   -- it failed
@@ -82,7 +83,7 @@ module _ (folder name : List ℕ) (old new : Option (List Request)) where
 pub stops_before : (folder : List ℕ) (asked : Option (List ℕ)) (old new : Option (List Request)) → new ≡ old → Stops ends.NoMemory folder asked old new
 stops_before folder asked old new same = record { last = []; last_is = (outcomes.NoMemory, λ e. cc, inl refl); requests = grows_same old new same }
 
-pub stops_after : (folder : List ℕ) (asked : Option (List ℕ)) (o : Outcome) (old new : Option (List Request)) → o ≢ outcomes.Failed → GrowsBy old new (step_request folder asked o) → Stops ends.NoMemory folder asked old new
+pub stops_after : (folder : List ℕ) (asked : Option (List ℕ)) (o : FetchOutcome) (old new : Option (List Request)) → o ≢ outcomes.Failed → GrowsBy old new (step_request folder asked o) → Stops ends.NoMemory folder asked old new
 stops_after folder asked o old new fine grown = record { last = step_request folder asked o; last_is = (o, fine, inr refl); requests = grown }
 
 -- no step is left
@@ -126,14 +127,14 @@ rounds_none (suc n) c old some = grows_none old
 
 -- ---- the two files of a command
 -- the console file is not found
-pub console_unfound : (c : CommandState) (s : Status) (old new : Option (List Request)) (o : Outcome) → LeadsTo which.Console o s ⊥ → GrowsBy old new (text_request c.console o ∷ []) → EndsWithFiles c s old new
+pub console_unfound : (c : CommandState) (s : Status) (old new : Option (List Request)) (o : FetchOutcome) → LeadsTo which.Console o s ⊥ → GrowsBy old new (text_request c.console o ∷ []) → EndsWithFiles c s old new
 console_unfound c s old new outcomes.Found leads grown = absurd leads
 console_unfound c s old new outcomes.Missing leads grown = record { console = outcomes.Missing; ticks = outcomes.Missing; requests = grown; status_is = leads }
 console_unfound c s old new outcomes.TooLong leads grown = record { console = outcomes.TooLong; ticks = outcomes.Missing; requests = grown; status_is = leads }
 console_unfound c s old new outcomes.Failed leads grown = record { console = outcomes.Failed; ticks = outcomes.Missing; requests = grown; status_is = leads }
 console_unfound c s old new outcomes.NoMemory leads grown = record { console = outcomes.NoMemory; ticks = outcomes.Missing; requests = grown; status_is = leads }
 
-leads_on : (file : Which) (o : Outcome) (s : Status) (follows : Type 0) → LeadsTo file o s ⊥ → LeadsTo file o s follows
+leads_on : (file : Which) (o : FetchOutcome) (s : Status) (follows : Type 0) → LeadsTo file o s ⊥ → LeadsTo file o s follows
 leads_on file outcomes.Found s follows leads = absurd leads
 leads_on file outcomes.Missing s follows leads = leads
 leads_on file outcomes.TooLong s follows leads = leads
@@ -142,7 +143,7 @@ leads_on file outcomes.NoMemory s follows leads = leads
 
 module _ (c : CommandState) (old mid new : Option (List Request)) (first : GrowsBy old mid (text_request c.console outcomes.Found ∷ [])) where
   -- the tick file is not found
-  pub ticks_unfound : (s : Status) (o : Outcome) → LeadsTo which.Ticks o s ⊥ → GrowsBy mid new (text_request c.ticks o ∷ []) → EndsWithFiles c s old new
+  pub ticks_unfound : (s : Status) (o : FetchOutcome) → LeadsTo which.Ticks o s ⊥ → GrowsBy mid new (text_request c.ticks o ∷ []) → EndsWithFiles c s old new
   ticks_unfound s o leads grown = record {
     console = outcomes.Found;
     ticks = o;

@@ -9,18 +9,25 @@ use Rattle.wind_base.specs.Decimal.{decimal_value}
 use Rattle.generated_session.specs.Session.{most_rounds}
 use Rattle.clap.specs.Kinds.{Kinds}
 use Rattle.clap.specs.Words.{App, Row, Rule, Text, fault_of, first_of, matches_of, new_app, new_rule, with_rule}
+use Rattle.wind_session.specs.declared.command.Machine.{Machine}
 
--- a command: the names of the console file, of the tick file and of the folder of modules; the most steps that the
--- run makes; the rounds of the generated session, or 0; the rule of inheritance; and the kind of board
-pub record CommandState : Type 0 where
-  pub console : List ℕ
-  pub ticks : List ℕ
-  pub modules : List ℕ
-  pub limit : ℕ
-  pub generate : ℕ
-  pub profile : Profile
-  pub board : BoardKind
+-- ---- the words
+-- what clap finds, if there is no fault; a call for help is such a fault
+abbrev pub unless_fault : Kinds → List Row → Option (List Row)
+unless_fault [] rows = Some rows
+unless_fault (kind ∷ kinds) rows = None
 
+-- what clap finds in these words for a program with this command line, or none if it refuses them; the first word is the
+-- program's name
+unfoldable pub rows_given : App → List Text → Option (List Row)
+rows_given app words = unless_fault (fault_of app words) (matches_of app words)
+
+-- what is made of a value, or none if the value is invalid
+abbrev pub if_valid : {V C : Type 0} → Option V → (V → Option C) → Option C
+if_valid None make = None
+if_valid (Some value) make = make value
+
+-- ---- options
 -- an option that takes one value: its name and its default
 abbrev pub option_rule : Text → Text → Rule
 option_rule name default = record (new_rule name) { long = Some name; value_names = 1; defaults = default ∷ [] }
@@ -28,17 +35,9 @@ option_rule name default = record (new_rule name) { long = Some name; value_name
 abbrev pub with_option : Text → Text → App → App
 with_option name default app = with_rule app (option_rule name default)
 
--- the command line, as clap reads it: its options with their defaults
-unfoldable pub app : App
-app =
-    with_option (codes "board") (codes "1")
-    (with_option (codes "profile") (codes "1")
-    (with_option (codes "generate") (codes "0")
-    (with_option (codes "limit") (codes "1000000")
-    (with_option (codes "modules") (codes ".")
-    (with_option (codes "ticks") (codes "ticks.txt")
-    (with_option (codes "console") (codes "console.txt")
-    (new_app (codes "windplay"))))))))
+-- the value that clap gives for an option; there always is one, because each option has a default
+abbrev pub value_of : Text → List Row → Text
+value_of name rows = unwrap_or (first_of name rows) []
 
 -- the most digits that a number may have
 abbrev pub most_number_digits : ℕ
@@ -47,6 +46,11 @@ most_number_digits = 13
 -- a number: 1 to 13 decimal digits, with a value of at most `most`
 abbrev pub number_value : ℕ → Text → Option ℕ
 number_value most text = if nat_le (length text) most_number_digits then decimal_value most text else None
+
+-- ---- the options that choose the machine
+-- a command line with these options, each with its default
+abbrev pub with_machine_options : App → App
+with_machine_options app = with_option (codes "board") (codes "1") (with_option (codes "profile") (codes "1") app)
 
 -- the rule of inheritance with this number
 abbrev pub profile_of_number : Option ℕ → Option Profile
@@ -74,41 +78,57 @@ most_boards = 2
 abbrev pub board_value : Text → Option BoardKind
 board_value text = board_of_number (number_value most_boards text)
 
--- the value that clap gives for an option; there always is one, because each option has a default
-abbrev pub value_of : Text → List Row → Text
-value_of name rows = unwrap_or (first_of name rows) []
+-- the machine of clap's matches; none if the rule or the kind is invalid
+abbrev pub machine_value : List Row → Option Machine
+machine_value rows =
+    if_valid (profile_value (value_of (codes "profile") rows)) (λ profile.
+    if_valid (board_value (value_of (codes "board") rows)) (λ board.
+    Some (record { profile = profile; board = board })))
 
--- the command of clap's matches, with these four values
-abbrev pub with_values : List Row → ℕ → ℕ → Profile → BoardKind → CommandState
-with_values rows limit generate profile board = record {
-  console = value_of (codes "console") rows;
-  ticks = value_of (codes "ticks") rows;
-  modules = value_of (codes "modules") rows;
-  limit = limit;
-  generate = generate;
-  profile = profile;
-  board = board;
-}
+-- ---- the command of a session
+-- a command: the names of the console file, of the tick file and of the folder of modules; the most steps that the
+-- run makes; the rounds of the generated session, or 0; the rule of inheritance; and the kind of board
+pub record CommandState : Type 0 where
+  pub console : List ℕ
+  pub ticks : List ℕ
+  pub modules : List ℕ
+  pub limit : ℕ
+  pub generate : ℕ
+  pub profile : Profile
+  pub board : BoardKind
 
--- what is made of four values, if all are valid
-abbrev pub of_values : (ℕ → ℕ → Profile → BoardKind → CommandState) → Option ℕ → Option ℕ → Option Profile → Option BoardKind → Option CommandState
-of_values f None generate profile board = None
-of_values f (Some limit) None profile board = None
-of_values f (Some limit) (Some generate) None board = None
-of_values f (Some limit) (Some generate) (Some profile) None = None
-of_values f (Some limit) (Some generate) (Some profile) (Some board) = Some (f limit generate profile board)
+-- a command line with the options of a session, each with its default
+abbrev pub with_session_options : App → App
+with_session_options app =
+    with_machine_options
+    (with_option (codes "generate") (codes "0")
+    (with_option (codes "limit") (codes "1000000")
+    (with_option (codes "modules") (codes ".")
+    (with_option (codes "ticks") (codes "ticks.txt")
+    (with_option (codes "console") (codes "console.txt") app)))))
 
 -- the command of clap's matches; none if a value is invalid
 abbrev pub command_of_rows : List Row → Option CommandState
 command_of_rows rows =
-    of_values (with_values rows) (number_value most_steps (value_of (codes "limit") rows)) (number_value most_rounds (value_of (codes "generate") rows)) (profile_value (value_of (codes "profile") rows)) (board_value (value_of (codes "board") rows))
+    if_valid (number_value most_steps (value_of (codes "limit") rows)) (λ limit.
+    if_valid (number_value most_rounds (value_of (codes "generate") rows)) (λ generate.
+    if_valid (machine_value rows) (λ machine.
+    Some (record {
+      console = value_of (codes "console") rows;
+      ticks = value_of (codes "ticks") rows;
+      modules = value_of (codes "modules") rows;
+      limit = limit;
+      generate = generate;
+      profile = machine.profile;
+      board = machine.board;
+    }))))
 
--- the command of arguments in which clap finds no fault; a call for help is such a fault
-abbrev pub unless_fault : Kinds → List Row → Option CommandState
-unless_fault [] rows = command_of_rows rows
-unless_fault (kind ∷ kinds) rows = None
+-- ---- windplay
+-- its command line, as clap reads it
+unfoldable pub app : App
+app = with_session_options (new_app (codes "windplay"))
 
--- the command of these words, the first of which is the program's name; none if clap finds a fault or a value is
--- invalid
+-- its command: the one that these words give, or none if clap refuses them or a value is invalid; the first word is the
+-- program's name
 unfoldable pub command_of : List Text → Option CommandState
-command_of words = unless_fault (fault_of app words) (matches_of app words)
+command_of words = if_valid (rows_given app words) command_of_rows

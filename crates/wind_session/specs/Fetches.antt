@@ -4,8 +4,9 @@ use Rattle.std.specs.Prelude.{◌≡◌, ◌≢◌, ◌⊎◌, ℕ, zero, suc, L
 use Rattle.std.specs.List.{All}
 use Rattle.std.specs.Str.{is_utf8}
 use Rattle.wind_base.specs.Limits.{longest_module_file, longest_text_file}
-use Rattle.wind_outside.specs.Requests.{GrowsBy, Request, Outcome}
-use Rattle.wind_outside.specs.Requests as outcomes
+use Rattle.wind_outside.specs.Requests.{GrowsBy, Request}
+use Rattle.wind_outside.specs.declared.folder.FetchOutcome.{FetchOutcome}
+use Rattle.wind_outside.specs.declared.folder.FetchOutcome.TheVariants as outcomes
 use Rattle.live_loading.specs.Said.{FileSaid, Held, Missing, TooLong}
 use Rattle.wind_machine.specs.State.{State}
 use Rattle.wind_machine.specs.Machine.{file_asked}
@@ -21,11 +22,11 @@ use Rattle.wind_session.specs.declared.ending.Which.TheVariants as which
 
 -- ---- the two files of a command
 -- the request for a text file
-abbrev pub text_request : List ℕ → Outcome → Request
+abbrev pub text_request : List ℕ → FetchOutcome → Request
 text_request name outcome = record { name = name; limit = longest_text_file; outcome = outcome }
 
 -- the request for the console file and, only if that was found, the one for the tick file; the outcomes are those of the two fetches
-abbrev pub file_requests : CommandState → Outcome → Outcome → List Request
+abbrev pub file_requests : CommandState → FetchOutcome → FetchOutcome → List Request
 file_requests c outcomes.Found ticks = text_request c.console outcomes.Found ∷ text_request c.ticks ticks ∷ []
 file_requests c outcomes.Missing ticks = text_request c.console outcomes.Missing ∷ []
 file_requests c outcomes.TooLong ticks = text_request c.console outcomes.TooLong ∷ []
@@ -43,7 +44,7 @@ inputs_requests None = []
 inputs_requests (Some c) = rounds_requests c.generate c
 
 -- the status that the fetch of a file leads to; if it found the file, what follows decides
-abbrev pub LeadsTo : Which → Outcome → Status → Type 0 → Type 0
+abbrev pub LeadsTo : Which → FetchOutcome → Status → Type 0 → Type 0
 LeadsTo file outcomes.Found s follows = follows
 LeadsTo file outcomes.Missing s follows = s ≡ status.Absent file
 LeadsTo file outcomes.TooLong s follows = s ≡ status.TooLong file
@@ -58,8 +59,8 @@ IsAfterFiles s = ⊥
 
 -- the two files were fetched, and the session ended with this status without a run
 pub record EndsWithFiles (c : CommandState) (s : Status) (old new : Option (List Request)) : Type 0 where
-  pub console : Outcome
-  pub ticks : Outcome
+  pub console : FetchOutcome
+  pub ticks : FetchOutcome
   pub requests : GrowsBy old new (file_requests c console ticks)
   pub status_is : LeadsTo which.Console console s (LeadsTo which.Ticks ticks s (IsAfterFiles s))
 
@@ -76,18 +77,18 @@ EndsWithInputs (Some c) s old new = EndsWithRounds c.generate c s old new
 
 -- ---- the modules of a run
 -- how the fetch ended, given what the machine is told of the file
-abbrev pub outcome_said : FileSaid → Outcome
+abbrev pub outcome_said : FileSaid → FetchOutcome
 outcome_said (Held bytes) = outcomes.Found
 outcome_said Missing = outcomes.Missing
 outcome_said TooLong = outcomes.TooLong
 
 -- the request for a module, at its path in the folder of modules; there is none for a name that is not UTF-8
-abbrev pub module_request : List ℕ → List ℕ → Outcome → List Request
+abbrev pub module_request : List ℕ → List ℕ → FetchOutcome → List Request
 module_request folder name outcome =
     if is_utf8 name then record { name = module_path folder name; limit = longest_module_file; outcome = outcome } ∷ [] else []
 
 -- the request of a step that needs this file; if it needs none, there is no request
-abbrev pub step_request : List ℕ → Option (List ℕ) → Outcome → List Request
+abbrev pub step_request : List ℕ → Option (List ℕ) → FetchOutcome → List Request
 step_request folder None outcome = []
 step_request folder (Some name) outcome = module_request folder name outcome
 
@@ -101,7 +102,7 @@ requests_of folder said s (suc k) = requests_of folder said s k ++ step_request 
 -- is none
 abbrev pub IsLastRequest : RunEnd → List ℕ → Option (List ℕ) → List Request → Type 0
 IsLastRequest ends.ReadFault folder asked last = (last ≡ step_request folder asked outcomes.Failed) × (last ≢ [])
-IsLastRequest ends.NoMemory folder asked last = (outcome : Outcome) × (outcome ≢ outcomes.Failed) × ((last ≡ []) ⊎ (last ≡ step_request folder asked outcome))
+IsLastRequest ends.NoMemory folder asked last = (outcome : FetchOutcome) × (outcome ≢ outcomes.Failed) × ((last ≡ []) ⊎ (last ≡ step_request folder asked outcome))
 IsLastRequest ends.Quiet folder asked last = last ≡ []
 IsLastRequest ends.Limit folder asked last = last ≡ []
 IsLastRequest ends.WriteFault folder asked last = last ≡ []

@@ -1,5 +1,5 @@
 -- What the program does with the arguments of its command line.
-use Rattle.std.specs.Prelude.{◌≡◌, ◌≢◌, ◌⊎◌, ◌↔◌, ℕ, List, [], ◌∷◌, Option, Some, None}
+use Rattle.std.specs.Prelude.{◌≡◌, ◌≢◌, ◌⊎◌, ◌↔◌, ℕ, List, [], ◌∷◌, Option, Some, None, codes}
 use Rattle.wind_outside.specs.Devices.{DeviceState}
 use Rattle.wind_outside.specs.Files.{Files}
 use Rattle.wind_outside.specs.declared.device.DeviceKind.TheVariants as kinds
@@ -48,4 +48,4 @@ pub record Ends (number : ℕ) (command : Option CommandState) (files : Option F
   pub ended : Status
   pub number_is : number ≡ status_number ended
   pub session : Session ended command files rose out_rose old new
-  pub tells : Tells ended command err_old err_new err_rose
+  pub tells : Tells (codes "windplay") ended command err_old err_new err_rose

@@ -13,31 +13,31 @@ abbrev pub name_of : CommandState → Which → List ℕ
 name_of c which.Console = c.console
 name_of c which.Ticks = c.ticks
 
--- a text of one line that names the program
+-- a text of one line, after the name of the program
 abbrev pub line_text : List ℕ → List ℕ → List ℕ
-line_text middle rest = codes "windplay: " ++ middle ++ rest
+line_text program text = program ++ codes ": " ++ text
 
 -- the text if memory ran out
-abbrev pub memory_text : List ℕ
-memory_text = line_text (codes "out of memory") (codes "\n")
+abbrev pub memory_text : List ℕ → List ℕ
+memory_text program = line_text program (codes "out of memory\n")
 
--- the text for a status of a command; with a command, the status is never Usage
-unfoldable pub status_text : CommandState → Status → List ℕ
-status_text c status.Quiet = []
-status_text c status.Usage = []
-status_text c (status.Absent file) = line_text (name_of c file) (codes ": not found\n")
-status_text c status.Limit = codes "windplay: limit of " ++ decimal c.limit ++ codes " steps reached\n"
-status_text c status.ReadFault = line_text (codes "reading failed") (codes "\n")
-status_text c status.WriteFault = line_text (codes "writing failed") (codes "\n")
-status_text c status.NoMemory = memory_text
-status_text c (status.BadTicks line) = line_text c.ticks (codes ": line " ++ decimal line ++ codes " is not understood\n")
-status_text c (status.TooLong file) = line_text (name_of c file) (codes ": too long\n")
+-- the text of this program for a status of a command; with a command, the status is never Usage
+unfoldable pub status_text : List ℕ → CommandState → Status → List ℕ
+status_text program c status.Quiet = []
+status_text program c status.Usage = []
+status_text program c (status.Absent file) = line_text program (name_of c file ++ codes ": not found\n")
+status_text program c status.Limit = line_text program (codes "limit of " ++ decimal c.limit ++ codes " steps reached\n")
+status_text program c status.ReadFault = line_text program (codes "reading failed\n")
+status_text program c status.WriteFault = line_text program (codes "writing failed\n")
+status_text program c status.NoMemory = memory_text program
+status_text program c (status.BadTicks line) = line_text program (c.ticks ++ codes ": line " ++ decimal line ++ codes " is not understood\n")
+status_text program c (status.TooLong file) = line_text program (name_of c file ++ codes ": too long\n")
 
--- the text for a status; for invalid arguments it is `clap`'s own, which this doesn't specify
-abbrev pub IsText : Option CommandState → Status → List ℕ → Type 0
-IsText (Some c) s text = text ≡ status_text c s
-IsText None status.NoMemory text = text ≡ memory_text
-IsText None s text = Unit {0}
+-- the text of this program for a status; for invalid arguments it is `clap`'s own, which this doesn't specify
+abbrev pub IsText : List ℕ → Option CommandState → Status → List ℕ → Type 0
+IsText program (Some c) s text = text ≡ status_text program c s
+IsText program None status.NoMemory text = text ≡ memory_text program
+IsText program None s text = Unit {0}
 
 -- a prefix of the text was added, and the count of faults rose
 pub record IsCutShort (old new : Option (List ℕ)) (text : List ℕ) (rose : Type 0) : Type 0 where
@@ -51,8 +51,8 @@ pub record IsCutShort (old new : Option (List ℕ)) (text : List ℕ) (rose : Ty
 abbrev pub IsPrinted : Option (List ℕ) → Option (List ℕ) → List ℕ → Type 0 → Type 0
 IsPrinted old new text rose = Appended old new text ⊎ IsCutShort old new text rose
 
--- the text for the status was reported
-pub record Tells (s : Status) (command : Option CommandState) (old new : Option (List ℕ)) (rose : Type 0) : Type 0 where
+-- the program's text for the status was reported
+pub record Tells (program : List ℕ) (s : Status) (command : Option CommandState) (old new : Option (List ℕ)) (rose : Type 0) : Type 0 where
   pub text : List ℕ
-  pub text_is : IsText command s text
+  pub text_is : IsText program command s text
   pub printed : IsPrinted old new text rose

@@ -1,10 +1,10 @@
 //! The arguments of the command line.
 
-ghost use Rattle.std.specs.Prelude.{◌≡◌, ◌≢◌, ◌≤◌, IfOk, IfErr, IfSome, Some, None, false, map};
-ghost use Rattle.clap.specs.Words.{app_of, found_of, rows_of, rule_of};
+ghost use Rattle.std.specs.Prelude.{◌≡◌, ◌≢◌, ◌≤◌, IfOk, IfErr, IfSome, Some, None, true, false, map};
+ghost use Rattle.clap.specs.Words.{app_of, found_of, is_simple_and_free, new_app, rows_of, rule_of};
 ghost use Rattle.wind_base.specs.Limits.{most_steps};
 ghost use Rattle.generated_session.specs.Session.{most_rounds};
-ghost use Rattle.wind_session.specs.Command.{app as app_lem, command_of as command_of_lem, number_value, profile_value, board_value, option_rule, value_of as value_of_lem};
+ghost use Rattle.wind_session.specs.Command.{app as app_lem, board_value, command_of as command_of_lem, command_of_rows, machine_value, number_value, option_rule, profile_value, rows_given, value_of as value_of_lem, with_machine_options as with_machine_options_lem, with_session_options as with_session_options_lem};
 ghost use Rattle.wind_session.specs.Words.{command_state};
 ghost use Rattle.wind_session.specs.declared.command.CommandErr.TheVariants as errors;
 
@@ -33,6 +33,15 @@ pub struct Command<'a> {
     pub board: BoardKind,
 }
 
+/// The machine on which a session is played.
+#[derive(Clone, Copy, Debug, PartialEq, Eq)]
+pub struct Machine {
+    /// The rule of inheritance.
+    pub profile: Profile,
+    /// The kind of board.
+    pub board: BoardKind,
+}
+
 /// Why the arguments give no command.
 #[derive(Debug, Drop)]
 pub enum CommandErr {
@@ -53,6 +62,9 @@ impl From<AllocError> for CommandErr {
     }
 }
 
+/// The name of the program.
+pub(crate) const PROGRAM: &str = "windplay";
+
 // The most digits that a number may have.
 const NUMBER_DIGITS: usize = 13;
 
@@ -67,17 +79,15 @@ const BAD_ROUNDS: &str = "'--generate <N>' takes 1 to 13 digits, and at most 100
 // The greatest number of a rule of inheritance.
 const PROFILES: u64 = 2;
 
-/// The message for an invalid rule of inheritance.
-pub const BAD_PROFILE: &str = "'--profile <N>' takes 1 or 2";
+const BAD_PROFILE: &str = "'--profile <N>' takes 1 or 2";
 
 // The greatest number of a kind of board.
 const BOARDS: u64 = 2;
 
-/// The message for an invalid kind of board.
-pub const BAD_BOARD: &str = "'--board <N>' takes 1 or 2";
+const BAD_BOARD: &str = "'--board <N>' takes 1 or 2";
 
-/// The value of decimal digits, at most `most`.
-pub fn number(text: &str, most: u64) -> Option<u64>
+// The value of decimal digits, at most `most`.
+fn number(text: &str, most: u64) -> Option<u64>
     ensures value { result ≡ number_value most text.now }
     ensures within { IfSome result (λ n. n ≤ most) }
 {
@@ -87,8 +97,8 @@ pub fn number(text: &str, most: u64) -> Option<u64>
     decimal(text.as_bytes(), most)
 }
 
-/// The rule of inheritance with this number.
-pub fn profile(text: &str) -> Option<Profile>
+// The rule of inheritance with this number.
+fn profile(text: &str) -> Option<Profile>
     ensures { result ≡ profile_value text.now }
 {
     match number(text, PROFILES)? {
@@ -98,8 +108,8 @@ pub fn profile(text: &str) -> Option<Profile>
     }
 }
 
-/// The kind of board with this number.
-pub fn board(text: &str) -> Option<BoardKind>
+// The kind of board with this number.
+fn board(text: &str) -> Option<BoardKind>
     ensures { result ≡ board_value text.now }
 {
     match number(text, BOARDS)? {
@@ -127,13 +137,32 @@ pub fn option<'a>(
         .help(help)
 }
 
-// The command line, as clap reads it.
-#[tactic(auto, unfolding(crate::specs::Command::app))]
-fn app<'a>(alloc: Global) -> Result<clap::Command<'a>, AllocError>
-    ensures { IfOk result (λ c. app_of c ≡ app_lem) }
+/// A command line with the options that choose the machine.
+pub fn with_machine_options<'a>(
+    alloc: Global,
+    command: clap::Command<'a>,
+) -> Result<clap::Command<'a>, AllocError>
+    ensures { IfOk result (λ c. app_of c ≡ with_machine_options_lem (app_of command.entry)) }
 {
-    clap::Command::new(alloc, "windplay")
-        .about("Plays a session of a wind kernel's shell on a modelled board")
+    command
+        .arg(option(
+            alloc,
+            "profile",
+            "N",
+            "1",
+            "The rule by which owners of mutexes inherit priorities, 1 or 2",
+        ))?
+        .arg(option(alloc, "board", "N", "1", "The kind of board, 1 or 2"))
+}
+
+/// A command line with the options of a session.
+pub fn with_session_options<'a>(
+    alloc: Global,
+    command: clap::Command<'a>,
+) -> Result<clap::Command<'a>, AllocError>
+    ensures { IfOk result (λ c. app_of c ≡ with_session_options_lem (app_of command.entry)) }
+{
+    let command = command
         .arg(option(alloc, "console", "FILE", "console.txt", "The console file"))?
         .arg(option(alloc, "ticks", "FILE", "ticks.txt", "The tick file"))?
         .arg(option(alloc, "modules", "DIR", ".", "The folder of modules"))?
@@ -149,16 +178,51 @@ fn app<'a>(alloc: Global) -> Result<clap::Command<'a>, AllocError>
             "generate",
             "N",
             "0",
-            "Plays a session of N generated rounds, up to 10000, and tells of it in one line",
-        ))?
-        .arg(option(
-            alloc,
-            "profile",
-            "N",
-            "1",
-            "The rule by which owners of mutexes inherit priorities, 1 or 2",
-        ))?
-        .arg(option(alloc, "board", "N", "1", "The kind of board, 1 or 2"))
+            "Plays a session of N generated rounds, up to 10000, in place of the files",
+        ))?;
+    with_machine_options(alloc, command)
+}
+
+/// A command line without options.
+pub fn command_line<'a>(alloc: Global, name: &'a str, about: &'a str) -> clap::Command<'a>
+    ensures { app_of result ≡ new_app name.now }
+{
+    clap::Command::new(alloc, name).about(about)
+}
+
+// The command line of windplay, as clap reads it.
+#[tactic(auto, unfolding(crate::specs::Command::app))]
+fn app<'a>(alloc: Global) -> Result<clap::Command<'a>, AllocError>
+    ensures { IfOk result (λ c. app_of c ≡ app_lem) }
+{
+    let about = "Plays a session of a wind kernel's shell on a modelled board";
+    with_session_options(alloc, command_line(alloc, PROGRAM, about))
+}
+
+// The message of clap for these arguments.
+fn usage(alloc: Global, error: &Error) -> CommandErr {
+    match format!(in alloc; "{error}") {
+        Ok(text) => CommandErr::Usage(text),
+        Err(_) => CommandErr::NoMemory,
+    }
+}
+
+/// What clap finds in these words; the first word is the program's name.
+#[tactic(auto, unfolding(crate::specs::Command::rows_given))]
+pub fn matches_of<'a>(
+    alloc: Global,
+    app: &mut clap::Command<'a>,
+    words: &'a [&'a str],
+) -> Result<ArgMatches<'a>, CommandErr>
+    requires { is_simple_and_free (app_of app.old) ≡ true }
+    ensures ok { IfOk result (λ m. rows_given (app_of app.old) (map (λ w. w.now) words.now) ≡ Some (rows_of (found_of m))) }
+    ensures err { IfErr result (λ e. e ≢ errors.NoMemory → rows_given (app_of app.old) (map (λ w. w.now) words.now) ≡ None) }
+{
+    match app.try_get_matches_from_mut(words) {
+        Ok(matches) => Ok(matches),
+        Err(error) if error.kind() == ErrorKind::OutOfMemory => Err(CommandErr::NoMemory),
+        Err(error) => Err(usage(alloc, &error)),
+    }
 }
 
 /// The value of an option.
@@ -168,53 +232,83 @@ pub fn value_of<'a>(matches: &ArgMatches<'a>, name: &str) -> &'a str
     matches.get_str(name).unwrap_or("")
 }
 
-/// The message of clap for these arguments.
-pub fn usage(alloc: Global, error: &Error) -> CommandErr {
-    match format!(in alloc; "{error}") {
-        Ok(text) => CommandErr::Usage(text),
-        Err(_) => CommandErr::NoMemory,
+/// The number that an option has, at most `most`.
+pub fn number_of(matches: &ArgMatches, name: &str, most: u64) -> Option<u64>
+    ensures value { result ≡ number_value most (value_of_lem name.now (rows_of (found_of matches.now))) }
+    ensures within { IfSome result (λ n. n ≤ most) }
+{
+    number(value_of(matches, name), most)
+}
+
+/// The value of an option; if it is invalid, the error has this message, as clap prints it.
+pub fn valid<T: Drop>(
+    alloc: Global,
+    app: &mut clap::Command<'_>,
+    value: Option<T>,
+    message: &str,
+) -> Result<T, CommandErr>
+    ensures ok { IfOk result (λ v. value ≡ Some v) }
+    ensures err { IfErr result (λ e. e ≢ errors.NoMemory → value ≡ None) }
+{
+    if let Some(value) = value {
+        return Ok(value);
+    }
+    match app.error(ErrorKind::ValueValidation, message) {
+        Ok(error) => Err(usage(alloc, &error)),
+        Err(_) => Err(CommandErr::NoMemory),
     }
 }
 
-/// The message for an invalid value, as clap prints it.
-pub fn bad_value(alloc: Global, app: &mut clap::Command<'_>, text: &str) -> CommandErr {
-    match app.error(ErrorKind::ValueValidation, text) {
-        Ok(error) => usage(alloc, &error),
-        Err(_) => CommandErr::NoMemory,
-    }
+/// The machine that the arguments choose.
+pub fn machine_of(
+    alloc: Global,
+    app: &mut clap::Command<'_>,
+    matches: &ArgMatches,
+) -> Result<Machine, CommandErr>
+    ensures value { IfOk result (λ m. machine_value (rows_of (found_of matches.now)) ≡ Some m) }
+    ensures usage { IfErr result (λ e. e ≢ errors.NoMemory → machine_value (rows_of (found_of matches.now)) ≡ None) }
+{
+    let profile = profile(value_of(matches, "profile"));
+    let profile = valid(alloc, app, profile, BAD_PROFILE)?;
+    let board = board(value_of(matches, "board"));
+    let board = valid(alloc, app, board, BAD_BOARD)?;
+    Ok(Machine { profile, board })
+}
+
+/// The command of a session, from what clap found.
+pub fn command_of_matches<'a>(
+    alloc: Global,
+    app: &mut clap::Command<'_>,
+    matches: &ArgMatches<'a>,
+) -> Result<Command<'a>, CommandErr>
+    ensures value { IfOk result (λ c. command_of_rows (rows_of (found_of matches.now)) ≡ Some (command_state c)) }
+    ensures usage { IfErr result (λ e. e ≢ errors.NoMemory → command_of_rows (rows_of (found_of matches.now)) ≡ None) }
+    ensures within { IfOk result (λ c. (c.limit ≤ most_steps) × (c.generate ≤ most_rounds)) }
+{
+    let limit = number_of(matches, "limit", STEPS);
+    let limit = valid(alloc, app, limit, BAD_LIMIT)?;
+    let generate = number_of(matches, "generate", ROUNDS);
+    let generate = valid(alloc, app, generate, BAD_ROUNDS)?;
+    let Machine { profile, board } = machine_of(alloc, app, matches)?;
+    Ok(Command {
+        console: value_of(matches, "console"),
+        ticks: value_of(matches, "ticks"),
+        modules: value_of(matches, "modules"),
+        limit,
+        generate: generate as u32,
+        profile,
+        board,
+    })
 }
 
 /// The command of these words; the first word is the program's name.
+#[tactic(auto, unfolding(crate::specs::Command::command_of))]
 pub fn command_of<'a>(alloc: Global, words: &'a [&'a str]) -> Result<Command<'a>, CommandErr>
     ensures value { IfOk result (λ c. command_of_lem (map (λ w. w.now) words.now) ≡ Some (command_state c)) }
     ensures usage { IfErr result (λ e. e ≢ errors.NoMemory → command_of_lem (map (λ w. w.now) words.now) ≡ None) }
     ensures within { IfOk result (λ c. (c.limit ≤ most_steps) × (c.generate ≤ most_rounds)) }
 {
     let mut app = app(alloc)?;
-    let matches = match app.try_get_matches_from_mut(words) {
-        Ok(matches) => matches,
-        Err(error) if error.kind() == ErrorKind::OutOfMemory => return Err(CommandErr::NoMemory),
-        Err(error) => return Err(usage(alloc, &error)),
-    };
-    let Some(limit) = number(value_of(&matches, "limit"), STEPS) else {
-        return Err(bad_value(alloc, &mut app, BAD_LIMIT));
-    };
-    let Some(generate) = number(value_of(&matches, "generate"), ROUNDS) else {
-        return Err(bad_value(alloc, &mut app, BAD_ROUNDS));
-    };
-    let Some(profile) = profile(value_of(&matches, "profile")) else {
-        return Err(bad_value(alloc, &mut app, BAD_PROFILE));
-    };
-    let Some(board) = board(value_of(&matches, "board")) else {
-        return Err(bad_value(alloc, &mut app, BAD_BOARD));
-    };
-    Ok(Command {
-        console: value_of(&matches, "console"),
-        ticks: value_of(&matches, "ticks"),
-        modules: value_of(&matches, "modules"),
-        limit,
-        generate: generate as u32,
-        profile,
-        board,
-    })
+    let matches = matches_of(alloc, &mut app, words)?;
+    command_of_matches(alloc, &mut app, &matches)
 }

@@ -9,6 +9,7 @@ use wind_machine::{extend_law, live_law};
 /// The law of the arguments, by example. An option is given at most once, with its value as the
 /// next word or after `=`; otherwise it has its default. Other words, calls for help and invalid
 /// limits are no command.
+#[tactic(auto, unfolding(crate::proofs::CommandLemmas::command_on_literals))]
 pub fn words_law()
     ensures right { RightWords }
     ensures wrong { WrongWords }

@@ -13,12 +13,13 @@ mod resuming;
 mod run;
 
 pub use command::{
-    BAD_BOARD, BAD_PROFILE, Command, CommandErr, bad_value, board, command_of, number, option,
-    profile, usage, value_of,
+    Command, CommandErr, Machine, command_line, command_of, command_of_matches, machine_of,
+    matches_of, number_of, option, valid, value_of, with_machine_options, with_session_options,
 };
 pub use ending::{Ending, Stand, Status, Which};
 pub use laws::{growing_law, words_law};
-pub use playing::play;
+pub use modules::{Move, step};
+pub use playing::{Inputs, inputs_of, play, status_of};
 pub use program::play_program;
 pub use report::{put_pieces, tell, tell_no_memory, tell_usage};
 pub use resuming::resume_board;

@@ -31,7 +31,7 @@ enum Unread {
 
 /// What came of a step.
 #[derive(Clone, Copy, Debug, PartialEq, Eq)]
-pub(crate) enum Move {
+pub enum Move {
     /// The step was made.
     Made,
     /// There is no further step.
@@ -132,12 +132,7 @@ fn load_step<F: Folder>(
 /// Makes the next step, if there is one. If the step needs a module, it is fetched from the folder.
 /// Its path is the name of the folder of modules, `/` and its own name.
 #[inline(always)]
-pub(crate) fn step<F: Folder>(
-    alloc: Global,
-    board: &mut Board,
-    folder: &mut F,
-    modules: &str,
-) -> Move
+pub fn step<F: Folder>(alloc: Global, board: &mut Board, folder: &mut F, modules: &str) -> Move
     requires { (seen ⟦<dyn Device as Device>⟧ board.old).steps < most_steps }
     ensures made { result ≡ moves.Made → (said : FileSaid)
         × IsSaid (record { files = F.files folder.old; name = modules.now }) (seen ⟦<dyn Device as Device>⟧ board.old) said

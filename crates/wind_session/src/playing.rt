@@ -1,13 +1,14 @@
 //! Plays a session.
 
-ghost use Rattle.std.specs.Prelude.{◌≡◌, ◌≢◌, ℕ, ◌<◌, ◌≤◌, ◌^◌, ◌↔◌, List, [], ◌∷◌, Some, None, OnOk, IfOk, IfErr, map, length};
+ghost use Rattle.std.specs.Prelude.{◌≡◌, ◌≢◌, ℕ, ◌<◌, ◌≤◌, ◌^◌, ◌↔◌, List, [], ◌∷◌, Some, None, OnOk, IfOk, IfErr, map, length, codes};
 ghost use Rattle.wind_base.specs.Limits.{most_steps};
 ghost use Rattle.wind_outside.specs.Counts.{Rose};
 ghost use Rattle.wind_outside.specs.Devices.{slots_of};
 ghost use Rattle.board_player.specs.Seen.{seen};
 ghost use Rattle.generated_session.specs.Session.{most_rounds, summary_line};
-ghost use Rattle.wind_outside.specs.Requests.{GrowsBy, Outcome};
-ghost use Rattle.wind_outside.specs.Requests as outcomes;
+ghost use Rattle.wind_outside.specs.Requests.{GrowsBy};
+ghost use Rattle.wind_outside.specs.declared.folder.FetchOutcome.{FetchOutcome};
+ghost use Rattle.wind_outside.specs.declared.folder.FetchOutcome.TheVariants as outcomes;
 ghost use Rattle.wind_session.specs.Command.{command_of as command_of_lem};
 ghost use Rattle.wind_session.specs.Fetches.{LeadsTo, IsAfterFiles, EndsWithFiles, EndsWithRounds, FailsLast, file_requests, rounds_requests, text_request};
 ghost use Rattle.wind_session.specs.Outside.{outside};
@@ -22,7 +23,7 @@ ghost use Rattle.wind_session.specs.Texts.{Tells};
 ghost use Rattle.wind_session.specs.declared.ending.Status.TheVariants as status;
 ghost use Rattle.wind_session.specs.declared.ending.Stand.TheVariants as stands;
 
-use crate::command::{Command, CommandErr, command_of};
+use crate::command::{Command, CommandErr, PROGRAM, command_of};
 use crate::ending::{Ending, Stand, Status, Which};
 use crate::report::{tell, tell_no_memory, tell_usage};
 use crate::run::{RunEnd, Tally, count_board, run_board};
@@ -45,8 +46,8 @@ fn refused(status: Status, devices: Slots) -> Ending
     }
 }
 
-// The status of a run.
-fn status_of(end: RunEnd) -> Status
+/// The status of a run.
+pub fn status_of(end: RunEnd) -> Status
     ensures { result ≡ status_of_lem end }
 {
     match end {
@@ -76,7 +77,7 @@ fn fetched<F: Folder>(
     ensures refused { IfErr result (λ s. IsUnread s file (F.files folder.old) name.now (Rose (F.faults folder.old) (F.faults folder.new))) }
     ensures found { IfOk result (λ bytes. GrowsBy (F.requests folder.old) (F.requests folder.new)
         (text_request name.now outcomes.Found ∷ [])) }
-    ensures unfound { IfErr result (λ s. (outcome : Outcome) × LeadsTo file outcome s ⊥
+    ensures unfound { IfErr result (λ s. (outcome : FetchOutcome) × LeadsTo file outcome s ⊥
         × GrowsBy (F.requests folder.old) (F.requests folder.new) (text_request name.now outcome ∷ [])) }
     ensures known { IfErr result (λ s. s ≢ status.Usage) }
     ensures files { F.files folder.new ≡ F.files folder.old }
@@ -106,11 +107,13 @@ fn schedule_of(alloc: Global, ticks: &[u8]) -> Result<Schedule, Status>
     }
 }
 
-// What a session plays: its console and its schedule.
+/// What a session plays.
 #[derive(Drop)]
-struct Inputs {
-    console: Vec<u8>,
-    schedule: Schedule,
+pub struct Inputs {
+    /// The bytes of the console.
+    pub console: Vec<u8>,
+    /// The events.
+    pub schedule: Schedule,
 }
 
 // Reads the two files of a command; the error says why they can't be played.
@@ -140,8 +143,12 @@ fn generated(alloc: Global, rounds: u32) -> Result<Inputs, NoMemory>
     Ok(Inputs { console, schedule })
 }
 
-// What to play; the error says why nothing is played.
-fn inputs_of<F: Folder>(alloc: Global, command: &Command, folder: &mut F) -> Result<Inputs, Status>
+/// What to play; the error says why nothing is played.
+pub fn inputs_of<F: Folder>(
+    alloc: Global,
+    command: &Command,
+    folder: &mut F,
+) -> Result<Inputs, Status>
     requires { command.now.generate ≤ most_rounds }
     ensures start { IfOk result (λ inputs. IsPlanOf command.now.generate (F.files folder.old) (command_state command.now) (Start inputs.console.items inputs.schedule)) }
     ensures refused { IfErr result (λ s. Refuses s (F.files folder.old) (command_state command.now) (Rose (F.faults folder.old) (F.faults folder.new))) }
@@ -299,7 +306,7 @@ pub fn play<'a, F: Folder, O: Sink, E: Sink>(
     ensures folder_faults { F.faults folder.old ≤ F.faults folder.new }
     ensures out_faults { O.faults out.old ≤ O.faults out.new }
     ensures err_faults { E.faults err.old ≤ E.faults err.new }
-    ensures err { Tells result.status (command_of_lem (map (λ w. w.now) words.now)) (E.bytes err.old) (E.bytes err.new) (Rose (E.faults err.old) (E.faults err.new)) }
+    ensures err { Tells (codes "windplay") result.status (command_of_lem (map (λ w. w.now) words.now)) (E.bytes err.old) (E.bytes err.new) (Rose (E.faults err.old) (E.faults err.new)) }
 {
     let command = match command_of(alloc, words) {
         Ok(command) => command,
@@ -308,11 +315,11 @@ pub fn play<'a, F: Folder, O: Sink, E: Sink>(
             return refused(Status::Usage, devices);
         }
         Err(CommandErr::NoMemory) => {
-            tell_no_memory(err);
+            tell_no_memory(PROGRAM, err);
             return refused(Status::NoMemory, devices);
         }
     };
     let ending = session(alloc, &command, folder, out, devices);
-    tell(err, &command, ending.status);
+    tell(PROGRAM, err, &command, ending.status);
     ending
 }

@@ -1,6 +1,6 @@
 //! The program: a session on a board with the program's devices.
 
-ghost use Rattle.std.specs.Prelude.{◌≡◌, IfErr, IfOk, map};
+ghost use Rattle.std.specs.Prelude.{◌≡◌, IfErr, IfOk, map, codes};
 ghost use Rattle.wind_outside.specs.Counts.{Rose};
 ghost use Rattle.wind_outside.specs.Devices.{slots_of};
 ghost use Rattle.wind_session.specs.Command.{command_of as command_of_lem};
@@ -8,6 +8,7 @@ ghost use Rattle.wind_session.specs.Outside.{outside};
 ghost use Rattle.wind_session.specs.Program.{Ends, Session, opening_devices};
 ghost use Rattle.wind_session.specs.Texts.{Tells};
 
+use crate::command::PROGRAM;
 use crate::ending::Status;
 use crate::playing::play;
 use crate::report::tell_no_memory;
@@ -28,7 +29,7 @@ fn play_on<F: Folder, O: Sink, E: Sink>(
         (Rose (F.faults folder.old) (F.faults folder.new)) (Rose (O.faults out.old) (O.faults out.new))
         (outside (F.requests folder.old) (O.bytes out.old) (O.pieces out.old))
         (outside (F.requests folder.new) (O.bytes out.new) (O.pieces out.new)) }
-    ensures tells { Tells result (command_of_lem (map (λ w. w.now) words.now)) (E.bytes err.old) (E.bytes err.new)
+    ensures tells { Tells (codes "windplay") result (command_of_lem (map (λ w. w.now) words.now)) (E.bytes err.old) (E.bytes err.new)
         (Rose (E.faults err.old) (E.faults err.new)) }
 {
     play(alloc, words, folder, out, err, devices).status
@@ -47,7 +48,7 @@ fn play_with_devices<F: Folder, O: Sink, E: Sink>(
         (Rose (F.faults folder.old) (F.faults folder.new)) (Rose (O.faults out.old) (O.faults out.new))
         (outside (F.requests folder.old) (O.bytes out.old) (O.pieces out.old))
         (outside (F.requests folder.new) (O.bytes out.new) (O.pieces out.new))) }
-    ensures tells { IfOk result (λ s. Tells s (command_of_lem (map (λ w. w.now) words.now)) (E.bytes err.old) (E.bytes err.new)
+    ensures tells { IfOk result (λ s. Tells (codes "windplay") s (command_of_lem (map (λ w. w.now) words.now)) (E.bytes err.old) (E.bytes err.new)
         (Rose (E.faults err.old) (E.faults err.new))) }
     ensures unchanged { IfErr result (λ e. outside (F.requests folder.new) (O.bytes out.new) (O.pieces out.new)
         ≡ outside (F.requests folder.old) (O.bytes out.old) (O.pieces out.old)) }
@@ -82,7 +83,7 @@ pub fn play_program<F: Folder, O: Sink, E: Sink>(
     match play_with_devices(alloc, words, folder, out, err) {
         Ok(status) => status.number(),
         Err(AllocError) => {
-            tell_no_memory(err);
+            tell_no_memory(PROGRAM, err);
             Status::NoMemory.number()
         }
     }

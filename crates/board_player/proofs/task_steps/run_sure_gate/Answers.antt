@@ -8,13 +8,13 @@ use Rattle.board_player.proofs.task_steps.run_sure_gate.Goals as goal
 pub at_gate-requires-clause-unasked : goal.at_gate-requires-clause-unasked
 at_gate-requires-clause-unasked g c =
     unasked_call (parts_by (λ d. (goal.Device-dyn g (d.vtable, d.value)).kind_of d.value) (λ d. (goal.Device-dyn g (d.vtable, d.value)).words_of d.value) c.args.parts.now)
-    c.args.who c.args.at c.args.gate _ c.start_step.ensures.world c.requires.counter c.requires.gate c.requires.asks c.requires.phase
+    c.args.who c.args.at c.args.gate _ c.start_step.ensures.world c.requires.stands.counter c.requires.stands.there c.requires.stands.asks c.requires.stands.phase
 
 pub returns-clause-step : goal.returns-clause-step
 returns-clause-step g c =
     c.end.ensures.step
     ∙ gate_stepped (parts_by (λ d. (goal.Device-dyn g (d.vtable, d.value)).kind_of d.value) (λ d. (goal.Device-dyn g (d.vtable, d.value)).words_of d.value) c.args.parts.now)
-    c.args.who c.args.at c.args.gate _ _ _ c.start_step.ensures.world c.in-Ok.ensures.ok (c.requires.counter ∙ ap (λ (r : Regs). r.pc) (sym c.start_step.ensures.ready.regs)) c.requires.gate
+    c.args.who c.args.at c.args.gate _ _ _ c.start_step.ensures.world c.in-Ok.ensures.ok (c.requires.stands.counter ∙ ap (λ (r : Regs). r.pc) (sym c.start_step.ensures.ready.regs)) c.requires.stands.there
 
 pub at_gate-requires-clause-phase : goal.at_gate-requires-clause-phase
-at_gate-requires-clause-phase g c = λ same. c.requires.phase (let one : c.args.who ≡ 1 = cc in one)
+at_gate-requires-clause-phase g c = λ same. c.requires.stands.phase (let one : c.args.who ≡ 1 = cc in one)

@@ -1,5 +1,5 @@
 use Rattle.std.proofs.Common.{ℕ, get_or, Option, Some, ap, ◌∙◌}
-use Rattle.linked_lists.specs.declared.index.Entry.{Entry}
+use Rattle.id_table.specs.declared.entry.Entry.{Entry}
 use Rattle.linked_lists.proofs.Naming.{entry_at}
 use Rattle.linked_lists.proofs.index.key_at.Goals as goal
 

@@ -1,4 +1,4 @@
-use Rattle.std.proofs.Common.{◌≡◌, ◌∙◌, ◌≤◌, ℕ, List, ap, arith, rules, subst, sym}
+use Rattle.std.proofs.Common.{◌≡◌, ◌∙◌, ℕ, List, ap, arith, rules, subst, sym}
 use Rattle.wind_session.proofs.AppendingLemmas.{rose_earlier}
 use Rattle.live_session.specs.Ending.{IsGoing}
 use Rattle.live_session.specs.Input.{IsLongest, IsPart, Takes}

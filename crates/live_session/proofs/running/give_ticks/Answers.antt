@@ -2,7 +2,6 @@ use Rattle.std.proofs.Common.{◌≡◌, ◌∙◌, arith, rules}
 use Rattle.std.proofs.lemmas.List.{append-nil}
 use Rattle.wind_session.specs.declared.run.RunEnd.TheVariants as ends
 use Rattle.wind_session.proofs.AppendingLemmas.{rose_earlier}
-use Rattle.live_session.specs.Ending.{IsGoing}
 use Rattle.live_session.proofs.Flow.{goes_on, on_shelf, quiet_going}
 use Rattle.live_session.proofs.running.give_ticks.Goals as goal
 

@@ -1,6 +1,6 @@
 use Rattle.std.proofs.Common.{◌∙◌, ◌∷◌, [], Some, true, sym, ap, subst}
 use Rattle.std.specs.Str.{IsUtf8}
-use Rattle.wind_outside.specs.Requests as outcomes
+use Rattle.wind_outside.specs.declared.folder.FetchOutcome.TheVariants as outcomes
 use Rattle.live_loading.specs.Said.{Held, TooLong, Missing}
 use Rattle.wind_session.specs.Modules.{IsSaidBy, module_path}
 use Rattle.wind_outside.specs.Requests.{GrowsBy}

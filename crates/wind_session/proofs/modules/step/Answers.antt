@@ -1,6 +1,6 @@
 use Rattle.std.proofs.Common.{◌≡◌, ◌∙◌, Some, None, refl, sym, subst}
 use Rattle.live_loading.specs.Said.{Missing}
-use Rattle.wind_outside.specs.Requests as outcomes
+use Rattle.wind_outside.specs.declared.folder.FetchOutcome.TheVariants as outcomes
 use Rattle.wind_outside.specs.Requests.{GrowsBy}
 use Rattle.wind_session.specs.Fetches.{step_request}
 use Rattle.wind_session.proofs.FetchLemmas.{grows_none, stops_before}

@@ -1,6 +1,6 @@
 use Rattle.std.proofs.Common.{refl}
 use Rattle.wind_outside.specs.Counts.{Rose}
-use Rattle.wind_outside.specs.Requests as outcomes
+use Rattle.wind_outside.specs.declared.folder.FetchOutcome.TheVariants as outcomes
 use Rattle.wind_session.proofs.PlanLemmas.{held_found, unread_missing, unread_long, unread_fault, unread_memory}
 use Rattle.wind_session.proofs.playing.fetched.Goals as goal
 

@@ -1,4 +1,4 @@
-use Rattle.std.proofs.Common.{Bor, List, Option, map, refl, sym, subst, ℕ}
+use Rattle.std.proofs.Common.{Bor, List, Option, map, refl, sym, subst, ℕ, codes}
 use Rattle.wind_outside.specs.Counts.{Rose}
 use Rattle.wind_session.specs.Command.{CommandState, command_of}
 use Rattle.wind_session.specs.Headline.{IsComplete}
@@ -24,7 +24,7 @@ returns-in-Err-NoMemory-clause-machine g c =
 
 pub returns-in-Err-NoMemory-clause-err : goal.returns-in-Err-NoMemory-clause-err
 returns-in-Err-NoMemory-clause-err g c =
-    rw c.refused-in-Err-NoMemory.ensures (record { text = memory_text; text_is = memory_is_text _; printed = c.tell_no_memory.ensures.printed })
+    rw c.refused-in-Err-NoMemory.ensures (record { text = memory_text (codes "windplay"); text_is = memory_is_text (codes "windplay") _; printed = c.tell_no_memory.ensures.printed })
 
 -- playing is complete if the session of the command is
 pub returns-clause-complete : goal.returns-clause-complete

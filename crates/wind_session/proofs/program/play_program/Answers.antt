@@ -1,4 +1,5 @@
 use Rattle.std.proofs.Common.{subst}
+use Rattle.std.specs.Prelude.{codes}
 use Rattle.wind_outside.specs.Counts.{Rose}
 use Rattle.wind_session.specs.Texts.{IsPrinted, memory_text}
 use Rattle.wind_session.specs.declared.ending.Status.TheVariants as status
@@ -11,15 +12,16 @@ pub returns-in-Err : goal.returns-in-Err
 returns-in-Err g c =
     let after = g.E.Sink.bytes c.tell_no_memory.new.err in
     let faults = g.E.Sink.faults c.tell_no_memory.new.err in
+    let text = memory_text (codes "windplay") in
     record {
       ended = status.NoMemory;
       number_is = c.number-in-Err.ensures;
       session = session_unmade _ _ _ _ _ _ c.in-Err.ensures.unchanged;
       tells = record {
-        text = memory_text;
-        text_is = memory_is_text _;
+        text = text;
+        text_is = memory_is_text (codes "windplay") _;
         printed =
-            subst (λ b. IsPrinted b after memory_text (Rose (g.E.Sink.faults c.args.err.now) faults)) c.in-Err.ensures.unprinted
-            (subst (λ n. IsPrinted (g.E.Sink.bytes c.play_with_devices.new.err) after memory_text (Rose n faults)) c.in-Err.ensures.unfailed c.tell_no_memory.ensures.printed);
+            subst (λ b. IsPrinted b after text (Rose (g.E.Sink.faults c.args.err.now) faults)) c.in-Err.ensures.unprinted
+            (subst (λ n. IsPrinted (g.E.Sink.bytes c.play_with_devices.new.err) after text (Rose n faults)) c.in-Err.ensures.unfailed c.tell_no_memory.ensures.printed);
       };
     }

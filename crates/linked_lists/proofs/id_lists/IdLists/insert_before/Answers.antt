@@ -1,4 +1,4 @@
-use Rattle.std.proofs.Common.{ap, ◌∙◌, sym, subst, arith, length, set, Some, ◌<◌, ◌≡◌, ℕ}
+use Rattle.std.proofs.Common.{ap, ◌∙◌, sym, subst, arith, length, set, Some, ◌≡◌, ℕ}
 use Rattle.std.specs.Prelude.{IsSome}
 use Rattle.std.proofs.lemmas.List.{length-map}
 use Rattle.linked_lists.specs.Chains.{value_of, value_in, chain_at, all_cells, put_before, with_cell}

@@ -1,6 +1,7 @@
 use Rattle.std.proofs.Common.{ap, ◌∙◌, sym, subst, arith, length, map, Some, ◌+◌}
 use Rattle.linked_lists.specs.Chains.{cell_key, value_of, all_cells, without_cell}
-use Rattle.linked_lists.specs.Named.{entry_id, IsIndexed, named, named_chains}
+use Rattle.id_table.specs.Entries.{entry_id}
+use Rattle.linked_lists.specs.Named.{IsIndexed, named, named_chains}
 use Rattle.wind_lists.specs.Records.{without}
 use Rattle.wind_lists.proofs.Places.{remove_place}
 use Rattle.std.proofs.lemmas.Option.{same_Some}

@@ -2,7 +2,7 @@ use Rattle.std.proofs.Common.{ap, ◌∙◌, sym, subst, arith, map}
 use Rattle.std.specs.Prelude.{IsSome}
 use Rattle.linked_lists.specs.Chains.{value_of, hold, with_value}
 use Rattle.linked_lists.specs.Named.{named, named_chains, IsIndexed}
-use Rattle.linked_lists.specs.declared.index.Entry.{Entry}
+use Rattle.id_table.specs.declared.entry.Entry.{Entry}
 use Rattle.linked_lists.proofs.Naming.{has_entry, entry_node, cells_alike, named_alike}
 use Rattle.linked_lists.proofs.Standing.{indexed_hold, chains_hold}
 use Rattle.linked_lists.proofs.id_lists.IdLists.set.Goals as goal

@@ -2,7 +2,7 @@ use Rattle.std.proofs.Common.{ap, ◌∙◌, sym, subst, Some}
 use Rattle.std.specs.Prelude.{IsSome}
 use Rattle.std.proofs.lemmas.Option.{same_Some}
 use Rattle.linked_lists.specs.Chains.{value_of}
-use Rattle.linked_lists.specs.declared.index.Entry.{Entry}
+use Rattle.id_table.specs.declared.entry.Entry.{Entry}
 use Rattle.linked_lists.proofs.Naming.{has_entry, entry_node, entry_value}
 use Rattle.linked_lists.proofs.id_lists.IdLists.value.Goals as goal
 

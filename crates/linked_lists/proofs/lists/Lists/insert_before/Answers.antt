@@ -1,10 +1,10 @@
-use Rattle.std.proofs.Common.{ap, ◌∙◌, sym, subst, arith, length, set, Some, ◌<◌}
+use Rattle.std.proofs.Common.{ap, ◌∙◌, refl, sym, subst, length, Some, ◌<◌}
 use Rattle.std.specs.Prelude.{IsSome}
 use Rattle.slab.specs.Slab as slabs
-use Rattle.linked_lists.specs.Chains.{value_of, value_in, chain_at, all_cells, put_before, with_cell}
-use Rattle.linked_lists.specs.Inside.{IsKept, chains_in, key_before, goes_on}
-use Rattle.linked_lists.proofs.Keeping.{key_before_is, before_there, value_node, split_next, some_updated, some_aimed, kept_inserted, kept_view, key_is_new, chains_alike, ends_length}
-use Rattle.linked_lists.proofs.Nodes.{kept_again}
+use Rattle.linked_lists.specs.Chains.{value_of, value_in, chain_at}
+use Rattle.linked_lists.specs.Inside.{chains_in, key_before, goes_on}
+use Rattle.linked_lists.proofs.Keeping.{before_there, value_node, split_next, some_updated, some_aimed, key_is_new, ends_length}
+use Rattle.linked_lists.proofs.Nodes.{inserted_in}
 use Rattle.linked_lists.proofs.lists.Lists.insert_before.Goals as goal
 
 pub node_before-before-requires : goal.node_before-before-requires
@@ -41,19 +41,9 @@ link_before-requires-clause-after g c x e =
 pub invariant_of-self : goal.invariant_of-self
 invariant_of-self g c =
     let k = c.self.inside in
-    let cs = chains_in k.nodes k.ends.items in
-    let within = subst (λ t. c.args.list < length t.chains) (sym c.self.view_is) c.requires.list in
-    let split = split_next (chain_at cs c.args.list) c.args.next (c.insert_reserved-key.result, c.args.value) (λ j q. subst (λ t. IsSome (value_in (chain_at t.chains c.args.list) j)) (sym c.self.view_is) (c.requires.next j q)) in
-    let is = kept_inserted k.nodes c.insert_reserved-key.new.self k.ends.items cs k.room c.args.list c.insert_reserved-key.result c.args.next c.node_before-before.result c.args.value c.self.invariant within split
-    (c.node_before-before.ensures ∙ ap (λ es. key_before k.nodes es c.args.list c.args.next) c.deref.ensures.value ∙ key_before_is k.nodes k.ends.items cs k.room c.args.list c.args.next (c.insert_reserved-key.result, c.args.value) c.self.invariant within split)
-    c.insert_reserved-key.ensures.was_vacant c.insert_reserved-key.ensures.updates c.insert_reserved-key.ensures.len c.insert_reserved-key.ensures.capacity
-    (omega (arith, c.self.invariant.all, ap (λ t. length (all_cells t.chains)) c.self.view_is, ap (λ t. t.room) c.self.view_is, c.requires.room)) in
-    let nodes = c.link_before.new.nodes in
-    let ends = c.link_before.new.ends.items in
-    let new = set cs c.args.list (put_before c.args.next (c.insert_reserved-key.result, c.args.value) (chain_at cs c.args.list)) in
-    let now : IsKept nodes ends new k.room =
-    rw (c.link_before.ensures.nodes, c.link_before.ensures.ends, c.link_after.ensures.nodes, c.link_after.ensures.ends) is in
-    kept_again nodes ends new k.room now
+    (inserted_in k.nodes c.insert_reserved-key.new.self c.link_before.new.nodes k.ends.items c.link_before.new.ends.items k.room c.args.list c.insert_reserved-key.result c.args.next c.node_before-before.result c.args.value c.args.self.now
+    c.self.invariant c.self.view_is c.requires.list c.requires.next c.requires.room (c.node_before-before.ensures ∙ ap (λ es. key_before k.nodes es c.args.list c.args.next) c.deref.ensures.value) c.insert_reserved-key.ensures.was_vacant c.insert_reserved-key.ensures.updates
+    c.insert_reserved-key.ensures.len c.insert_reserved-key.ensures.capacity (rw (c.link_before.ensures.nodes, c.link_after.ensures.nodes) refl) (rw (c.link_before.ensures.ends, c.link_after.ensures.ends) refl)).0
 
 pub returns-clause-fresh : goal.returns-clause-fresh
 returns-clause-fresh g c =
@@ -64,17 +54,6 @@ returns-clause-fresh g c =
 pub returns-clause-chains : goal.returns-clause-chains
 returns-clause-chains g c =
     let k = c.self.inside in
-    let cs = chains_in k.nodes k.ends.items in
-    let within = subst (λ t. c.args.list < length t.chains) (sym c.self.view_is) c.requires.list in
-    let split = split_next (chain_at cs c.args.list) c.args.next (c.insert_reserved-key.result, c.args.value) (λ j q. subst (λ t. IsSome (value_in (chain_at t.chains c.args.list) j)) (sym c.self.view_is) (c.requires.next j q)) in
-    let is = kept_inserted k.nodes c.insert_reserved-key.new.self k.ends.items cs k.room c.args.list c.insert_reserved-key.result c.args.next c.node_before-before.result c.args.value c.self.invariant within split
-    (c.node_before-before.ensures ∙ ap (λ es. key_before k.nodes es c.args.list c.args.next) c.deref.ensures.value ∙ key_before_is k.nodes k.ends.items cs k.room c.args.list c.args.next (c.insert_reserved-key.result, c.args.value) c.self.invariant within split)
-    c.insert_reserved-key.ensures.was_vacant c.insert_reserved-key.ensures.updates c.insert_reserved-key.ensures.len c.insert_reserved-key.ensures.capacity
-    (omega (arith, c.self.invariant.all, ap (λ t. length (all_cells t.chains)) c.self.view_is, ap (λ t. t.room) c.self.view_is, c.requires.room)) in
-    let nodes = c.link_before.new.nodes in
-    let ends = c.link_before.new.ends.items in
-    let new = set cs c.args.list (put_before c.args.next (c.insert_reserved-key.result, c.args.value) (chain_at cs c.args.list)) in
-    let now : IsKept nodes ends new k.room =
-    rw (c.link_before.ensures.nodes, c.link_before.ensures.ends, c.link_after.ensures.nodes, c.link_after.ensures.ends) is in
-    chains_alike (chains_in nodes ends) new k.room (kept_view nodes ends new k.room now)
-    ∙ ap (λ t. with_cell t c.args.list c.args.next (c.insert_reserved-key.result, c.args.value)) c.self.view_is
+    (inserted_in k.nodes c.insert_reserved-key.new.self c.link_before.new.nodes k.ends.items c.link_before.new.ends.items k.room c.args.list c.insert_reserved-key.result c.args.next c.node_before-before.result c.args.value c.args.self.now
+    c.self.invariant c.self.view_is c.requires.list c.requires.next c.requires.room (c.node_before-before.ensures ∙ ap (λ es. key_before k.nodes es c.args.list c.args.next) c.deref.ensures.value) c.insert_reserved-key.ensures.was_vacant c.insert_reserved-key.ensures.updates
+    c.insert_reserved-key.ensures.len c.insert_reserved-key.ensures.capacity (rw (c.link_before.ensures.nodes, c.link_after.ensures.nodes) refl) (rw (c.link_before.ensures.ends, c.link_after.ensures.ends) refl)).1

@@ -12,13 +12,13 @@ use Rattle.sem_mutex.proofs.mutexes.Mutexes.delete.Goals as goal
 
 pub end_owner-requires-clause-since : goal.end_owner-requires-clause-since
 end_owner-requires-clause-since c =
-    omega (arith, since_woken c.args.k.now c.wake_all.new.self (mutex_place c.in-Some.id) error_word (Some errors.ObjDeleted) c.facts.ensures c.wake_all.ensures, c.requires.since)
+    omega (arith, since_woken c.args.k.now c.wake_all.new.self (mutex_place c.in_ok-id.id) error_word (Some errors.ObjDeleted) c.in_ok-id.ensures.kern c.wake_all.ensures, c.requires.since)
 
 pub returns : goal.returns
 returns c =
     let s = both c.args.k.now c.args.self.now in
-    let f = found c.args.self.now.rows c.args.id c.in-Some.id c.in-Some.ensures in
-    let d = deleted s c.args.id c.wake_all.new.self c.end_owner.new.k (record { profile = c.self.inside.profile; rows = c.remove.new.self.rows }) c.facts.ensures c.facts-2.ensures c.requires.kept f.there
+    let f = found c.args.self.now.rows c.args.id c.in_ok-id.id c.in_ok-id.ensures.ok in
+    let d = deleted s c.args.id c.wake_all.new.self c.end_owner.new.k (record { profile = c.self.inside.profile; rows = c.remove.new.self.rows }) c.in_ok-id.ensures.kern c.in_ok-id.ensures.mutexes c.requires.kept f.there
     (c.wake_all.ensures ∙ ap (λ i. wake_all c.args.k.now (mutex_place i) error_word (Some errors.ObjDeleted)) f.same)
     (c.end_owner.ensures ∙ ap (λ i. its_owner_ended c.args.self.now.profile c.wake_all.new.self (object_of c.args.self.now.rows i)) f.same)
     (ap (λ (live : LiveMutexes). live.profile) c.self.view_is)

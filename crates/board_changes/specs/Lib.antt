@@ -1,0 +1,4 @@
+pub mod Views
+pub mod Tasks
+pub mod Watchdogs
+pub mod Modules

@@ -1,0 +1,92 @@
+-- What a step changes of tasks, from the views before and after it.
+use Rattle.std.specs.Prelude.{ℕ, Bool, true, false, ◌==◌, ◌&&◌, if◌then◌else◌, List, [], ◌∷◌, ◌++◌, Option, None, Some}
+use Rattle.wind_base.specs.Limits.{error_word}
+use Rattle.wind_lists.specs.Records.{of_id}
+use Rattle.board_changes.specs.Views.{task_id}
+use Rattle.board_changes.specs.declared.awaited.Awaited.{Awaited}
+use Rattle.board_changes.specs.declared.awaited.Awaited.TheVariants as awaited
+use Rattle.board_changes.specs.declared.view.TaskView.{TaskView}
+use Rattle.board_changes.specs.declared.change.Change.{Change}
+use Rattle.board_changes.specs.declared.change.Change.TheVariants as changes
+
+-- the view of the task with this id
+abbrev pub found : List TaskView → ℕ → Option TaskView
+found views id = of_id task_id views id
+
+-- ---- waits and sleeps
+-- a task begins to wait for something
+abbrev pub begins : TaskView → Awaited → Change
+begins t object = changes.Waits t.id object t.wake
+
+-- the end of such a wait gives the task's call a result: all but those for a deletion and for the console do
+abbrev pub has_result : Awaited → Bool
+has_result (awaited.Semaphore id) = true
+has_result (awaited.Mutex id) = true
+has_result (awaited.Receiving id) = true
+has_result (awaited.Sending id) = true
+has_result (awaited.Deletion id) = false
+has_result awaited.Console = false
+
+-- a task's wait ends: with ERROR and an error number, with another result, or without a result
+abbrev pub ends : Bool → TaskView → Awaited → Change
+ends results t object =
+    if results && has_result object then (if t.answer == error_word then changes.Failed t.id object t.errno else changes.Served t.id object t.answer)
+    else changes.GoesOn t.id object
+
+-- a task begins to sleep until a tick, or its sleep ends
+abbrev pub sleep_changes : ℕ → Option ℕ → Option ℕ → List Change
+sleep_changes who None None = []
+sleep_changes who None (Some tick) = changes.Sleeps who tick ∷ []
+sleep_changes who (Some old) None = changes.Wakes who ∷ []
+sleep_changes who (Some old) (Some tick) = if old == tick then [] else changes.Sleeps who tick ∷ []
+
+-- a wait begins or ends; a task that waits for nothing may begin or end to sleep; a task that waits makes no call, so
+-- it waits for the same as before
+abbrev pub wait_cases : Bool → TaskView → TaskView → Option Awaited → Option Awaited → List Change
+wait_cases results b t None None = sleep_changes t.id b.wake t.wake
+wait_cases results b t None (Some object) = begins t object ∷ []
+wait_cases results b t (Some object) None = ends results t object ∷ []
+wait_cases results b t (Some object) (Some same) = []
+
+abbrev pub wait_changes : Bool → TaskView → TaskView → List Change
+wait_changes results b t = wait_cases results b t b.wait t.wait
+
+-- ---- suspension and priority
+-- a suspension begins or ends
+abbrev pub suspension_changes : ℕ → Bool → Bool → List Change
+suspension_changes who false true = changes.Suspended who ∷ []
+suspension_changes who true false = changes.Resumed who ∷ []
+suspension_changes who false false = []
+suspension_changes who true true = []
+
+-- the priority changes; by inheritance, if the normal priority is the same
+abbrev pub priority_changes : TaskView → TaskView → List Change
+priority_changes b t = if b.pri == t.pri then [] else changes.Priority t.id b.pri t.pri (b.normal == t.normal) ∷ []
+
+-- ---- one task, and all tasks
+-- a task that lives before and after the step
+abbrev pub kept_changes : Bool → TaskView → TaskView → List Change
+kept_changes results b t = wait_changes results b t ++ (suspension_changes t.id b.suspended t.suspended ++ priority_changes b t)
+
+-- a task that lives after the step
+abbrev pub changes_of : Bool → Option TaskView → TaskView → List Change
+changes_of results None t = changes.Spawned t.id t.pri ∷ []
+changes_of results (Some b) t = kept_changes results b t
+
+-- the tasks that live after the step, in their order
+abbrev pub live_changes : Bool → List TaskView → List TaskView → List Change
+live_changes results before [] = []
+live_changes results before (t ∷ ts) = changes_of results (found before t.id) t ++ live_changes results before ts
+
+-- a task that lives before the step is gone if it isn't found after it
+abbrev pub deletion : ℕ → Option TaskView → List Change
+deletion who None = changes.Deleted who ∷ []
+deletion who (Some t) = []
+
+abbrev pub deletions : List TaskView → List TaskView → List Change
+deletions after [] = []
+deletions after (b ∷ bs) = deletion b.id (found after b.id) ++ deletions after bs
+
+-- what a step changes of tasks
+abbrev pub task_changes : Bool → List TaskView → List TaskView → List Change
+task_changes results before after = live_changes results before after ++ deletions after before

@@ -1,0 +1,18 @@
+-- Collecting what is made of each item of a list.
+use Rattle.std.proofs.Common.{◌≡◌, ℕ, suc, ◌+◌, ◌<◌, ◌≤◌, List, [], ◌∷◌, ◌++◌, length, map, drop, get_or, ap, sym, ◌∙◌, append_assoc, add-one}
+use Rattle.std.proofs.lemmas.List.{append-nil}
+use Rattle.std.proofs.Math.Seq.{drop-cons}
+use Rattle.std.proofs.Math.ListN.{drop_of_length-le}
+
+-- one more item
+pub next_item : {A B : Type 0} (f : A → B) (items new all : List B) (xs : List A) (i : ℕ) (x : A)
+    → i < length xs → x ≡ get_or xs i x → items ++ map f (drop i xs) ≡ all → new ≡ items ++ f x ∷ [] → new ++ map f (drop (i + 1) xs) ≡ all
+next_item f items new all xs i x less here before w =
+    let later = map f (drop (suc i) xs) in
+    let first : drop i xs ≡ x ∷ drop (suc i) xs = drop-cons xs i x less ∙ ap (λ y. y ∷ drop (suc i) xs) (sym here) in
+    ap (λ n. new ++ map f (drop n xs)) (add-one i) ∙ ap (λ p. p ++ later) w ∙ append_assoc items (f x ∷ []) later
+    ∙ ap (λ ys. items ++ map f ys) (sym first) ∙ before
+
+-- all items
+pub all_items : {A B : Type 0} (f : A → B) (items all : List B) (xs : List A) (i : ℕ) → length xs ≤ i → items ++ map f (drop i xs) ≡ all → items ≡ all
+all_items f items all xs i end before = sym (append-nil items) ∙ ap (λ ys. items ++ map f ys) (sym (drop_of_length-le xs end)) ∙ before

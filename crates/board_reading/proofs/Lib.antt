@@ -1,0 +1,3 @@
+mod Collecting
+mod Taking
+mod Reading

@@ -1,0 +1,98 @@
+//! What is read of a board before its next step.
+
+ghost use Rattle.std.specs.Prelude.{◌≡◌, ◌<◌, IfOk, OnErr, true};
+ghost use Rattle.wind_base.specs.Limits.{most_steps};
+ghost use Rattle.kernel_world.specs.Seen.{world_seen};
+ghost use Rattle.wind_machine.specs.Machine.{actor_of, may_exhaust_memory};
+ghost use Rattle.board_player.specs.Seen.{seen};
+ghost use Rattle.board_trace.specs.Before.{before_step, call_there, counter_at, gate_there, is_on_processor as is_on_processor_lem, owner_named as owner_named_lem};
+
+use board_actors::shell_id;
+use board_player::Board;
+use board_trace::{BeforeStep, mutex_of};
+use kernel_world::{Actor, Call, World, caller_regs, gate_at, is_shell, read_call};
+use wind_base::{Gate, NoMemory};
+use wind_machine::{Next, Phase};
+use wind_outside::Device;
+
+/// Who makes a step, if a task or a routine does.
+pub fn runner_of(next: &Next) -> Option<Actor>
+    ensures { result ≡ actor_of next.now }
+{
+    match next {
+        Next::Routine => Some(Actor::Interrupt),
+        Next::Act(who) => Some(Actor::Task(*who)),
+        Next::Load(_) => Some(Actor::Task(shell_id())),
+        Next::Deliver(_) | Next::Come(_) | Next::Arrive | Next::Jump(_) | Next::Over => None,
+    }
+}
+
+// Whether a task or routine makes instructions and calls; the shell's task does so only during a
+// call of the shell.
+fn is_on_processor(phase: Phase, who: &Actor) -> bool
+    ensures { result ≡ is_on_processor_lem phase who.now }
+{
+    !is_shell(who) || matches!(phase, Phase::Call)
+}
+
+// The program counter of who makes a step.
+fn counter_of(world: &World, phase: Phase, next: &Next) -> Option<u32>
+    ensures { result ≡ counter_at phase (world_seen ⟦<dyn Device as Device>⟧ world.now) (actor_of next.now) }
+{
+    let who = runner_of(next)?;
+    if !is_on_processor(phase, &who) {
+        return None;
+    }
+    Some(caller_regs(&world.kern, &world.watch, &who).pc)
+}
+
+// The call that who makes a step makes at a gate.
+fn call_at(world: &World, next: &Next, gate: Option<Gate>) -> Option<Call>
+    ensures { result ≡ call_there (world_seen ⟦<dyn Device as Device>⟧ world.now) (actor_of next.now) gate }
+{
+    read_call(world, gate?, &runner_of(next)?)
+}
+
+/// The owner of the mutex that a call names.
+pub(crate) fn owner_named(world: &World, call: &Option<Call>) -> Option<u32>
+    ensures { result ≡ owner_named_lem (world_seen ⟦<dyn Device as Device>⟧ world.now) call.now }
+{
+    match call {
+        Some(call) => world.objects.mutexes.owner(mutex_of(call)?),
+        None => None,
+    }
+}
+
+// The gate at an address.
+fn gate_there_at(world: &World, at: Option<u32>) -> Option<Gate>
+    ensures { result ≡ gate_there (world_seen ⟦<dyn Device as Device>⟧ world.now) at }
+{
+    gate_at(world.board, at?)
+}
+
+/// Reads what a trace needs of a board before its next step.
+pub fn look_before(board: &Board) -> Result<BeforeStep, NoMemory>
+    requires { (seen ⟦<dyn Device as Device>⟧ board.now).steps < most_steps }
+    ensures value { IfOk result (λ c. c ≡ before_step (seen ⟦<dyn Device as Device>⟧ board.now)) }
+    ensures no_memory { OnErr result (may_exhaust_memory (seen ⟦<dyn Device as Device>⟧ board.now) ≡ true) }
+{
+    let next = board.what_comes()?;
+    let world = board.world();
+    let actor = runner_of(&next);
+    let at = counter_of(world, board.phase(), &next);
+    let gate = gate_there_at(world, at);
+    let call = call_at(world, &next, gate);
+    let owner = owner_named(world, &call);
+    Ok(BeforeStep {
+        next,
+        actor,
+        at,
+        gate,
+        call,
+        owner,
+        time: board.time(),
+        step: board.steps() + 1,
+        phase: board.phase(),
+        left: board.left().len() as u64,
+    })
+}

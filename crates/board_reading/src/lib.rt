@@ -1,0 +1,14 @@
+//! What a trace reads of a board before and after each step.
+#![tactic(auto)]
+
+mod after;
+mod before;
+mod running;
+mod snapshot;
+mod waited;
+
+pub use after::look_after;
+pub use before::{look_before, runner_of};
+pub use running::{last_actor, runner};
+pub use snapshot::{empty_snapshot, take_snapshot};
+pub use waited::awaited_by;

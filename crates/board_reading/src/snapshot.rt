@@ -1,0 +1,99 @@
+//! What a trace keeps of a state until the step after it is made.
+
+ghost use Rattle.std.specs.Prelude.{◌≡◌, ◌++◌, ◌∷◌, [], None, map, IfOk, OnOk};
+ghost use Rattle.id_table.specs.Rows.{ids as ids_lem, objects as objects_lem};
+ghost use Rattle.kernel_world.specs.Seen.{world_seen};
+ghost use Rattle.board_changes.specs.Views.{view_of_watchdog};
+ghost use Rattle.board_trace.specs.Snapshots.{snapshot_of, view_in};
+ghost use Rattle.board_trace.specs.Views.{snapshot_state};
+
+use crate::waited::awaited_by;
+use board_changes::{TaskView, WatchdogView, task_view, watchdog_view};
+use board_trace::Snapshot;
+use id_table::{Ident, Table};
+use isr_watch::Watchdog;
+use kernel_world::{Objects, World};
+use module_loader::Modules;
+use std::alloc::Global;
+use wind_base::NoMemory;
+use wind_base::limits::{MODULES, TASKS, WATCHDOGS};
+use wind_core::Kern;
+use wind_outside::Device;
+
+// Adds an item at the end.
+fn add<T: Drop>(list: &mut Vec<T>, item: T) -> Result<(), NoMemory>
+    ensures { OnOk result (list.new.items ≡ list.old.items ++ item ∷ []) }
+{
+    if list.push(item).is_err() {
+        return Err(NoMemory);
+    }
+    Ok(())
+}
+
+// Takes the views of the tasks.
+fn take_tasks(views: &mut Vec<TaskView>, kern: &Kern, objects: &Objects) -> Result<(), NoMemory>
+    ensures { OnOk result (views.new.items ≡ map (view_in objects.now) kern.now.tasks) }
+{
+    views.clear();
+    for place in 0..kern.live() {
+        let task = kern.task_at(place);
+        add(views, task_view(task, awaited_by(objects, task)))?;
+    }
+    Ok(())
+}
+
+// Takes the views of the watchdogs.
+fn take_watchdogs(
+    views: &mut Vec<WatchdogView>,
+    watchdogs: &Table<Watchdog>,
+) -> Result<(), NoMemory>
+    ensures { OnOk result (views.new.items ≡ map view_of_watchdog (objects_lem watchdogs.now.rows)) }
+{
+    views.clear();
+    for place in 0..watchdogs.len() {
+        add(views, watchdog_view(watchdogs.value_at(place)))?;
+    }
+    Ok(())
+}
+
+// Takes the ids of the modules.
+fn take_modules(taken: &mut Vec<Ident>, modules: &Modules) -> Result<(), NoMemory>
+    ensures { OnOk result (taken.new.items ≡ ids_lem modules.now.rows) }
+{
+    modules.facts();
+    taken.clear();
+    let mut last = 0;
+    while let Some(id) = modules.next_after(last) {
+        last = id.get();
+        add(taken, id)?;
+    }
+    Ok(())
+}
+
+/// An empty snapshot with room for the most tasks, watchdogs and modules.
+pub fn empty_snapshot(alloc: Global) -> Result<Snapshot, NoMemory>
+    ensures { IfOk result (λ s. snapshot_state s
+        ≡ record { tasks = []; watchdogs = []; modules = []; last = None }) }
+{
+    let tasks = Vec::with_capacity(alloc, TASKS as usize)?;
+    let watchdogs = Vec::with_capacity(alloc, WATCHDOGS as usize)?;
+    let modules = Vec::with_capacity(alloc, MODULES as usize)?;
+    Ok(Snapshot {
+        tasks,
+        watchdogs,
+        modules,
+        last: None,
+    })
+}
+
+/// Makes this the snapshot of a world.
+pub fn take_snapshot(snapshot: &mut Snapshot, world: &World) -> Result<(), NoMemory>
+    ensures { OnOk result (snapshot_state snapshot.new
+        ≡ snapshot_of (world_seen ⟦<dyn Device as Device>⟧ world.now)) }
+{
+    take_tasks(&mut snapshot.tasks, &world.kern, &world.objects)?;
+    take_watchdogs(&mut snapshot.watchdogs, world.watch.watchdogs())?;
+    take_modules(&mut snapshot.modules, &world.mods)?;
+    snapshot.last = world.kern.last();
+    Ok(())
+}

@@ -1,0 +1,96 @@
+-- What is read of a state before the next step.
+use Rattle.std.specs.Prelude.{ℕ, ◌+◌, ◌==◌, ◌||◌, not, Bool, true, false, if◌then◌else◌, length, Option, None, Some}
+use Rattle.wind_base.specs.Boards.{board_rules}
+use Rattle.wind_base.specs.Gates.{gate_at}
+use Rattle.wind_base.specs.declared.gate.Gate.{Gate}
+use Rattle.id_table.specs.Rows.{object_of}
+use Rattle.inheritance.specs.Mutexes.{owner_in as owner_of}
+use Rattle.kernel_world.specs.State.{WorldState}
+use Rattle.kernel_world.specs.Actors.{is_shell}
+use Rattle.kernel_world.specs.CallWords.{call_by}
+use Rattle.kernel_world.specs.declared.actor.Actor.{Actor}
+use Rattle.kernel_world.specs.declared.call.Call.{Call}
+use Rattle.kernel_world.specs.declared.call.Call.TheVariants as calls
+use Rattle.wind_machine.specs.State.{State}
+use Rattle.wind_machine.specs.Next.{next}
+use Rattle.wind_machine.specs.Machine.{actor_of}
+use Rattle.wind_machine.specs.Processor.{regs_of}
+use Rattle.wind_machine.specs.declared.phase.Phase.{Phase}
+use Rattle.wind_machine.specs.declared.phase.Phase.TheVariants as phases
+use Rattle.board_trace.specs.declared.moment.BeforeStep.{BeforeStep}
+
+-- the shell's task makes instructions and calls only during a call of the shell
+abbrev pub is_calling : Phase → Bool
+is_calling phases.Call = true
+is_calling p = false
+
+-- who makes instructions and calls: any task or routine, but the shell's task only during a call of the shell
+abbrev pub is_on_processor : Phase → Actor → Bool
+is_on_processor p who = not (is_shell who) || is_calling p
+
+-- the address at which it is
+abbrev pub counter_of : Phase → WorldState → Actor → Option ℕ
+counter_of p w who = if is_on_processor p who then Some (regs_of w who).pc else None
+
+abbrev pub counter_at : Phase → WorldState → Option Actor → Option ℕ
+counter_at p w None = None
+counter_at p w (Some who) = counter_of p w who
+
+-- the gate there
+abbrev pub gate_there : WorldState → Option ℕ → Option Gate
+gate_there w None = None
+gate_there w (Some at) = gate_at (board_rules w.board).gates_start at
+
+-- the call at the gate
+abbrev pub call_there : WorldState → Option Actor → Option Gate → Option Call
+call_there w (Some a) (Some g) = call_by g w a
+call_there w None g = None
+call_there w (Some a) None = None
+
+-- the mutex that a call may give an owner, or take it from
+abbrev pub mutex_of : Call → Option ℕ
+mutex_of (calls.SemTake id timeout) = Some id
+mutex_of (calls.SemGive id) = Some id
+mutex_of (calls.SemDelete id) = Some id
+mutex_of c = None
+
+-- the owner of the mutex with this id, if there is one
+abbrev pub owner_in : WorldState → ℕ → Option ℕ
+owner_in w id = owner_of (object_of w.objects.mutexes.rows id)
+
+-- the mutex that a call names, and its owner
+abbrev pub mutex_named : Option Call → Option ℕ
+mutex_named None = None
+mutex_named (Some c) = mutex_of c
+
+abbrev pub owner_at : WorldState → Option ℕ → Option ℕ
+owner_at w None = None
+owner_at w (Some id) = owner_in w id
+
+abbrev pub owner_named : WorldState → Option Call → Option ℕ
+owner_named w c = owner_at w (mutex_named c)
+
+-- the same for what makes the next step of a state
+abbrev pub at_of : State → Option ℕ
+at_of s = counter_at s.shell.phase s.world (actor_of (next s))
+
+abbrev pub gate_of : State → Option Gate
+gate_of s = gate_there s.world (at_of s)
+
+abbrev pub call_of : State → Option Call
+call_of s = call_there s.world (actor_of (next s)) (gate_of s)
+
+-- what is read of a state before the next step
+abbrev pub before_step : State → BeforeStep
+before_step s = record {
+  next = next s;
+  actor = actor_of (next s);
+  at = at_of s;
+  gate = gate_of s;
+  call = call_of s;
+  owner = owner_named s.world (call_of s);
+  time = s.time;
+  step = s.steps + 1;
+  phase = s.shell.phase;
+  left = length s.left;
+}

@@ -1,0 +1,13 @@
+pub mod Views
+pub mod Waited
+pub mod Before
+pub mod Snapshots
+pub mod Replies
+pub mod Outside
+pub mod Level
+pub mod Owners
+pub mod Messages
+pub mod Steps
+pub mod Subjects
+pub mod Runs
+pub mod Running

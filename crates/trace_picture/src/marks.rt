@@ -1,0 +1,96 @@
+//! Marks: exceptions and aborts.
+
+ghost use Rattle.std.specs.Prelude.{◌<◌, ◌^◌};
+
+use crate::svg::{add_attribute, add_pixels};
+use kernel_world::Actor;
+use trace_text::{add, add_wide};
+use wind_base::NoMemory;
+
+/// What a mark stands for.
+#[derive(Clone, Copy, Debug, PartialEq, Eq)]
+pub enum Kind {
+    /// An exception.
+    Exception,
+    /// An abort of the shell's line.
+    Abort,
+}
+
+/// A mark in the row of a task or of the interrupt level.
+#[derive(Clone, Copy)]
+pub struct Mark {
+    /// Whose row it is in.
+    pub who: Actor,
+    /// Board time.
+    pub time: u128,
+    /// What it stands for.
+    pub kind: Kind,
+}
+
+// Adds a step of a path.
+fn add_step(text: &mut Vec<u8>, letter: &[u8], x: u128, y: u128) -> Result<(), NoMemory> {
+    add(text, letter)?;
+    add_pixels(text, x)?;
+    add(text, b" ")?;
+    add_pixels(text, y)
+}
+
+// Adds a cross.
+fn add_cross(text: &mut Vec<u8>, x: u128, y: u128) -> Result<(), NoMemory>
+    requires x { x < 2 ^ 100 }
+    requires y { y < 2 ^ 100 }
+{
+    add(text, b"<path class=\"exception\" d=\"")?;
+    add_step(text, b"M", x.saturating_sub(400), y)?;
+    add_step(text, b"L", x + 400, y + 800)?;
+    add_step(text, b"M", x + 400, y)?;
+    add_step(text, b"L", x.saturating_sub(400), y + 800)?;
+    add(text, b"\">")
+}
+
+// Adds a disc.
+fn add_disc(text: &mut Vec<u8>, x: u128, y: u128) -> Result<(), NoMemory>
+    requires { y < 2 ^ 100 }
+{
+    add(text, b"<circle class=\"abort\"")?;
+    add_attribute(text, b"cx", x)?;
+    add_attribute(text, b"cy", y + 400)?;
+    add_attribute(text, b"r", 400)?;
+    add(text, b">")
+}
+
+/// Adds the shape of a mark; its title and its end follow.
+pub(crate) fn add_shape(text: &mut Vec<u8>, kind: Kind, x: u128, y: u128) -> Result<(), NoMemory>
+    requires x { x < 2 ^ 100 }
+    requires y { y < 2 ^ 100 }
+{
+    match kind {
+        Kind::Exception => add_cross(text, x, y),
+        Kind::Abort => add_disc(text, x, y),
+    }
+}
+
+/// The word for a mark.
+pub(crate) fn word(kind: Kind) -> &'static [u8] {
+    match kind {
+        Kind::Exception => b"exception",
+        Kind::Abort => b"abort",
+    }
+}
+
+/// Adds a mark.
+pub(crate) fn add_mark(text: &mut Vec<u8>, mark: &Mark, x: u128, y: u128) -> Result<(), NoMemory>
+    requires x { x < 2 ^ 100 }
+    requires y { y < 2 ^ 100 }
+{
+    add_shape(text, mark.kind, x, y)?;
+    add(text, b"<title>")?;
+    add(text, word(mark.kind))?;
+    add(text, b" at ")?;
+    add_wide(text, mark.time)?;
+    add(text, b"</title>")?;
+    match mark.kind {
+        Kind::Exception => add(text, b"</path>\n"),
+        Kind::Abort => add(text, b"</circle>\n"),
+    }
+}

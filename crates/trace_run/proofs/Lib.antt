@@ -1,0 +1,8 @@
+pub mod Bursts
+pub mod Counts
+pub mod LineLaws
+pub mod Lines
+pub mod Puts
+pub mod Seeing
+pub mod SilentLines
+pub mod Telling

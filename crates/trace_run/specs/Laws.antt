@@ -1,0 +1,45 @@
+-- Laws on the lines of a run. Lists of lines are the newest first.
+use Rattle.std.specs.Prelude.{◌≡◌, ℕ, zero, suc, ◌+◌, if◌then◌else◌, List, [], ◌∷◌, ◌++◌}
+use Rattle.wind_machine.specs.State.{State}
+use Rattle.wind_machine.specs.Run.{Answers, after, text}
+use Rattle.board_trace.specs.Runs.{Line, lines_of, step_lines}
+use Rattle.board_trace.specs.declared.happening.Happening.{Happening}
+use Rattle.board_trace.specs.declared.happening.Happening.TheVariants as told
+use Rattle.trace_text.specs.Pages.{count_of, is_instructions}
+
+-- how many instructions these lines tell of
+abbrev pub instructions_in : List Line → ℕ
+instructions_in [] = 0
+instructions_in (newest ∷ older) = count_of newest.what + instructions_in older
+
+-- the lines that tell of anything else
+abbrev pub others_in : List Line → List Line
+others_in [] = []
+others_in (newest ∷ older) = if is_instructions newest.what then others_in older else newest ∷ others_in older
+
+-- what a happening writes
+abbrev pub written_by : Happening → List ℕ
+written_by (told.Writes who bytes) = bytes
+written_by h = []
+
+-- what the lines say is written, the oldest first
+abbrev pub written_in : List Line → List ℕ
+written_in [] = []
+written_in (newest ∷ older) = written_in older ++ written_by newest.what
+
+-- adds lines, the oldest of them first, and joins none
+abbrev pub with_each : List Line → List Line → List Line
+with_each [] made = made
+with_each (next ∷ others) made = with_each others (next ∷ made)
+
+-- the lines of the first k steps from s before any are joined
+abbrev pub single_lines : Answers → State → ℕ → List Line
+single_lines said s zero = []
+single_lines said s (suc k) = with_each (step_lines (after said s k) (after said s (suc k))) (single_lines said s k)
+
+-- joining lines of instructions keeps how many instructions they tell of, and it keeps the other lines in their order;
+-- what the lines say is written is what the steps write
+pub record LinesLaw : Type 0 where
+  pub instructions : (said : Answers) (s : State) (k : ℕ) → instructions_in (lines_of said s k) ≡ instructions_in (single_lines said s k)
+  pub others : (said : Answers) (s : State) (k : ℕ) → others_in (lines_of said s k) ≡ others_in (single_lines said s k)
+  pub written : (said : Answers) (s : State) (k : ℕ) → written_in (lines_of said s k) ≡ text said s k

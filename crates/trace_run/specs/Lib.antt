@@ -1,0 +1,6 @@
+pub mod Bursts
+pub mod Laws
+pub mod Spans
+pub mod Steps
+pub mod Telling
+pub mod Traced

@@ -1,0 +1,4 @@
+pub mod Command
+pub mod Headline
+pub mod Program
+pub mod Words

@@ -1,0 +1,7 @@
+-- A command as plain data.
+use Rattle.wind_session.specs.Words.{command_state}
+use Rattle.trace_session.specs.Command.{TraceState}
+use Rattle.trace_session.specs.declared.command.TraceCommand.{TraceCommand}
+
+abbrev pub trace_state : TraceCommand → TraceState
+trace_state c = record { form = c.form; session = command_state c.session }

@@ -1,0 +1,102 @@
+//! The arguments of the command line.
+
+ghost use Rattle.std.specs.Prelude.{◌≡◌, ◌≢◌, ◌≤◌, IfOk, IfErr, Some, None, map};
+ghost use Rattle.clap.specs.Words.{app_of, found_of, rows_of};
+ghost use Rattle.generated_session.specs.Session.{most_rounds};
+ghost use Rattle.trace_session.specs.Command.{app as app_lem, command_of as command_of_lem, command_of_rows, form_named as form_named_lem};
+ghost use Rattle.trace_session.specs.Words.{trace_state};
+ghost use Rattle.wind_base.specs.Limits.{most_steps};
+ghost use Rattle.wind_session.specs.declared.command.CommandErr.TheVariants as errors;
+
+use clap::ArgMatches;
+use std::alloc::{AllocError, Global};
+use wind_session::{
+    Command, CommandErr, command_line, command_of_matches, matches_of, option, valid, value_of,
+    with_session_options,
+};
+
+/// The form in which a run is told.
+#[derive(Clone, Copy, Debug, PartialEq, Eq)]
+pub enum Form {
+    /// One line for each thing that happened.
+    Events,
+    /// A picture.
+    Timeline,
+    /// The board that is left.
+    State,
+}
+
+/// What the arguments ask for.
+#[derive(Clone, Copy)]
+pub struct TraceCommand<'a> {
+    /// The form.
+    pub form: Form,
+    /// The session.
+    pub session: Command<'a>,
+}
+
+/// The name of the program.
+pub(crate) const PROGRAM: &str = "windtrace";
+
+// The message for an invalid form.
+const BAD_FORM: &str = "'--as <FORM>' takes events, timeline or state";
+
+// The form with this name.
+fn form_named(name: &str) -> Option<Form>
+    ensures { result ≡ form_named_lem name.now }
+{
+    match name {
+        "events" => Some(Form::Events),
+        "timeline" => Some(Form::Timeline),
+        "state" => Some(Form::State),
+        _ => None,
+    }
+}
+
+// The command line, as clap reads it.
+#[tactic(auto, unfolding(crate::specs::Command::app))]
+fn app<'a>(alloc: Global) -> Result<clap::Command<'a>, AllocError>
+    ensures { IfOk result (λ c. app_of c ≡ app_lem) }
+{
+    let about = "Tells what a session of a wind kernel's shell did on a modelled board";
+    let form = option(
+        alloc,
+        "as",
+        "FORM",
+        "events",
+        "What is told: events, timeline or state",
+    );
+    let command = command_line(alloc, PROGRAM, about).arg(form)?;
+    with_session_options(alloc, command)
+}
+
+// The command of what clap found, with this command line.
+fn command_found<'a>(
+    alloc: Global,
+    app: &mut clap::Command<'_>,
+    matches: &ArgMatches<'a>,
+) -> Result<TraceCommand<'a>, CommandErr>
+    ensures value { IfOk result (λ c. command_of_rows (rows_of (found_of matches.now)) ≡ Some (trace_state c)) }
+    ensures usage { IfErr result (λ e. e ≢ errors.NoMemory → command_of_rows (rows_of (found_of matches.now)) ≡ None) }
+    ensures within { IfOk result (λ c. (c.session.limit ≤ most_steps) × (c.session.generate ≤ most_rounds)) }
+{
+    let named = form_named(value_of(matches, "as"));
+    let form = valid(alloc, app, named, BAD_FORM)?;
+    let session = command_of_matches(alloc, app, matches)?;
+    Ok(TraceCommand { form, session })
+}
+
+/// The command of these words; the first word is the program's name.
+#[tactic(auto, unfolding(crate::specs::Command::command_of))]
+pub fn trace_command_of<'a>(
+    alloc: Global,
+    words: &'a [&'a str],
+) -> Result<TraceCommand<'a>, CommandErr>
+    ensures value { IfOk result (λ c. command_of_lem (map (λ w. w.now) words.now) ≡ Some (trace_state c)) }
+    ensures usage { IfErr result (λ e. e ≢ errors.NoMemory → command_of_lem (map (λ w. w.now) words.now) ≡ None) }
+    ensures within { IfOk result (λ c. (c.session.limit ≤ most_steps) × (c.session.generate ≤ most_rounds)) }
+{
+    let mut app = app(alloc)?;
+    let matches = matches_of(alloc, &mut app, words)?;
+    command_found(alloc, &mut app, &matches)
+}

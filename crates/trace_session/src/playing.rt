@@ -1,0 +1,233 @@
+//! Plays a session, and tells what happened.
+
+ghost use Rattle.std.specs.Prelude.{◌≡◌, ◌≢◌, ◌≤◌, ◌↔◌, None, Some, IfOk, OnErr, codes, length, map};
+ghost use Rattle.wind_base.specs.Limits.{most_steps};
+ghost use Rattle.generated_session.specs.Session.{most_rounds};
+ghost use Rattle.wind_outside.specs.Counts.{Rose};
+ghost use Rattle.wind_outside.specs.Devices.{slots_of};
+ghost use Rattle.board_player.specs.Seen.{seen};
+ghost use Rattle.wind_session.specs.Headline.{IsComplete, IsKept};
+ghost use Rattle.wind_session.specs.Outside.{outside};
+ghost use Rattle.wind_session.specs.Texts.{Tells};
+ghost use Rattle.wind_session.specs.declared.ending.Stand.TheVariants as stands;
+ghost use Rattle.wind_session.specs.declared.ending.Status.TheVariants as status;
+ghost use Rattle.wind_session.specs.declared.run.RunEnd.TheVariants as ends;
+ghost use Rattle.trace_run.specs.Traced.{Traced};
+ghost use Rattle.trace_session.specs.Command.{command_of, session_of};
+ghost use Rattle.trace_session.specs.Headline.{IsLeft, TellsForm, TellsLess, Traces};
+ghost use Rattle.trace_session.specs.Words.{trace_state as trace_state_lem};
+
+use crate::command::{Form, PROGRAM, TraceCommand, trace_command_of};
+use crate::ending::TraceEnding;
+use board_player::Board;
+use std::alloc::Global;
+use task_spans::Spans;
+use trace_run::{trace_events, trace_state, trace_timeline};
+use wind_base::NoMemory;
+use wind_machine::instant_law;
+use wind_outside::{Device, Folder, Sink, Slots};
+use wind_session::{
+    CommandErr, Inputs, RunEnd, Stand, Status, inputs_of, status_of, tell, tell_no_memory,
+    tell_usage,
+};
+
+// The ending of a session without a board.
+fn refusal(status: Status, devices: Slots) -> TraceEnding
+    ensures { result ≡ record { status = status; stand = stands.NotBooted devices; spans = None } }
+{
+    TraceEnding {
+        status,
+        stand: Stand::NotBooted(devices),
+        spans: None,
+    }
+}
+
+// A run that was traced: how it ended, and the spans of a timeline.
+#[derive(Drop)]
+struct TracedRun {
+    end: RunEnd,
+    spans: Option<Spans>,
+}
+
+// Runs the board of a session, and puts what happened in the form that the command asks for. The
+// error is that memory runs out for the trace.
+fn trace_board<F: Folder, O: Sink>(
+    alloc: Global,
+    command: &TraceCommand,
+    board: &mut Board,
+    folder: &mut F,
+    out: &mut O,
+) -> Result<TracedRun, NoMemory>
+    requires fresh { (seen ⟦<dyn Device as Device>⟧ board.old).steps ≡ 0 }
+    requires limit { command.now.session.limit ≤ most_steps }
+    ensures tells { IfOk result (λ t. Traced
+        (TellsForm command.now.form t.spans t.end (seen ⟦<dyn Device as Device>⟧ board.old)
+        (O.bytes out.old) (O.bytes out.new))
+        (record { files = F.files folder.old; name = command.now.session.modules.now })
+        (seen ⟦<dyn Device as Device>⟧ board.old) command.now.session.limit (seen ⟦<dyn Device as Device>⟧ board.new)
+        (F.requests folder.old) (F.requests folder.new)) }
+    ensures given_up { OnErr result (Traced
+        (TellsLess command.now.form (seen ⟦<dyn Device as Device>⟧ board.old)
+        (O.bytes out.old) (O.bytes out.new))
+        (record { files = F.files folder.old; name = command.now.session.modules.now })
+        (seen ⟦<dyn Device as Device>⟧ board.old) command.now.session.limit (seen ⟦<dyn Device as Device>⟧ board.new)
+        (F.requests folder.old) (F.requests folder.new)) }
+    ensures read_fault { IfOk result (λ t. t.end ≡ ends.ReadFault → Rose (F.faults folder.old) (F.faults folder.new)) }
+    ensures fault { IfOk result (λ t. t.end ≡ ends.WriteFault → Rose (O.faults out.old) (O.faults out.new)) }
+    ensures files { F.files folder.new ≡ F.files folder.old }
+    ensures folder_faults { F.faults folder.old ≤ F.faults folder.new }
+    ensures out_faults { O.faults out.old ≤ O.faults out.new }
+{
+    let (modules, limit) = (command.session.modules, command.session.limit);
+    match command.form {
+        Form::Events => {
+            let end = trace_events(alloc, board, folder, modules, out, limit)?;
+            Ok(TracedRun { end, spans: None })
+        }
+        Form::Timeline => {
+            let timeline = trace_timeline(alloc, board, folder, modules, out, limit)?;
+            Ok(TracedRun {
+                end: timeline.end,
+                spans: Some(timeline.spans),
+            })
+        }
+        Form::State => {
+            let end = trace_state(alloc, board, folder, modules, out, limit)?;
+            Ok(TracedRun { end, spans: None })
+        }
+    }
+}
+
+// What is left of a run: its status, and the spans of a timeline.
+#[derive(Drop)]
+struct Outcome {
+    status: Status,
+    spans: Option<Spans>,
+}
+
+// Plays the board of a session.
+fn play_board<F: Folder, O: Sink>(
+    alloc: Global,
+    command: &TraceCommand,
+    board: &mut Board,
+    folder: &mut F,
+    out: &mut O,
+) -> Outcome
+    requires fresh { (seen ⟦<dyn Device as Device>⟧ board.old).steps ≡ 0 }
+    requires limit { command.now.session.limit ≤ most_steps }
+    ensures left { IsLeft command.now.form result.spans result.status
+        (record { files = F.files folder.old; name = command.now.session.modules.now })
+        (seen ⟦<dyn Device as Device>⟧ board.old) command.now.session.limit (seen ⟦<dyn Device as Device>⟧ board.new)
+        (outside (F.requests folder.old) (O.bytes out.old) (O.pieces out.old))
+        (outside (F.requests folder.new) (O.bytes out.new) (O.pieces out.new)) }
+    ensures read_fault { result.status ≡ status.ReadFault → Rose (F.faults folder.old) (F.faults folder.new) }
+    ensures fault { result.status ≡ status.WriteFault → Rose (O.faults out.old) (O.faults out.new) }
+    ensures files { F.files folder.new ≡ F.files folder.old }
+    ensures folder_faults { F.faults folder.old ≤ F.faults folder.new }
+    ensures out_faults { O.faults out.old ≤ O.faults out.new }
+{
+    match trace_board(alloc, command, board, folder, out) {
+        Ok(tracing) => Outcome {
+            status: status_of(tracing.end),
+            spans: tracing.spans,
+        },
+        Err(NoMemory) => Outcome {
+            status: Status::NoMemory,
+            spans: None,
+        },
+    }
+}
+
+// Plays the session of a command.
+fn session<F: Folder, O: Sink>(
+    alloc: Global,
+    command: &TraceCommand,
+    folder: &mut F,
+    out: &mut O,
+    devices: Slots,
+) -> TraceEnding
+    requires devices { length devices.items ≤ 16 }
+    requires limit { command.now.session.limit ≤ most_steps }
+    requires rounds { command.now.session.generate ≤ most_rounds }
+    ensures machine { Traces (seen ⟦<dyn Device as Device>⟧) result.status result.stand result.spans
+        (Some (trace_state_lem command.now)) (F.files folder.old)
+        (Rose (F.faults folder.old) (F.faults folder.new)) devices (slots_of kind_of words_of devices.items)
+        (outside (F.requests folder.old) (O.bytes out.old) (O.pieces out.old))
+        (outside (F.requests folder.new) (O.bytes out.new) (O.pieces out.new)) }
+    ensures complete { IsComplete result.status (session_of (Some (trace_state_lem command.now))) (F.files folder.old)
+        (Rose (F.faults folder.old) (F.faults folder.new)) (Rose (O.faults out.old) (O.faults out.new)) }
+    ensures known { result.status ≢ status.Usage }
+    ensures kept { IsKept (seen ⟦<dyn Device as Device>⟧) result.stand }
+    ensures read_fault { result.status ≡ status.ReadFault → Rose (F.faults folder.old) (F.faults folder.new) }
+    ensures write_fault { result.status ≡ status.WriteFault → Rose (O.faults out.old) (O.faults out.new) }
+    ensures files { F.files folder.new ≡ F.files folder.old }
+    ensures folder_faults { F.faults folder.old ≤ F.faults folder.new }
+    ensures out_faults { O.faults out.old ≤ O.faults out.new }
+{
+    let inputs = match inputs_of(alloc, &command.session, folder) {
+        Ok(inputs) => inputs,
+        Err(status) => return refusal(status, devices),
+    };
+    let Inputs { console, schedule } = inputs;
+    let (profile, kind) = (command.session.profile, command.session.board);
+    let mut board = match Board::boot(alloc, devices, console, schedule, profile, kind) {
+        Ok(board) => board,
+        Err(devices) => return refusal(Status::NoMemory, devices),
+    };
+    let outcome = play_board(alloc, command, &mut board, folder, out);
+    board.facts();
+    instant_law();
+    TraceEnding {
+        status: outcome.status,
+        stand: Stand::Booted(board),
+        spans: outcome.spans,
+    }
+}
+
+/// Plays the session that the arguments ask for, as `wind_session::play` does. In place of the
+/// console's bytes, what happened goes to `out`, in the form that the arguments choose. The message
+/// for the status goes to `err`. If memory runs out for the trace, the status is `NoMemory`.
+pub fn trace<'a, F: Folder, O: Sink, E: Sink>(
+    alloc: Global,
+    words: &'a [&'a str],
+    folder: &mut F,
+    out: &mut O,
+    err: &mut E,
+    devices: Slots,
+) -> TraceEnding
+    requires { length devices.items ≤ 16 }
+    ensures machine { Traces (seen ⟦<dyn Device as Device>⟧) result.status result.stand result.spans
+        (command_of (map (λ w. w.now) words.now)) (F.files folder.old)
+        (Rose (F.faults folder.old) (F.faults folder.new)) devices (slots_of kind_of words_of devices.items)
+        (outside (F.requests folder.old) (O.bytes out.old) (O.pieces out.old))
+        (outside (F.requests folder.new) (O.bytes out.new) (O.pieces out.new)) }
+    ensures usage { result.status ≢ status.NoMemory →
+        ((result.status ≡ status.Usage) ↔ (command_of (map (λ w. w.now) words.now) ≡ None)) }
+    ensures complete { IsComplete result.status (session_of (command_of (map (λ w. w.now) words.now)))
+        (F.files folder.old) (Rose (F.faults folder.old) (F.faults folder.new))
+        (Rose (O.faults out.old) (O.faults out.new)) }
+    ensures kept { IsKept (seen ⟦<dyn Device as Device>⟧) result.stand }
+    ensures read_fault { result.status ≡ status.ReadFault → Rose (F.faults folder.old) (F.faults folder.new) }
+    ensures write_fault { result.status ≡ status.WriteFault → Rose (O.faults out.old) (O.faults out.new) }
+    ensures files { F.files folder.new ≡ F.files folder.old }
+    ensures folder_faults { F.faults folder.old ≤ F.faults folder.new }
+    ensures out_faults { O.faults out.old ≤ O.faults out.new }
+    ensures err_faults { E.faults err.old ≤ E.faults err.new }
+    ensures err { Tells (codes "windtrace") result.status (session_of (command_of (map (λ w. w.now) words.now)))
+        (E.bytes err.old) (E.bytes err.new) (Rose (E.faults err.old) (E.faults err.new)) }
+{
+    let command = match trace_command_of(alloc, words) {
+        Ok(command) => command,
+        Err(CommandErr::Usage(text)) => {
+            tell_usage(err, &text);
+            return refusal(Status::Usage, devices);
+        }
+        Err(CommandErr::NoMemory) => {
+            tell_no_memory(PROGRAM, err);
+            return refusal(Status::NoMemory, devices);
+        }
+    };
+    let ending = session(alloc, &command, folder, out, devices);
+    tell(PROGRAM, err, &command.session, ending.status);
+    ending
+}

@@ -1,0 +1,11 @@
+//! A board as JSON: its tasks, objects, blocks, symbols, modules, devices and RAM.
+#![tactic(auto)]
+
+mod board;
+mod memory;
+mod objects;
+mod slots;
+mod tasks;
+mod text;
+
+pub use board::state_text;

@@ -1,0 +1,7 @@
+pub mod Pieces
+pub mod Changes
+pub mod Happenings
+pub mod Lines
+pub mod Ending
+pub mod Pages
+pub mod Joining

@@ -1,0 +1,15 @@
+//! The lines of a trace: `TIME STEP WHO WHAT`, one for each thing that happened.
+#![tactic(auto)]
+
+mod changes;
+mod ending;
+mod happenings;
+mod laws;
+mod lines;
+mod page;
+mod pieces;
+
+pub use changes::add_awaited;
+pub use laws::joining_law;
+pub use page::Page;
+pub use pieces::{add, add_decimal, add_escaped, add_wide};

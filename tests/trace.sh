@@ -1,0 +1,14 @@
+#!/bin/sh
+# Plays each session of `examples` with WINDTRACE and with WINDPLAY, and compares:
+# - the texts that the events say were written have to be the bytes of the console, and the two statuses the same;
+# - the events have to be those of the session's file `events`, if there is one;
+# - the state has to be JSON, and the timeline XML.
+# It prints a line for each session that differs and one that counts them, and ends with 1 if one differs.
+#
+# usage: tests/trace.sh WINDTRACE WINDPLAY
+if [ $# -ne 2 ]; then
+    echo "usage: $0 WINDTRACE WINDPLAY" >&2
+    exit 2
+fi
+here=$(cd "$(dirname "$0")" && pwd) || exit 2
+exec python3 "$here/trace.py" "$here/../examples" "$1" "$2"
