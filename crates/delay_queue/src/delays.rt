@@ -5,10 +5,9 @@ ghost use Rattle.delay_queue.specs.Wakes.{Order, wake_of, with_task, without_tas
 
 use crate::gaps::{LIST, Place, lengthen, lessen, place_of};
 use id_table::Ident;
-use linked_lists::IdLists;
+use linked_lists::{IdLists, NoMemory};
 use std::alloc::Global;
 use std::marker::Model;
-use wind_base::NoMemory;
 
 /// The tasks that wait for a tick: one linked list, in which each node stores its wake less that of
 /// the node before it, in ticks. The first node stores its wake itself.

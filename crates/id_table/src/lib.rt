@@ -10,3 +10,4 @@ mod table;
 pub use ident::{Ident, Place};
 pub use source::IdSource;
 pub use table::Table;
+pub use wind_base::NoMemory;

@@ -7,11 +7,10 @@ ghost use Rattle.linked_lists.specs.Named.{list_found};
 
 use crate::index::{key_at, key_of};
 use crate::lists::Lists;
-use id_table::Ident;
+use id_table::{Ident, NoMemory};
 use id_table::entry::{Entry, place_of, rank_of};
 use std::alloc::Global;
 use std::marker::Model;
-use wind_base::NoMemory;
 
 // What a node holds: its id, and a value.
 #[derive(Drop)]

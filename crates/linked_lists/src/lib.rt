@@ -7,4 +7,5 @@ mod lists;
 mod node;
 
 pub use id_lists::IdLists;
+pub use id_table::{Ident, NoMemory};
 pub use lists::Lists;

@@ -5,10 +5,10 @@ ghost use Rattle.std.specs.Prelude.{◌≡◌, ◌<◌, ◌≤◌, ◌+◌, [], 
 ghost use Rattle.linked_lists.specs.Chains.{Chains, all_cells, chain_at, first_key, value_in, value_of, with_cell, without_cell, with_value, AreChains, IsOnlyIn, ValueIs, NextIs};
 
 use crate::node::{Ends, Node, link_after, link_before, node_before};
+use id_table::NoMemory;
 use slab::Slab;
 use std::alloc::Global;
 use std::marker::Model;
-use wind_base::NoMemory;
 
 /// A fixed number of linked lists, whose nodes are in one slab. A node keeps its key as long as it
 /// is in its list.

@@ -6,10 +6,9 @@ ghost use Rattle.wait_order.specs.Line.{IsLine, waiter_of, with_waiter, without_
 use crate::fronts::{Front, first_at as front_at, first_from};
 use crate::runs::{LIST, come, go, place_of};
 use id_table::{Ident, Place};
-use linked_lists::IdLists;
+use linked_lists::{IdLists, NoMemory};
 use std::alloc::Global;
 use std::marker::Model;
-use wind_base::NoMemory;
 
 /// A task that waits, with the key that decides its position at its place.
 #[derive(Clone, Copy, Debug, PartialEq, Eq)]
