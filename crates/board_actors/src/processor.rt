@@ -9,9 +9,9 @@ ghost use Rattle.ppc_core.specs.Instructions.{exec_of};
 ghost use Rattle.kernel_world.specs.Actors.{Acts, MayCall, is_interrupt};
 ghost use Rattle.kernel_world.specs.Seen.{world_seen, world_with};
 ghost use Rattle.kernel_world.specs.Allowed.{may_exhaust_memory};
-ghost use Rattle.kernel_calls.specs.Calls.{file_wanted};
+ghost use Rattle.wind_machine.specs.KernelCalls.{file_wanted};
 ghost use Rattle.kernel_world.specs.declared.actor.Actor.TheVariants as actors;
-ghost use Rattle.kernel_calls.specs.Space.{HoldsSpace};
+ghost use Rattle.wind_machine.specs.Space.{HoldsSpace};
 ghost use Rattle.wind_machine.specs.Part.{part_of, writing};
 ghost use Rattle.wind_machine.specs.Processor.{trapped, trap_text, bus_of, own_return as own_return_lem, is_return as is_return_lem, return_part, without_own, called as called_lem, gate_part, word_part, regs_of, actor_part};
 ghost use Rattle.wind_machine.specs.declared.phase.Phase.TheVariants as phases;
@@ -27,12 +27,11 @@ use crate::shell_task::{abort, shell_id};
 use crate::step_kind::StepKind;
 use crate::text::{add_exception, add_routine_exception};
 use id_table::Ident;
-use kernel_calls::make_call;
 use kernel_world::{Actor, World, gate_at, is_call};
 use ppc_core::{Trap, exec};
 use std::alloc::Global;
-use task_calls::end_task;
 use wind_base::{Gate, NoMemory};
+use wind_machine::{end_task, make_call};
 use wind_outside::Device;
 
 /// The program counter of an actor.

@@ -11,7 +11,7 @@ ghost use Rattle.shell_eval.specs.Seen.{kept_free};
 ghost use Rattle.shell_eval.specs.Inside.{ComesTo, AwaitsAfter};
 ghost use Rattle.kernel_world.specs.Seen.{world_seen};
 ghost use Rattle.board_actors.specs.ShellInside.{trees_of, holes_of, IsBlank};
-ghost use Rattle.kernel_calls.specs.Space.{HoldsSpace};
+ghost use Rattle.wind_machine.specs.Space.{HoldsSpace};
 ghost use Rattle.wind_machine.specs.Part.{part_of};
 ghost use Rattle.wind_machine.specs.declared.phase.Phase.TheVariants as phases;
 ghost use Rattle.wind_machine.specs.Shell.{at_prompt, prompted, is_nothing as is_nothing_lem, begun_tree, begun, shell_read, read_text, shell_with, fill_first, returned, eval_state, with_eval, eval_part};

@@ -3,7 +3,7 @@ use Rattle.std.proofs.Common.{◌≡◌, List, ℕ, true, Option, None, Some, If
 use Rattle.std.specs.Prelude.{OnOk, OnErr, ◌↔◌}
 use Rattle.std.specs.Option.{option_map}
 use Rattle.wind_base.specs.declared.NoMemory.{NoMemory}
-use Rattle.live_loading.specs.Said.{FileSaid}
+use Rattle.wind_machine.specs.Said.{FileSaid}
 use Rattle.wind_machine.specs.State.{State}
 use Rattle.wind_machine.specs.ActorSteps.{load_step}
 use Rattle.wind_machine.specs.Next.{next}

@@ -11,10 +11,10 @@ use Rattle.board_mem.specs.Memory.{string_at}
 use Rattle.kernel_world.specs.State.{WorldState}
 use Rattle.kernel_world.specs.Starting.{no_regs}
 use Rattle.kernel_world.specs.Actors.{shell_id, caller_regs, caller_words}
-use Rattle.kernel_calls.specs.Calls.{file_name, file_wanted}
+use Rattle.wind_machine.specs.KernelCalls.{file_name, file_wanted}
 use Rattle.kernel_world.specs.Objects.{IsReady}
 use Rattle.kernel_world.specs.declared.actor.Actor.TheVariants.{Task as by_task, Interrupt}
-use Rattle.live_loading.specs.Loading.{shell}
+use Rattle.wind_machine.specs.LiveLoading.{shell}
 use Rattle.wind_machine.specs.State.{State}
 use Rattle.wind_machine.specs.Good.{Good}
 use Rattle.wind_machine.specs.Processor.{regs_of, gate_under}

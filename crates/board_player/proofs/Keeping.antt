@@ -15,7 +15,7 @@ use Rattle.wind_machine.specs.State.{ShellState, State}
 use Rattle.wind_machine.specs.Shell.{at_prompt}
 use Rattle.wind_machine.specs.Good.{Good}
 use Rattle.wind_machine.specs.Laws.{StartLaw, StepLaw}
-use Rattle.live_loading.specs.Said.{FileSaid, Missing}
+use Rattle.wind_machine.specs.Said.{FileSaid, Missing}
 use Rattle.wind_base.specs.declared.NoMemory.{NoMemory}
 use Rattle.wind_machine.specs.Events.{next_event}
 use Rattle.wind_machine.specs.ActorSteps.{load_step}

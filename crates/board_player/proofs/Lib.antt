@@ -13,3 +13,4 @@ pub mod Settled
 pub mod ManySteps
 pub mod TaskBursts
 pub mod RoutineBursts
+pub use Rattle.wind_machine.proofs.Asking

@@ -16,7 +16,7 @@ use Rattle.tick_file.specs.Laws.{IsEarly}
 use Rattle.tick_file.specs.declared.event.Event.{Event}
 use Rattle.kernel_world.specs.Settling.{HasExact}
 use Rattle.kernel_world.proofs.Settling.{settled_same}
-use Rattle.live_loading.specs.Said.{FileSaid}
+use Rattle.wind_machine.specs.Said.{FileSaid}
 use Rattle.wind_machine.specs.State.{State}
 use Rattle.wind_machine.specs.Good.{Good, KeepsEffect}
 use Rattle.wind_machine.specs.Laws.{EffectLaw, CountLaw}

@@ -27,7 +27,7 @@ use Rattle.kernel_world.specs.Actors.{shell_id}
 use Rattle.kernel_world.specs.Kept.{ReservedBy}
 use Rattle.kernel_world.specs.Settling.{HasExact}
 use Rattle.kernel_world.specs.Starting.{no_regs}
-use Rattle.live_loading.specs.Said.{Missing}
+use Rattle.wind_machine.specs.Said.{Missing}
 use Rattle.wind_machine.specs.State.{State}
 use Rattle.wind_machine.specs.Good.{Good}
 use Rattle.wind_machine.specs.Laws.{StepLaw}

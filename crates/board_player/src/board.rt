@@ -16,12 +16,11 @@ use crate::parts::Parts;
 use board_actors::{Feed, Shell};
 use con_line::Console;
 use kernel_world::World;
-use live_loading::FileAnswer;
 use std::alloc::Global;
 use tick_file::{Event, Schedule};
 use wind_base::limits::CHUNK_BYTES;
 use wind_base::{BoardKind, Name, NoMemory, OutBuf, Profile};
-use wind_machine::{Next, Phase, slot_law, step_law};
+use wind_machine::{FileAnswer, Next, Phase, slot_law, step_law};
 use wind_outside::{Device, Slots};
 
 // The room, in bytes, for what one step writes. Each byte of the console echoes at most three
@@ -105,7 +104,7 @@ impl Board {
     ghost use Rattle.std.specs.Prelude.{◌≢◌, ◌↔◌, ◌<◌, ◌≤◌, ◌-◌, ◌^◌, ℕ, Some, None, IfSome, OnOk, OnErr, true};
     ghost use Rattle.std.specs.List.{All};
     ghost use Rattle.wind_base.specs.Limits.{most_steps};
-    ghost use Rattle.live_loading.specs.Said.{said_of};
+    ghost use Rattle.wind_machine.specs.Said.{said_of};
     ghost use Rattle.wind_machine.specs.Extending.{extended, more_of};
     ghost use Rattle.wind_machine.specs.Silent.{SilentSteps};
     ghost use Rattle.wind_machine.specs.Interrupts.{StepsSlot};

@@ -6,7 +6,7 @@ ghost use Rattle.tick_file.specs.Laws.{IsEarly};
 ghost use Rattle.wind_core.specs.State.{Lives, task_id};
 ghost use Rattle.wind_core.specs.Orders.{running as running_lem};
 ghost use Rattle.kernel_world.specs.Objects.{IsReady};
-ghost use Rattle.live_loading.specs.Said.{FileSaid};
+ghost use Rattle.wind_machine.specs.Said.{FileSaid};
 ghost use Rattle.wind_machine.specs.Good.{Good};
 ghost use Rattle.wind_machine.specs.Events.{next_event};
 ghost use Rattle.wind_machine.specs.ActorSteps.{step_of, routine_step as routine_step_lem, file_for as file_for_lem};

@@ -14,8 +14,8 @@ use crate::parts::Parts;
 use board_actors::{INTERRUPT_TOP, brought, chunk_len, drop_all, hear_chunk, put_return};
 use board_bus::BoardBus;
 use dev_irq::Irqs;
-use object_calls::irq_rows::is_device;
 use tick_file::Event;
+use wind_machine::is_device;
 use wind_outside::Device;
 
 // Hears the next `len` bytes, and then a newline if one is supplied.

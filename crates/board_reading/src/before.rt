@@ -3,16 +3,14 @@
 ghost use Rattle.std.specs.Prelude.{◌≡◌, ◌<◌, IfOk, OnErr, true};
 ghost use Rattle.wind_base.specs.Limits.{most_steps};
 ghost use Rattle.kernel_world.specs.Seen.{world_seen};
-ghost use Rattle.wind_machine.specs.Machine.{actor_of, may_exhaust_memory};
+ghost use Rattle.board_trace.specs.Machine.{actor_of, may_exhaust_memory};
 ghost use Rattle.board_player.specs.Seen.{seen};
 ghost use Rattle.board_trace.specs.Before.{before_step, call_there, counter_at, gate_there, is_on_processor as is_on_processor_lem, owner_named as owner_named_lem};
 
-use board_actors::shell_id;
-use board_player::Board;
+use board_player::{Board, Next, Phase, shell_id};
 use board_trace::{BeforeStep, mutex_of};
 use kernel_world::{Actor, Call, World, caller_regs, gate_at, is_shell, read_call};
 use wind_base::{Gate, NoMemory};
-use wind_machine::{Next, Phase};
 use wind_outside::Device;
 
 /// Who makes a step, if a task or a routine does.

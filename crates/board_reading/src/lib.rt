@@ -9,6 +9,7 @@ mod waited;
 
 pub use after::look_after;
 pub use before::{look_before, runner_of};
+pub use board_player::{Board, Phase};
 pub use running::{last_actor, runner};
 pub use snapshot::{empty_snapshot, take_snapshot};
 pub use waited::awaited_by;

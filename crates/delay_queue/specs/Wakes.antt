@@ -1,7 +1,7 @@
 -- What a contract sees of tasks that wait for a tick: their ids and wakes in the order in which they are due,
 -- and the greatest number of them.
 use Rattle.std.specs.Prelude.{ℕ, nat_le, if◌then◌else◌, List, [], ◌∷◌, Option, None, Some}
-use Rattle.id_table.specs.Rows as rows
+use Rattle.linked_lists.specs.IdTableRows as rows
 use Rattle.wind_lists.specs.Arrivals.{put_after}
 
 -- the tasks, each as its id and the tick at which it is due, and the room

@@ -4,8 +4,7 @@ ghost use Rattle.std.specs.Prelude.{◌≡◌, ◌<◌, [], None, length, IfOk, 
 ghost use Rattle.delay_queue.specs.Wakes.{Order, wake_of, with_task, without_task, due_at, without_due};
 
 use crate::gaps::{LIST, Place, lengthen, lessen, place_of};
-use id_table::Ident;
-use linked_lists::{IdLists, NoMemory};
+use linked_lists::{IdLists, Ident, NoMemory};
 use std::alloc::Global;
 use std::marker::Model;
 

@@ -5,8 +5,7 @@ ghost use Rattle.std.specs.Option.{ForSome};
 ghost use Rattle.linked_lists.specs.Chains.{chain_at, value_of};
 ghost use Rattle.delay_queue.specs.Inside.{IsPlace, with_gap};
 
-use id_table::Ident;
-use linked_lists::IdLists;
+use linked_lists::{IdLists, Ident};
 
 /// The number of the only list.
 pub(crate) const LIST: usize = 0;

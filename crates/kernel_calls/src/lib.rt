@@ -11,3 +11,5 @@ mod show_rows;
 pub use calls::{Called, kernel_call, make_call};
 pub use files::file_wanted;
 pub use laws::{removal_law, world_law};
+pub use object_calls::irq_rows::is_device;
+pub use task_calls::end_task;

@@ -10,10 +10,10 @@ use Rattle.wind_core.specs.State.{KernState, IsKern, WakesAhead, task_id, task_o
 use Rattle.wind_core.specs.Moves.{change_pri, set_safe}
 use Rattle.wind_core.specs.Releases.{release_all}
 use Rattle.wind_core.specs.Move.{ReleaseAll, ChangePri, SetSafe}
-use Rattle.task_safety.specs.Safety.{deletion, safe_of, lessen}
+use Rattle.sem_mutex.specs.Safety.{deletion, safe_of, lessen}
 use Rattle.wind_base.specs.declared.profile.Profile.{Profile}
-use Rattle.inheritance.specs.declared.mutex.Mutex.{Mutex}
-use Rattle.inheritance.specs.Reach.{lifted, repried, raised_kern}
+use Rattle.sem_mutex.specs.Mutex.{Mutex}
+use Rattle.sem_mutex.specs.Reach.{lifted, repried, raised_kern}
 use Rattle.msg_queue.specs.State.{QueueState, scene}
 use Rattle.msg_queue.specs.Kept.{BeginsNone, IsCalm, IsKept}
 use Rattle.msg_queue.specs.Machine.{others}

@@ -17,10 +17,10 @@ use Rattle.wind_core.proofs.Moving.{move_keeps}
 use Rattle.wind_core.proofs.Stable.{All-change, renew_task-stable, move_task-stable}
 use Rattle.wind_core.proofs.Unwritten.{map-change, map-renew, map-move}
 use Rattle.wind_core.proofs.Waking.{length-waiters}
-use Rattle.task_safety.specs.Safety.{deletion, safe_of, make_safe, lessen}
+use Rattle.sem_mutex.specs.Safety.{deletion, safe_of, make_safe, lessen}
 use Rattle.wind_base.specs.declared.profile.Profile.{Profile}
-use Rattle.inheritance.specs.declared.mutex.Mutex.{Mutex}
-use Rattle.inheritance.specs.Reach.{lifted, repried, raised_kern}
+use Rattle.sem_mutex.specs.Mutex.{Mutex}
+use Rattle.sem_mutex.specs.Reach.{lifted, repried, raised_kern}
 use Rattle.wind_core.proofs.NextId.{next-move}
 use Rattle.kernel_world.specs.Kept.{stack_of, task_stacks, HasCounts, CountsWithin}
 

@@ -8,7 +8,7 @@ use Rattle.wind_lists.specs.Records as records
 use Rattle.id_table.specs.Rows.{row_id, ids, with_object, without}
 use Rattle.module_loader.specs.Holding.{occurs}
 use Rattle.module_loader.proofs.Holds.{occurs-append}
-use Rattle.inheritance.specs.declared.mutex.Mutex.{Mutex}
+use Rattle.sem_mutex.specs.Mutex.{Mutex}
 use Rattle.kernel_world.specs.LiveIds.{AreIds}
 
 -- the owner's id, if there is an owner, is below the next one and none of these

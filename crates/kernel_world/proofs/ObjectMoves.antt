@@ -18,9 +18,9 @@ use Rattle.wind_core.proofs.Unwritten.{task_of-change}
 use Rattle.sem_plain.specs.Kept.{BeginsOnly}
 use Rattle.sem_plain.specs.Laws.{nowhere}
 use Rattle.sem_plain.proofs.Beginning.{IsOld, themselves, by_tasks}
-use Rattle.task_safety.specs.Safety.{safe_of, make_safe, lessen}
-use Rattle.task_safety.specs.Kept.{Deletes, KeepsDeleters}
-use Rattle.inheritance.specs.Mutexes.{both as with_mutexes}
+use Rattle.sem_mutex.specs.Safety.{safe_of, make_safe, lessen}
+use Rattle.sem_mutex.specs.TaskSafetyKept.{Deletes, KeepsDeleters}
+use Rattle.sem_mutex.specs.Mutexes.{both as with_mutexes}
 use Rattle.sem_mutex.specs.Kept.{KeepsMutexes}
 use Rattle.sem_mutex.specs.Laws.{SparesMutexes}
 use Rattle.sem_mutex.proofs.Lawful.{beside_law, safety_law}

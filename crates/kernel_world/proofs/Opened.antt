@@ -37,9 +37,9 @@ use Rattle.wind_core.specs.Move.{Spawn}
 use Rattle.wind_core.proofs.Moving.{move_keeps}
 use Rattle.id_table.specs.Rows.{IsId, object_of}
 use Rattle.sem_plain.specs.Kept.{IsCount, IsForEmpty, IsForMade}
-use Rattle.task_safety.specs.Kept.{Deletes, IsSafe}
+use Rattle.sem_mutex.specs.TaskSafetyKept.{Deletes, IsSafe}
 use Rattle.wind_base.specs.declared.profile.Profile.{Profile}
-use Rattle.inheritance.specs.Mutexes.{both as with_mutexes}
+use Rattle.sem_mutex.specs.Mutexes.{both as with_mutexes}
 use Rattle.sem_mutex.proofs.Opening.{opening_keeps}
 use Rattle.sem_mutex.proofs.Lawful.{beside_law}
 use Rattle.msg_queue.proofs.Events.{starts}

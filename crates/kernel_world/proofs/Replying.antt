@@ -8,7 +8,7 @@ use Rattle.wind_core.specs.State.{task_of}
 use Rattle.wind_core.specs.Moves.{past_gate}
 use Rattle.wind_core.specs.Move as moves
 use Rattle.wind_core.proofs.Unwritten.{task_of-change}
-use Rattle.task_safety.specs.Safety.{safe_of}
+use Rattle.sem_mutex.specs.Safety.{safe_of}
 use Rattle.kernel_world.specs.State.{WorldState}
 use Rattle.kernel_world.specs.Actors.{MayCall}
 use Rattle.kernel_world.specs.Replies.{with_errno, left_gate, with_answer, replied, past_gate as level_past, in_r3}

@@ -12,8 +12,8 @@ use Rattle.wind_core.specs.Orders.{waiters}
 use Rattle.wind_core.specs.Moves.{set_safe}
 use Rattle.wind_core.specs.Releases.{release_all}
 use Rattle.wind_core.proofs.Unwritten.{with_id, found_by, map-releases, task_of-change}
-use Rattle.task_safety.specs.Safety.{deletion, safe_of, lessen}
-use Rattle.task_safety.specs.Kept.{Deletes, IsSafe, KeepsDeleters}
+use Rattle.sem_mutex.specs.Safety.{deletion, safe_of, lessen}
+use Rattle.sem_mutex.specs.TaskSafetyKept.{Deletes, IsSafe, KeepsDeleters}
 
 -- what is read of a task for the safe count of an id
 abbrev pub counted : Task → ℕ × ℕ

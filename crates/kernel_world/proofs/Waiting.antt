@@ -24,12 +24,12 @@ use Rattle.sem_plain.proofs.Beginning.{then}
 use Rattle.sem_plain.proofs.Moving.{moves}
 use Rattle.sem_plain.proofs.Keeping.{beside, place_is}
 use Rattle.sem_plain.proofs.Living.{live_beside}
-use Rattle.task_safety.specs.Safety.{deletion, safe_of, lessen}
-use Rattle.task_safety.specs.Kept.{IsSafe, KeepsDeleters}
-use Rattle.task_safety.proofs.Waiting.{moves_keep, calls_keep}
+use Rattle.sem_mutex.specs.Safety.{deletion, safe_of, lessen}
+use Rattle.sem_mutex.specs.TaskSafetyKept.{IsSafe, KeepsDeleters}
+use Rattle.sem_mutex.proofs.TaskSafetyWaiting.{moves_keep, calls_keep}
 use Rattle.wind_base.specs.declared.profile.Profile.{Profile}
-use Rattle.inheritance.specs.declared.mutex.Mutex.{Mutex}
-use Rattle.inheritance.specs.Reach.{lifted, repried, raised_kern}
+use Rattle.sem_mutex.specs.Mutex.{Mutex}
+use Rattle.sem_mutex.specs.Reach.{lifted, repried, raised_kern}
 use Rattle.kernel_world.specs.Objects.{is_live, deletion_gate, WaitsRight, KeepsWaits, IsFree}
 use Rattle.kernel_world.specs.declared.objects.Objects.{Objects}
 

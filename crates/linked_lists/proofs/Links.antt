@@ -3,8 +3,8 @@ use Rattle.std.proofs.Common.{◌≡◌, ℕ, zero, suc, ◌≤◌, true, false,
 use Rattle.std.specs.Bool.{⊤}
 use Rattle.std.specs.Option.{option_map}
 use Rattle.std.proofs.lemmas.Bool.{eqb-true, eqb-false, eq-eqb, ne_eqb}
-use Rattle.wind_lists.specs.Records.{of_id, without}
-use Rattle.wind_lists.proofs.Places.{none_without, not_there}
+use Rattle.id_table.specs.Records.{of_id, without}
+use Rattle.id_table.proofs.WindListsPlaces.{none_without, not_there}
 use Rattle.linked_lists.specs.declared.node.Node.{Node}
 use Rattle.linked_lists.specs.Chains.{cell_key, is_key, hold, Apart}
 use Rattle.linked_lists.specs.Inside.{first_or, last_or, goes_on, goes_back, holds, Linked, stepped, walked}

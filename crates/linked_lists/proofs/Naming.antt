@@ -8,11 +8,11 @@ use Rattle.std.proofs.lemmas.List.{get_or_past, get_or-map, map-set, length-map,
 use Rattle.std.proofs.lemmas.List.Elements.{All-append, All-cons, All-head, All-tail, All-weaker, All-filter, filter_passes, filter-append}
 use Rattle.std.proofs.lemmas.List.Sums.{position_or_len_is}
 use Rattle.std.proofs.lemmas.Option.{same_Some}
-use Rattle.wind_lists.specs.Records.{of_id, without, with_record, StandsAt, Rising}
-use Rattle.wind_lists.proofs.Records.{found_place}
-use Rattle.wind_lists.proofs.Halving.{IsRank}
-use Rattle.wind_lists.proofs.Sorting.{length-insert_sorted}
-use Rattle.wind_lists.proofs.Places.{place_of, insert_place, of_id-without, of_id-with_record, Rising-without, Rising-with_record}
+use Rattle.id_table.specs.Records.{of_id, without, with_record, StandsAt, Rising}
+use Rattle.id_table.proofs.Records.{found_place}
+use Rattle.id_table.proofs.Halving.{IsRank}
+use Rattle.id_table.proofs.Sorting.{length-insert_sorted}
+use Rattle.id_table.proofs.WindListsPlaces.{place_of, insert_place, of_id-without, of_id-with_record, Rising-without, Rising-with_record}
 use Rattle.id_table.specs.declared.entry.Entry.{Entry}
 use Rattle.linked_lists.specs.declared.id_lists.Member.{Member}
 use Rattle.linked_lists.specs.Chains.{Chains, cell_key, all_cells, chain_at, first_key, is_key, put_before, value_in, value_of, IsOnlyIn}

@@ -3,7 +3,7 @@ use Rattle.std.proofs.Common.{◌≡◌, ℕ, ◌+◌, ◌<◌, List, length, ma
 use Rattle.std.specs.Prelude.{IsSome}
 use Rattle.std.proofs.lemmas.Option.{same_Some}
 use Rattle.slab.specs.Slab.{Slab, Updates, get, slab_len}
-use Rattle.wind_lists.specs.Records.{without}
+use Rattle.id_table.specs.Records.{without}
 use Rattle.linked_lists.specs.declared.node.Node.{Node}
 use Rattle.linked_lists.specs.declared.node.Ends.{Ends}
 use Rattle.linked_lists.specs.Chains.{Chains, all_cells, cell_key, chain_at, hold, put_before, value_in, value_of, with_cell}

@@ -3,7 +3,7 @@ use Rattle.std.specs.Prelude.{◌≡◌, ℕ, ◌<◌, ◌≤◌, ◌==◌, Bool
 use Rattle.std.specs.Bool.{⊤}
 use Rattle.std.specs.Option.{option_map}
 use Rattle.std.specs.Coded.{Coded, code_by, coded×, coded_ℕ, coded_list}
-use Rattle.wind_lists.specs.Records as records
+use Rattle.id_table.specs.Records as records
 
 -- the lists, each as the keys of its nodes with their values, and the room
 pub record Chains (T : Type 0) : Type 0 where

@@ -2,7 +2,7 @@
 use Rattle.std.specs.Prelude.{◌≡◌, ℕ, List, map, length, Option, None, Some, MatchOption, option_and_then}
 use Rattle.std.specs.Option.{option_map}
 use Rattle.std.specs.List.{All}
-use Rattle.wind_lists.specs.Records.{of_id, Rising}
+use Rattle.id_table.specs.Records.{of_id, Rising}
 use Rattle.id_table.specs.declared.entry.Entry.{Entry}
 use Rattle.id_table.specs.Entries.{entry_id}
 use Rattle.linked_lists.specs.declared.id_lists.Member.{Member}

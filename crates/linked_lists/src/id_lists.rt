@@ -7,8 +7,8 @@ ghost use Rattle.linked_lists.specs.Named.{list_found};
 
 use crate::index::{key_at, key_of};
 use crate::lists::Lists;
-use id_table::{Ident, NoMemory};
 use id_table::entry::{Entry, place_of, rank_of};
+use id_table::{Ident, NoMemory};
 use std::alloc::Global;
 use std::marker::Model;
 

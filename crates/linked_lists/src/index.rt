@@ -1,7 +1,7 @@
 //! The index: where the node of each id is.
 
 ghost use Rattle.std.specs.Prelude.{◌≡◌, Some, IsSome};
-ghost use Rattle.wind_lists.specs.Records.{of_id, Rising};
+ghost use Rattle.id_table.specs.Records.{of_id, Rising};
 ghost use Rattle.id_table.specs.Entries.{entry_id};
 ghost use Rattle.linked_lists.specs.Named.{key_found};
 

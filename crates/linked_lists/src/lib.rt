@@ -7,5 +7,5 @@ mod lists;
 mod node;
 
 pub use id_lists::IdLists;
-pub use id_table::{Ident, NoMemory};
+pub use id_table::{Ident, NoMemory, Place};
 pub use lists::Lists;

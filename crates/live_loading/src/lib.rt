@@ -8,5 +8,6 @@ mod outcome;
 mod text;
 
 pub use answer::FileAnswer;
+pub use kernel_calls::{end_task, file_wanted, is_device, make_call};
 pub use laws::loading_law;
 pub use load::kernel_load;

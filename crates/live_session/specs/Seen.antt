@@ -6,7 +6,7 @@ use Rattle.wind_base.specs.Limits.{most_steps}
 use Rattle.wind_base.specs.OutBuf.{Output}
 use Rattle.wind_outside.specs.declared.device.Device.{Ghosts}
 use Rattle.wind_outside.specs.declared.device.DeviceKind.{DeviceKind}
-use Rattle.board_player.specs.Seen.{board_by, seen}
+use Rattle.wind_session.specs.BoardSeen.{board_by, seen}
 use Rattle.wind_machine.specs.State.{State}
 use Rattle.wind_machine.specs.Extending.{Setup, IsRoom}
 use Rattle.wind_session.specs.Live.{IsLive}

@@ -13,13 +13,12 @@ ghost use Rattle.live_session.specs.Seen.{live_seen, IsSound, IsLiveAt, GoesOn};
 ghost use Rattle.live_session.specs.declared.record.Refusal.TheVariants as refusals;
 
 use crate::record::{Record, Refusal, add_event, line_of, next_time};
-use board_player::Board;
 use std::alloc::Global;
 use tick_file::{Event, writing_law};
 use wind_base::NoMemory;
 use wind_base::limits::STEPS;
 use wind_outside::{Device, Folder, Sink};
-use wind_session::{RunEnd, growing_law, resume_board};
+use wind_session::{Board, RunEnd, growing_law, resume_board};
 
 /// The board of a live session, and the record of what was sent to it.
 #[derive(Drop)]

@@ -21,12 +21,11 @@ use crate::record::Record;
 use crate::record_folder::RecordFolder;
 use crate::saving::{Target, Unsaved, paths_of};
 use crate::status::Status;
-use board_player::Board;
 use std::alloc::Global;
 use tick_file::{read_ticks, writing_law};
 use wind_base::NoMemory;
 use wind_outside::{Device, Folder, Sink, Slots};
-use wind_session::{CommandErr, tell_usage};
+use wind_session::{Board, CommandErr, tell_usage};
 
 // Says why a session ended.
 fn tell_status<E: Sink>(err: &mut E, status: Status) {

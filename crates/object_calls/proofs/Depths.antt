@@ -4,7 +4,7 @@ use Rattle.std.proofs.lemmas.List.Elements.{All-weaker}
 use Rattle.id_table.specs.Rows.{object_of}
 use Rattle.id_table.proofs.Lookups.{found_has}
 use Rattle.wind_core.specs.State.{KernState}
-use Rattle.inheritance.specs.declared.mutex.Mutex.{Mutex}
+use Rattle.kernel_world.specs.Mutex.{Mutex}
 use Rattle.kernel_world.specs.Objects.{DepthsWithin}
 use Rattle.kernel_world.specs.declared.objects.Objects.{Objects}
 use Rattle.object_calls.proofs.EachMutex.{MayChange}

@@ -10,11 +10,11 @@ use Rattle.id_table.proofs.Lookups.{All-write}
 use Rattle.task_block.specs.declared.task.Task.{Task as TaskRecord}
 use Rattle.wind_core.specs.State.{KernState}
 use Rattle.wind_core.specs.Orders.{first_waiter}
-use Rattle.sem_plain.specs.Calls as plain
-use Rattle.inheritance.specs.declared.mutex.Mutex.{Mutex}
-use Rattle.inheritance.specs.Mutexes.{mutex_place}
-use Rattle.sem_mutex.specs.Calls as mutex
-use Rattle.sem_mutex.specs.Making as making
+use Rattle.kernel_world.specs.SemPlainCalls as plain
+use Rattle.kernel_world.specs.Mutex.{Mutex}
+use Rattle.kernel_world.specs.Mutexes.{mutex_place}
+use Rattle.kernel_world.specs.SemMutexCalls as mutex
+use Rattle.kernel_world.specs.SemMutexMaking as making
 use Rattle.object_calls.specs.SemRows.{ObjectRow, refused, mutexes, is_mutex, binary_row, counting_row, mutex_row, take_row, give_row, flush_row, delete_row, priority_row}
 use Rattle.kernel_world.specs.declared.objects.Objects.{Objects}
 use Rattle.kernel_world.specs.declared.actor.Actor.{Actor}

@@ -14,10 +14,10 @@ use Rattle.id_table.proofs.Lookups.{object_of-push, object_of-without}
 use Rattle.wind_lists.proofs.Passing.{length-filter}
 use Rattle.wind_core.specs.State.{KernState}
 use Rattle.wind_core.specs.Orders.{is_place}
-use Rattle.sem_plain.specs.State.{both as with_semaphores}
-use Rattle.sem_plain.specs.Kept.{KeepsSemaphores}
-use Rattle.inheritance.specs.declared.mutex.Mutex.{Mutex}
-use Rattle.inheritance.specs.Mutexes.{AreMutexes, LiveMutexes, mutex_place}
+use Rattle.kernel_world.specs.SemPlainState.{both as with_semaphores}
+use Rattle.kernel_world.specs.SemPlainKept.{KeepsSemaphores}
+use Rattle.kernel_world.specs.Mutex.{Mutex}
+use Rattle.kernel_world.specs.Mutexes.{AreMutexes, LiveMutexes, mutex_place}
 use Rattle.kernel_world.specs.Objects.{is_queue_side, is_live, KeepsWaits}
 use Rattle.kernel_world.specs.declared.objects.Objects.{Objects}
 

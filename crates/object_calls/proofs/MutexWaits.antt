@@ -13,13 +13,13 @@ use Rattle.wind_core.specs.State.{KernState, IsKern, task_of}
 use Rattle.wind_core.specs.Orders.{first_waiter}
 use Rattle.wind_core.specs.Moves.{end_wait, wake_all, change_pri, set_held, set_normal}
 use Rattle.wind_core.specs.Move.{Move, Pend, EndWait, WakeAll, ChangePri, SetNormal, SetSafe, SetHeld, apply, IsAllowed}
-use Rattle.sem_plain.specs.State.{both as with_semaphores}
-use Rattle.sem_plain.specs.Laws.{MayBegin}
-use Rattle.task_safety.specs.Safety.{safe_of, make_safe, lessen}
-use Rattle.inheritance.specs.declared.mutex.Mutex.{Mutex}
-use Rattle.inheritance.specs.Mutexes.{MutexState, mutex_place}
-use Rattle.inheritance.specs.Reach.{raised_kern}
-use Rattle.sem_mutex.specs.Calls.{at_once, followed, held_of, holding, guarded, eased, restored, less_held, dropped, letting_go, hand, deepen, await, taken, take_alone, take, is_others, take_refusal, freed, owned, pass_on, give_up, shallow, give_alone, give, ended, owner_ended, delete_alone, delete, pri_after, priority_alone, priority_set}
+use Rattle.kernel_world.specs.SemPlainState.{both as with_semaphores}
+use Rattle.kernel_world.specs.SemPlainLaws.{MayBegin}
+use Rattle.kernel_world.specs.Safety.{safe_of, make_safe, lessen}
+use Rattle.kernel_world.specs.Mutex.{Mutex}
+use Rattle.kernel_world.specs.Mutexes.{MutexState, mutex_place}
+use Rattle.kernel_world.specs.Reach.{raised_kern}
+use Rattle.kernel_world.specs.SemMutexCalls.{at_once, followed, held_of, holding, guarded, eased, restored, less_held, dropped, letting_go, hand, deepen, await, taken, take_alone, take, is_others, take_refusal, freed, owned, pass_on, give_up, shallow, give_alone, give, ended, owner_ended, delete_alone, delete, pri_after, priority_alone, priority_set}
 use Rattle.msg_queue.specs.Kept.{IsCalm}
 use Rattle.msg_queue.specs.Laws.{SparesQueues}
 use Rattle.msg_queue.proofs.Calm.{calms}

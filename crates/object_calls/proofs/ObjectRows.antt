@@ -15,22 +15,22 @@ use Rattle.id_table.proofs.Lookups.{found_below, no_object_of}
 use Rattle.wind_core.specs.State.{KernState, IsKern}
 use Rattle.wind_core.specs.Orders.{is_place}
 use Rattle.wind_core.specs.Move.{Pend, EndWait, WakeAll, DrawIds}
-use Rattle.sem_plain.specs.declared.semaphore.Semaphore.{Semaphore}
-use Rattle.sem_plain.specs.State.{SemState, sem_place, may_hold}
-use Rattle.sem_plain.specs.Calls as plain
-use Rattle.sem_plain.specs.Kept.{KeepsSemaphores}
-use Rattle.sem_plain.specs.Laws.{WaitsLiveIn, KeptByCalls, LiveByCalls}
-use Rattle.sem_plain.proofs.Keeping.{may_pend, calls_keep}
-use Rattle.sem_plain.proofs.Living.{calls_live}
-use Rattle.sem_plain.proofs.Moving.{same_itself}
-use Rattle.task_safety.proofs.Waiting.{moves_keep}
-use Rattle.inheritance.specs.declared.mutex.Mutex.{Mutex}
-use Rattle.inheritance.specs.Mutexes.{MutexState, LiveMutexes, both, mutex_place}
-use Rattle.sem_mutex.specs.Calls as mutex
-use Rattle.sem_mutex.specs.Making as making
-use Rattle.sem_mutex.specs.Kept.{MutexKept, KeepsMutexes}
-use Rattle.sem_mutex.specs.Laws as laws
-use Rattle.sem_mutex.proofs.Lawful.{beside_law, calls_law, gone_law}
+use Rattle.kernel_world.specs.Semaphore.{Semaphore}
+use Rattle.kernel_world.specs.SemPlainState.{SemState, sem_place, may_hold}
+use Rattle.kernel_world.specs.SemPlainCalls as plain
+use Rattle.kernel_world.specs.SemPlainKept.{KeepsSemaphores}
+use Rattle.kernel_world.specs.SemPlainLaws.{WaitsLiveIn, KeptByCalls, LiveByCalls}
+use Rattle.kernel_world.proofs.SemPlainKeeping.{may_pend, calls_keep}
+use Rattle.kernel_world.proofs.SemPlainLiving.{calls_live}
+use Rattle.kernel_world.proofs.SemPlainMoving.{same_itself}
+use Rattle.kernel_world.proofs.TaskSafetyWaiting.{moves_keep}
+use Rattle.kernel_world.specs.Mutex.{Mutex}
+use Rattle.kernel_world.specs.Mutexes.{MutexState, LiveMutexes, both, mutex_place}
+use Rattle.kernel_world.specs.SemMutexCalls as mutex
+use Rattle.kernel_world.specs.SemMutexMaking as making
+use Rattle.kernel_world.specs.MutexesKept.{MutexKept, KeepsMutexes}
+use Rattle.kernel_world.specs.SemMutexLaws as laws
+use Rattle.kernel_world.proofs.SemMutexLawful.{beside_law, calls_law, gone_law}
 use Rattle.msg_queue.proofs.Calm.{calms}
 use Rattle.kernel_world.specs.Objects.{is_live_beside, KeepsObjects}
 use Rattle.object_calls.specs.SemRows.{ObjectRow, live_in, sems, mutexes, is_mutex, refused, by_semaphores, by_mutexes, made, binary_row, counting_row, mutex_with, mutex_row, took_reply, take_row, give_row, flush_row, delete_row, priority_row}

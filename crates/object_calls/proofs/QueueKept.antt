@@ -21,10 +21,10 @@ use Rattle.wind_core.proofs.Moving.{move_keeps}
 use Rattle.wind_core.proofs.Lawful.{none_left}
 use Rattle.wind_core.proofs.Passes.{waits_before-order}
 use Rattle.wind_core.proofs.Stable.{move_task-stable}
-use Rattle.inheritance.specs.Mutexes.{both as with_mutexes}
-use Rattle.sem_mutex.specs.Kept.{MutexKept, KeepsMutexes}
-use Rattle.sem_mutex.specs.Laws.{SparesMutexes}
-use Rattle.sem_mutex.proofs.Lawful.{beside_law}
+use Rattle.kernel_world.specs.Mutexes.{both as with_mutexes}
+use Rattle.kernel_world.specs.MutexesKept.{MutexKept, KeepsMutexes}
+use Rattle.kernel_world.specs.SemMutexLaws.{SparesMutexes}
+use Rattle.kernel_world.proofs.SemMutexLawful.{beside_law}
 use Rattle.msg_queue.specs.declared.words.Sending.{Sending}
 use Rattle.msg_queue.specs.declared.words.Receiving.{Receiving}
 use Rattle.msg_queue.specs.State.{QueueState, QueuesState, Scene, scene, queue_of, size_of, added, receivers, senders, first_asking, with_queue}

@@ -11,13 +11,13 @@ use Rattle.task_block.specs.declared.task.Task.{Task as TaskRecord}
 use Rattle.wind_lists.proofs.Records.{found_id, found_at}
 use Rattle.wind_core.specs.State.{KernState, IsKern, Lives, task_id, task_of}
 use Rattle.wind_core.specs.Orders.{first_waiter}
-use Rattle.sem_plain.specs.declared.semaphore.Semaphore.{Semaphore}
-use Rattle.sem_plain.specs.Calls as plain
-use Rattle.inheritance.specs.declared.mutex.Mutex.{Mutex}
-use Rattle.inheritance.specs.Mutexes.{LiveMutexes, mutex_place}
-use Rattle.sem_mutex.specs.Calls as mutex
-use Rattle.sem_mutex.specs.Making as making
-use Rattle.sem_mutex.proofs.Answering.{next_lives}
+use Rattle.kernel_world.specs.Semaphore.{Semaphore}
+use Rattle.kernel_world.specs.SemPlainCalls as plain
+use Rattle.kernel_world.specs.Mutex.{Mutex}
+use Rattle.kernel_world.specs.Mutexes.{LiveMutexes, mutex_place}
+use Rattle.kernel_world.specs.SemMutexCalls as mutex
+use Rattle.kernel_world.specs.SemMutexMaking as making
+use Rattle.kernel_world.proofs.SemMutexAnswering.{next_lives}
 use Rattle.msg_queue.specs.declared.words.Sending.{Sending}
 use Rattle.msg_queue.specs.declared.words.Receiving.{Receiving}
 use Rattle.msg_queue.specs.declared.asks.Ask.{Ask}

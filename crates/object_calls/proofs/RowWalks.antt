@@ -7,10 +7,10 @@ use Rattle.wind_base.specs.declared.semaphore.SemKind.TheVariants as kinds
 use Rattle.wind_base.specs.declared.semaphore.SemOptions.{SemOptions}
 use Rattle.id_table.specs.Rows.{object_of}
 use Rattle.wind_core.specs.State.{KernState}
-use Rattle.sem_plain.specs.declared.semaphore.Semaphore.{Semaphore}
-use Rattle.sem_plain.specs.Calls as plain
-use Rattle.sem_mutex.specs.Calls as mutex
-use Rattle.sem_mutex.specs.Making as making
+use Rattle.kernel_world.specs.Semaphore.{Semaphore}
+use Rattle.kernel_world.specs.SemPlainCalls as plain
+use Rattle.kernel_world.specs.SemMutexCalls as mutex
+use Rattle.kernel_world.specs.SemMutexMaking as making
 use Rattle.object_calls.specs.SemRows.{ObjectRow, refused, by_semaphores, by_mutexes, sems, mutexes, is_mutex, of_task, made_unless, made, binary_with, binary_row, counting_with, counting_row, mutex_unless, mutex_with, mutex_row, took_reply, plain_take_unless, plain_take, mutex_take_unless, mutex_take, take_row, plain_give_unless, plain_give, mutex_give_unless, mutex_give, give_row, flush_unless, flush_row, plain_delete_unless, delete_row, priority_row}
 use Rattle.kernel_world.specs.declared.objects.Objects.{Objects}
 use Rattle.kernel_world.specs.declared.actor.Actor.{Actor}

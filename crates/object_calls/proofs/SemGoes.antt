@@ -11,14 +11,14 @@ use Rattle.wind_core.specs.State.{KernState, IsKern, task_of}
 use Rattle.wind_core.specs.Orders.{first_waiter}
 use Rattle.wind_core.specs.Moves.{end_wait, wake_all, change_pri, set_held, set_normal}
 use Rattle.wind_core.specs.Move.{Pend, EndWait, WakeAll, ChangePri, SetNormal, SetHeld}
-use Rattle.task_safety.specs.Safety.{make_safe, lessen}
-use Rattle.sem_plain.specs.declared.semaphore.Semaphore.{Semaphore}
-use Rattle.sem_plain.specs.State.{sem_place}
-use Rattle.sem_plain.specs.Calls as plain
-use Rattle.inheritance.specs.declared.mutex.Mutex.{Mutex}
-use Rattle.inheritance.specs.Mutexes.{MutexState, mutex_place}
-use Rattle.inheritance.specs.Reach.{raised_kern}
-use Rattle.sem_mutex.specs.Calls as mutex
+use Rattle.kernel_world.specs.Safety.{make_safe, lessen}
+use Rattle.kernel_world.specs.Semaphore.{Semaphore}
+use Rattle.kernel_world.specs.SemPlainState.{sem_place}
+use Rattle.kernel_world.specs.SemPlainCalls as plain
+use Rattle.kernel_world.specs.Mutex.{Mutex}
+use Rattle.kernel_world.specs.Mutexes.{MutexState, mutex_place}
+use Rattle.kernel_world.specs.Reach.{raised_kern}
+use Rattle.kernel_world.specs.SemMutexCalls as mutex
 use Rattle.kernel_world.specs.Kept.{CountsWithin, call_sinces}
 use Rattle.object_calls.specs.SemRows.{ObjectRow, refused, sems, mutexes, made, binary_row, counting_row, mutex_row, take_row, give_row, flush_row, delete_row, priority_row}
 use Rattle.object_calls.proofs.RowWalks.{on_made, on_binary, on_counting, on_mutex, on_plain_take, on_mutex_take, on_take, on_plain_give, on_mutex_give, on_give, on_flush, on_delete, on_priority}

@@ -11,12 +11,12 @@ use Rattle.id_table.specs.Rows.{object_of}
 use Rattle.wind_core.specs.State.{KernState}
 use Rattle.wind_core.specs.declared.took.Took.{Took}
 use Rattle.wind_core.specs.declared.took.Took.TheVariants.{Taken, Pended}
-use Rattle.sem_plain.specs.declared.semaphore.Semaphore.{Semaphore}
-use Rattle.sem_plain.specs.State.{SemState, both as with_semaphores}
-use Rattle.sem_plain.specs.Calls as plain
-use Rattle.inheritance.specs.Mutexes.{MutexState, LiveMutexes, both as with_mutexes}
-use Rattle.sem_mutex.specs.Calls as mutex
-use Rattle.sem_mutex.specs.Making as making
+use Rattle.kernel_world.specs.Semaphore.{Semaphore}
+use Rattle.kernel_world.specs.SemPlainState.{SemState, both as with_semaphores}
+use Rattle.kernel_world.specs.SemPlainCalls as plain
+use Rattle.kernel_world.specs.Mutexes.{MutexState, LiveMutexes, both as with_mutexes}
+use Rattle.kernel_world.specs.SemMutexCalls as mutex
+use Rattle.kernel_world.specs.SemMutexMaking as making
 use Rattle.kernel_world.specs.declared.objects.Objects.{Objects}
 use Rattle.kernel_world.specs.declared.actor.Actor.{Actor}
 use Rattle.kernel_world.specs.declared.actor.Actor.TheVariants.{Task, Interrupt}

@@ -3,8 +3,8 @@
 ghost use Rattle.std.specs.Prelude.{◌≡◌, true, false};
 ghost use Rattle.id_table.specs.Rows.{IdsBelow};
 ghost use Rattle.wind_core.specs.State.{Lives};
-ghost use Rattle.sem_plain.specs.{State.{IsEarly as PlainEarly, may_hold}, Calls.new_semaphore};
-ghost use Rattle.sem_mutex.specs.Kept.{FewSafe, FewSinces, IsEarly, KeepsMutexes};
+ghost use Rattle.kernel_world.specs.{SemPlainState.{IsEarly as PlainEarly, may_hold}, SemPlainCalls.new_semaphore};
+ghost use Rattle.kernel_world.specs.MutexesKept.{FewSafe, FewSinces, IsEarly, KeepsMutexes};
 ghost use Rattle.kernel_world.specs.Actors.{Acts, target as target_lem};
 ghost use Rattle.object_calls.specs.SemRows.{row_of, mutexes, made, binary_row, counting_row, mutex_row, plain_take, mutex_take, take_row, plain_give, mutex_give, give_row, flush_row, delete_row, priority_row};
 

@@ -13,3 +13,6 @@ pub mod Steady
 pub mod Opening
 pub mod Lawful
 pub mod Answering
+pub use Rattle.task_safety.proofs.Waiting as TaskSafetyWaiting
+pub use Rattle.inheritance.proofs.Same
+pub use Rattle.inheritance.proofs.Exact

@@ -15,12 +15,12 @@ use Rattle.wind_core.proofs.Keeping.{change_task_keeps}
 use Rattle.wind_core.proofs.Moving.{move_keeps}
 use Rattle.wind_core.proofs.Stable.{All-change}
 use Rattle.wind_core.proofs.Becoming.{All-change_at}
-use Rattle.sem_plain.specs.State.{both as with_semaphores}
-use Rattle.sem_plain.specs.Kept.{BeginsOnly}
-use Rattle.sem_plain.specs.Laws.{MayBegin}
-use Rattle.sem_plain.proofs.Beginning.{by_change, then}
-use Rattle.sem_plain.proofs.Moving.{begins-pend}
-use Rattle.sem_plain.proofs.Keeping.{place_is}
+use Rattle.kernel_world.specs.SemPlainState.{both as with_semaphores}
+use Rattle.kernel_world.specs.SemPlainKept.{BeginsOnly}
+use Rattle.kernel_world.specs.SemPlainLaws.{MayBegin}
+use Rattle.kernel_world.proofs.SemPlainBeginning.{by_change, then}
+use Rattle.kernel_world.proofs.SemPlainMoving.{begins-pend}
+use Rattle.kernel_world.proofs.SemPlainKeeping.{place_is}
 use Rattle.task_safety.specs.Safety.{deletion, safe_of, lessen, unsafe_refusal}
 use Rattle.task_safety.specs.Deletion.{deed_of, asked, unguarded, awaiting, after}
 use Rattle.task_safety.specs.Kept.{Deletes, KeepsDeleters}
@@ -28,15 +28,15 @@ use Rattle.task_safety.specs.declared.deleting.Deed.{Deed}
 use Rattle.task_safety.specs.declared.deleting.Deed.TheVariants.{Refuses, EndsItself, Removes, Awaits}
 use Rattle.task_safety.proofs.Targets.{Says, deed_says}
 use Rattle.task_safety.proofs.Waiting.{moves_keep, calls_keep}
-use Rattle.inheritance.specs.Mutexes.{both as with_mutexes}
-use Rattle.sem_mutex.specs.Kept.{KeepsMutexes}
-use Rattle.sem_mutex.proofs.Following.{alike, follows_keeps}
-use Rattle.sem_mutex.proofs.Following as mutexes
-use Rattle.sem_mutex.proofs.Keeping.{kern_lessen}
-use Rattle.sem_mutex.proofs.Handing.{lives_below}
-use Rattle.sem_mutex.proofs.Lawful.{beside_law}
-use Rattle.msg_queue.specs.Kept.{IsCalm}
-use Rattle.msg_queue.proofs.Calm.{calm_set, calm_then, calm_series}
+use Rattle.kernel_world.specs.Mutexes.{both as with_mutexes}
+use Rattle.kernel_world.specs.MutexesKept.{KeepsMutexes}
+use Rattle.kernel_world.proofs.Following.{alike, follows_keeps}
+use Rattle.kernel_world.proofs.Following as mutexes
+use Rattle.kernel_world.proofs.SemMutexKeeping.{kern_lessen}
+use Rattle.kernel_world.proofs.Handing.{lives_below}
+use Rattle.kernel_world.proofs.SemMutexLawful.{beside_law}
+use Rattle.kernel_world.specs.MsgQueueKept.{IsCalm}
+use Rattle.kernel_world.proofs.Calm.{calm_set, calm_then, calm_series}
 use Rattle.kernel_world.specs.Objects.{is_live, deletion_gate, WaitsRight, KeepsWaits, KeepsObjects, IsFree}
 use Rattle.kernel_world.specs.Actors.{MayCall}
 use Rattle.task_calls.specs.Ending as ending

@@ -4,7 +4,7 @@ use Rattle.std.specs.Prelude.{IfOk, OnOk}
 use Rattle.std.proofs.lemmas.List.{append-nil}
 use Rattle.wind_outside.specs.Appending.{AppendedPrefix}
 use Rattle.wind_outside.specs.Requests.{GrowsBy, Request}
-use Rattle.live_loading.specs.Said.{FileSaid}
+use Rattle.wind_session.specs.Said.{FileSaid}
 use Rattle.wind_machine.specs.State.{State}
 use Rattle.wind_machine.specs.Machine.{machine_step}
 use Rattle.wind_machine.specs.Run.{Answers, after}

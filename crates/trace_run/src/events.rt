@@ -8,7 +8,7 @@ ghost use Rattle.wind_outside.specs.declared.sink.Put.TheVariants as puts;
 ghost use Rattle.wind_machine.specs.State.{State};
 ghost use Rattle.wind_machine.specs.Run.{Answers, after};
 ghost use Rattle.wind_machine.specs.Silent.{SilentSteps};
-ghost use Rattle.board_player.specs.Seen.{seen};
+ghost use Rattle.wind_session.specs.BoardSeen.{seen};
 ghost use Rattle.board_trace.specs.Runs.{Line, lines_of};
 ghost use Rattle.board_trace.specs.Snapshots.{snapshot_of};
 ghost use Rattle.board_trace.specs.Views.{snapshot_state};
@@ -20,15 +20,14 @@ ghost use Rattle.trace_run.specs.Traced.{HoldsLines, IsPutOf, TellsEvents, Tells
 use crate::laws::silent_lines_law;
 use crate::run::{Teller, tell_run};
 use crate::tracer::Tracer;
-use board_player::Board;
-use board_reading::last_actor;
 use board_trace::BeforeStep;
 use std::alloc::Global;
+use trace_state::last_actor;
 use trace_text::Page;
 use wind_base::NoMemory;
 use wind_machine::silent_law;
 use wind_outside::{Device, Folder, Put, Sink};
-use wind_session::RunEnd;
+use wind_session::{Board, RunEnd};
 
 // A page is put once it has this many bytes.
 const PAGE_BYTES: usize = 65_536;

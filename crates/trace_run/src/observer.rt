@@ -1,23 +1,23 @@
 //! What a picture of a run needs of each step: spans, ticks, routines and marks.
 
 ghost use Rattle.std.specs.Prelude.{◌≡◌, OnOk, IfOk};
-ghost use Rattle.board_player.specs.Seen.{seen};
+ghost use Rattle.wind_session.specs.BoardSeen.{seen};
 ghost use Rattle.board_trace.specs.Snapshots.{snapshot_of};
 ghost use Rattle.board_trace.specs.Views.{snapshot_state};
 ghost use Rattle.task_spans.specs.Spans.{closed};
 ghost use Rattle.trace_run.specs.Spans.{looked_at, observed_in, opening_spans};
 
 use crate::reader::StepReader;
-use board_player::Board;
-use board_reading::runner;
 use board_trace::{BeforeStep, Happening, Snapshot, is_instruction};
 use id_table::Ident;
 use kernel_world::Actor;
 use std::alloc::Global;
 use task_spans::Spans;
 use trace_picture::{Kind, Mark, Picture, RowName, add_picture};
+use trace_state::runner;
 use wind_base::{NoMemory, ShortName};
 use wind_outside::Device;
+use wind_session::Board;
 
 /// What a picture needs of a run besides the spans of the tasks.
 #[derive(Drop)]

@@ -1,19 +1,19 @@
 //! What happens in each step of a board, from snapshots before and after it.
 
 ghost use Rattle.std.specs.Prelude.{◌≡◌, OnOk, IfOk};
-ghost use Rattle.board_player.specs.Seen.{seen};
+ghost use Rattle.wind_session.specs.BoardSeen.{seen};
 ghost use Rattle.board_trace.specs.Snapshots.{snapshot_of};
 ghost use Rattle.board_trace.specs.Views.{snapshot_state};
 ghost use Rattle.trace_run.specs.Steps.{happenings_read};
 
 use board_changes::Change;
-use board_player::Board;
-use board_reading::{empty_snapshot, look_after, take_snapshot};
 use board_trace::{BeforeStep, Happening, Snapshot, StepViews, add_happenings};
 use std::alloc::Global;
 use std::mem;
+use trace_state::{empty_snapshot, look_after, take_snapshot};
 use wind_base::NoMemory;
 use wind_outside::Device;
+use wind_session::Board;
 
 /// Reads what happens in each step of a board.
 #[derive(Drop)]

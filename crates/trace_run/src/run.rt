@@ -7,20 +7,19 @@ ghost use Rattle.wind_outside.specs.declared.sink.Put.TheVariants as puts;
 ghost use Rattle.wind_machine.specs.State.{State};
 ghost use Rattle.wind_machine.specs.Run.{Answers, after};
 ghost use Rattle.wind_machine.specs.Silent.{SilentSteps};
-ghost use Rattle.board_player.specs.Seen.{seen};
+ghost use Rattle.wind_session.specs.BoardSeen.{seen};
 ghost use Rattle.board_trace.specs.Before.{before_step as before_step_lem};
 ghost use Rattle.wind_session.specs.declared.run.RunEnd.TheVariants as ends;
 ghost use Rattle.trace_run.specs.Traced.{Traced};
 ghost use Rattle.trace_run.specs.Telling.{GoesOn, IsTold, IsToldInPart, StepFrom};
 
-use board_player::Board;
-use board_reading::look_before;
 use board_trace::BeforeStep;
 use std::alloc::Global;
+use trace_state::look_before;
 use wind_base::NoMemory;
 use wind_machine::silent_law;
 use wind_outside::{Device, Folder, Put, Sink};
-use wind_session::{Move, RunEnd, step};
+use wind_session::{Board, Move, RunEnd, step};
 
 /// Tells of the steps of a run.
 ///

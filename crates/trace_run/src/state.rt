@@ -3,17 +3,16 @@
 ghost use Rattle.std.specs.Prelude.{◌≡◌, ◌≤◌, IfOk, OnErr};
 ghost use Rattle.wind_base.specs.Limits.{most_steps};
 ghost use Rattle.wind_outside.specs.Counts.{Rose};
-ghost use Rattle.board_player.specs.Seen.{seen};
+ghost use Rattle.wind_session.specs.BoardSeen.{seen};
 ghost use Rattle.wind_session.specs.declared.run.RunEnd.TheVariants as ends;
 ghost use Rattle.trace_run.specs.Traced.{IsPutAfter, TellsNothing, Traced};
 
 use crate::timeline::put_text;
-use board_player::Board;
 use std::alloc::Global;
 use trace_state::state_text;
 use wind_base::NoMemory;
 use wind_outside::{Device, Folder, Sink};
-use wind_session::{RunEnd, count_board};
+use wind_session::{Board, RunEnd, count_board};
 
 /// Makes steps, at most `limit`, and puts the board that they leave. The modules that the steps need
 /// are fetched from the folder.

@@ -3,20 +3,19 @@
 ghost use Rattle.std.specs.Prelude.{◌≡◌, ◌≢◌, ◌⊎◌, ◌≤◌, IfOk, OnErr};
 ghost use Rattle.wind_base.specs.Limits.{most_steps};
 ghost use Rattle.wind_outside.specs.Counts.{Rose};
-ghost use Rattle.board_player.specs.Seen.{seen};
+ghost use Rattle.wind_session.specs.BoardSeen.{seen};
 ghost use Rattle.wind_session.specs.declared.run.RunEnd.TheVariants as ends;
 ghost use Rattle.trace_run.specs.Traced.{TellsNothing, TellsSpans, Traced};
 
 use crate::observer::Observer;
 use crate::run::{Teller, tell_run};
-use board_player::Board;
 use board_trace::BeforeStep;
 use std::alloc::Global;
 use task_spans::Spans;
 use wind_base::NoMemory;
 use wind_machine::silent_law;
 use wind_outside::{Device, Folder, Put, Sink};
-use wind_session::RunEnd;
+use wind_session::{Board, RunEnd};
 
 /// A run whose picture was put.
 #[derive(Drop)]

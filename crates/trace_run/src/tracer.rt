@@ -3,7 +3,7 @@
 ghost use Rattle.std.specs.Prelude.{◌≡◌, ◌≤◌, ◌<◌, ◌+◌, ◌++◌, ◌^◌, ℕ, List, [], None, OnOk, IfOk, map};
 ghost use Rattle.std.specs.List.{sum_by};
 ghost use Rattle.wind_machine.specs.State.{State};
-ghost use Rattle.board_player.specs.Seen.{seen};
+ghost use Rattle.wind_session.specs.BoardSeen.{seen};
 ghost use Rattle.board_trace.specs.Before.{before_step as before_step_lem};
 ghost use Rattle.board_trace.specs.Runs.{Line, step_lines, with_line, with_lines};
 ghost use Rattle.board_trace.specs.Snapshots.{snapshot_of};
@@ -15,14 +15,13 @@ ghost use Rattle.trace_run.specs.Steps.{line_of};
 ghost use Rattle.trace_run.specs.Traced.{how_text, last_line_of};
 
 use crate::reader::StepReader;
-use board_player::Board;
 use board_trace::{BeforeStep, Happening, Snapshot, actor_name, subject_name};
 use kernel_world::Actor;
 use std::alloc::Global;
 use trace_text::Page;
 use wind_base::NoMemory;
 use wind_outside::Device;
-use wind_session::RunEnd;
+use wind_session::{Board, RunEnd};
 
 /// What a trace keeps between steps.
 #[derive(Drop)]

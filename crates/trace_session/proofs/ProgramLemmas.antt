@@ -5,8 +5,8 @@ use Rattle.std.specs.declared.dyn_box.DynBox.{DynBox}
 use Rattle.std.specs.declared.alloc.Global.{Global}
 use Rattle.wind_outside.specs.Devices.{DeviceState}
 use Rattle.wind_outside.specs.Files.{Files}
-use Rattle.wind_machine.specs.State.{State}
-use Rattle.board_player.specs.declared.board.Board.{Board}
+use Rattle.wind_session.specs.MachineState.{State}
+use Rattle.wind_session.specs.Board.{Board}
 use Rattle.wind_session.specs.Fetches.{EndsWithInputs}
 use Rattle.wind_session.specs.Headline.{IsComplete, IsKept, NotPlayed}
 use Rattle.wind_session.specs.Outside.{Outside}

@@ -5,10 +5,10 @@ use Rattle.std.specs.declared.alloc.Global.{Global}
 use Rattle.wind_outside.specs.Devices.{DeviceState}
 use Rattle.wind_outside.specs.Files.{Files}
 use Rattle.tick_file.specs.Schedule.{Timetable}
-use Rattle.wind_machine.specs.State.{State}
-use Rattle.wind_machine.specs.Machine.{opening}
-use Rattle.wind_machine.specs.Run.{Answers}
-use Rattle.board_player.specs.declared.board.Board.{Board}
+use Rattle.wind_session.specs.MachineState.{State}
+use Rattle.wind_session.specs.Machine.{opening}
+use Rattle.wind_session.specs.Run.{Answers}
+use Rattle.wind_session.specs.Board.{Board}
 use Rattle.wind_session.specs.Headline.{NotPlayed, board_of, fetch_fault, limit_of, profile_of, rounds_of, shelf_of, status_of}
 use Rattle.wind_session.specs.Command.{CommandState}
 use Rattle.wind_session.specs.Modules.{Shelf}

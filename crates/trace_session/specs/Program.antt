@@ -2,9 +2,9 @@
 use Rattle.std.specs.Prelude.{◌≡◌, ◌≢◌, ◌⊎◌, ◌↔◌, ℕ, List, Option, None, codes}
 use Rattle.wind_outside.specs.Devices.{DeviceState}
 use Rattle.wind_outside.specs.Files.{Files}
-use Rattle.wind_machine.specs.State.{State}
-use Rattle.wind_machine.specs.Good.{Good}
-use Rattle.wind_machine.specs.Instants.{IsInstant}
+use Rattle.wind_session.specs.MachineState.{State}
+use Rattle.wind_session.specs.Good.{Good}
+use Rattle.wind_session.specs.Instants.{IsInstant}
 use Rattle.wind_session.specs.Headline.{IsComplete, NotPlayed, fetch_fault, rounds_of}
 use Rattle.wind_session.specs.Outside.{Outside}
 use Rattle.wind_session.specs.Plan.{Plan, IsPlan}

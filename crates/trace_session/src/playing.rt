@@ -5,7 +5,7 @@ ghost use Rattle.wind_base.specs.Limits.{most_steps};
 ghost use Rattle.generated_session.specs.Session.{most_rounds};
 ghost use Rattle.wind_outside.specs.Counts.{Rose};
 ghost use Rattle.wind_outside.specs.Devices.{slots_of};
-ghost use Rattle.board_player.specs.Seen.{seen};
+ghost use Rattle.wind_session.specs.BoardSeen.{seen};
 ghost use Rattle.wind_session.specs.Headline.{IsComplete, IsKept};
 ghost use Rattle.wind_session.specs.Outside.{outside};
 ghost use Rattle.wind_session.specs.Texts.{Tells};
@@ -19,16 +19,14 @@ ghost use Rattle.trace_session.specs.Words.{trace_state as trace_state_lem};
 
 use crate::command::{Form, PROGRAM, TraceCommand, trace_command_of};
 use crate::ending::TraceEnding;
-use board_player::Board;
 use std::alloc::Global;
 use task_spans::Spans;
 use trace_run::{trace_events, trace_state, trace_timeline};
 use wind_base::NoMemory;
-use wind_machine::instant_law;
 use wind_outside::{Device, Folder, Sink, Slots};
 use wind_session::{
-    CommandErr, Inputs, RunEnd, Stand, Status, inputs_of, status_of, tell, tell_no_memory,
-    tell_usage,
+    Board, CommandErr, Inputs, RunEnd, Stand, Status, inputs_of, instant_law, status_of, tell,
+    tell_no_memory, tell_usage,
 };
 
 // The ending of a session without a board.

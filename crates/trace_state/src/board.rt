@@ -5,11 +5,10 @@ use crate::objects::{level, modules, mutexes, queues, semaphores, symbols, watch
 use crate::slots::devices;
 use crate::tasks::{id_or_null, tasks};
 use crate::text::Members;
-use board_player::Board;
+use board_reading::{Board, Phase};
 use kernel_world::World;
 use serde_json::{Map, Value, json, put};
 use std::alloc::{AllocError, Global};
-use wind_machine::Phase;
 
 // The word for a phase of the shell.
 fn phase_word(phase: Phase) -> &'static str {

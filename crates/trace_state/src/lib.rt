@@ -9,3 +9,6 @@ mod tasks;
 mod text;
 
 pub use board::state_text;
+pub use board_reading::{
+    empty_snapshot, last_actor, look_after, look_before, runner, take_snapshot,
+};

@@ -7,7 +7,7 @@ use Rattle.std.proofs.lemmas.Bool.{eqb-true, eq-eqb, true≢false}
 use Rattle.std.proofs.lemmas.List.{append-nil}
 use Rattle.std.proofs.lemmas.List.Elements.{All-from_recursion, All-contains, Contains-append_left, Contains-get_or, recursion_from_All}
 use Rattle.std.proofs.lemmas.Option.{same_Some}
-use Rattle.id_table.specs.declared.ident.Place.{Place}
+use Rattle.linked_lists.specs.Place.{Place}
 use Rattle.wind_lists.specs.Sorting.{insert_sorted, sorted, first}
 use Rattle.wind_lists.specs.Records.{without}
 use Rattle.wind_lists.proofs.Sorting.{InOrder, in_order_sorted}

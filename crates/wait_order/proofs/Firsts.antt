@@ -5,7 +5,7 @@ use Rattle.std.specs.Option.{option_map}
 use Rattle.std.specs.List.{AllByRecursion}
 use Rattle.std.proofs.lemmas.Bool.{eqb-false, true≢false}
 use Rattle.std.proofs.lemmas.Option.{same_Some}
-use Rattle.id_table.specs.declared.ident.Place.{Place}
+use Rattle.linked_lists.specs.Place.{Place}
 use Rattle.wind_lists.specs.Sorting.{insert_sorted, sorted, first}
 use Rattle.wind_lists.proofs.Sorting.{InOrder, in_order_sorted}
 use Rattle.linked_lists.specs.Chains.{chain_at, value_of, Apart}

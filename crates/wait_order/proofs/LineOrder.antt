@@ -6,7 +6,7 @@ use Rattle.std.specs.Cmp.{IsStrictWeakOrder}
 use Rattle.std.specs.Cmp.Lexicographic.{nat_list_cmp_total}
 use Rattle.std.proofs.lemmas.List.MinMax.{ranks_by}
 use Rattle.std.proofs.lemmas.List.Elements.{All-contains, All-contains_itself, All-filter}
-use Rattle.id_table.specs.declared.ident.Place.{Place}
+use Rattle.linked_lists.specs.Place.{Place}
 use Rattle.wind_lists.specs.Sorting.{first}
 use Rattle.wind_lists.proofs.Orders.{first_least}
 use Rattle.wind_lists.proofs.Passing.{contains_filter, front_passes, none_passes}

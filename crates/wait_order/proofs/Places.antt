@@ -8,7 +8,7 @@ use Rattle.std.specs.Cmp.Lexicographic.{nat_list_cmp_total}
 use Rattle.std.proofs.lemmas.Bool.{eqb-true, eq-eqb, true≢false}
 use Rattle.std.proofs.lemmas.List.Elements.{All-from_recursion}
 use Rattle.std.proofs.lemmas.List.MinMax.{ranks_by}
-use Rattle.id_table.specs.declared.ident.Place.{Place}
+use Rattle.linked_lists.specs.Place.{Place}
 use Rattle.wait_order.specs.declared.fronts.Front.{Front}
 use Rattle.wait_order.specs.Fronts.{same_place, place_key, place_before, Rises, first_id, front_of, first_from, IsRank, StandsHere, GoesHere, IsPut}
 

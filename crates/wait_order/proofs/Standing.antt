@@ -9,7 +9,7 @@ use Rattle.std.proofs.lemmas.Bool.{true≢false}
 use Rattle.std.proofs.lemmas.List.{append-nil, length-map}
 use Rattle.std.proofs.lemmas.List.MinMax.{ranks_by}
 use Rattle.std.proofs.lemmas.List.Sorted.{IsStrictWeakOrder-by_number}
-use Rattle.id_table.specs.declared.ident.Place.{Place}
+use Rattle.linked_lists.specs.Place.{Place}
 use Rattle.wind_lists.specs.Sorting.{insert_sorted, sorted}
 use Rattle.wind_lists.specs.Records.{of_id, with_record, without, Rising}
 use Rattle.wind_lists.proofs.Sorting.{InOrder, in_order_sorted, filter-sorted, all_insert}

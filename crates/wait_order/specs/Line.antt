@@ -3,7 +3,7 @@ use Rattle.std.specs.Prelude.{ℕ, ◌≤◌, Bool, ◌&&◌, ◌==◌, List, []
 use Rattle.std.specs.Cmp.Lexicographic.{slice_cmp}
 use Rattle.std.specs.Ordering.{is_lt, nat_cmp}
 use Rattle.std.specs.Option.{option_map}
-use Rattle.id_table.specs.declared.ident.Place.{Place}
+use Rattle.linked_lists.specs.Place.{Place}
 use Rattle.wind_lists.specs.Records.{of_id, with_record, without, Rising}
 use Rattle.wind_lists.specs.Sorting.{first, in_line}
 use Rattle.wait_order.specs.declared.waits.Waiter.{Waiter}

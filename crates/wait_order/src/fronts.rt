@@ -4,7 +4,7 @@ ghost use Rattle.std.specs.Prelude.{◌≡◌, ◌≤◌, ◌<◌, None, Some, l
 ghost use Rattle.wait_order.specs.Fronts.{Rises, front_of, first_from as first_from_lem, IsRank, StandsHere, GoesHere, IsPut};
 
 use crate::order::{place_before, same_place};
-use id_table::{Ident, Place};
+use linked_lists::{Ident, Place};
 
 // A place, and the first task that waits there.
 #[derive(Clone, Copy, Drop)]

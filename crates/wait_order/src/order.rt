@@ -6,7 +6,7 @@ ghost use Rattle.wait_order.specs.Fronts.{same_place as same_place_lem, place_be
 ghost use Rattle.wait_order.specs.Inside.{precedes as precedes_lem};
 
 use crate::waits::Waiter;
-use id_table::Place;
+use linked_lists::Place;
 
 // Whether two places are the same.
 pub(crate) fn same_place(a: &Place, b: &Place) -> bool

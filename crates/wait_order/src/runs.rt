@@ -8,8 +8,7 @@ ghost use Rattle.wait_order.specs.Inside.{waiters_in, put_in, AreFronts, IsOwn, 
 use crate::fronts::{Front, first_at, put, remove};
 use crate::order::{precedes, stands_at};
 use crate::waits::Waiter;
-use id_table::{Ident, Place};
-use linked_lists::IdLists;
+use linked_lists::{IdLists, Ident, Place};
 
 /// The number of the only list.
 pub(crate) const LIST: usize = 0;

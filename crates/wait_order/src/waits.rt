@@ -5,8 +5,7 @@ ghost use Rattle.wait_order.specs.Line.{IsLine, waiter_of, with_waiter, without_
 
 use crate::fronts::{Front, first_at as front_at, first_from};
 use crate::runs::{LIST, come, go, place_of};
-use id_table::{Ident, Place};
-use linked_lists::{IdLists, NoMemory};
+use linked_lists::{IdLists, Ident, NoMemory, Place};
 use std::alloc::Global;
 use std::marker::Model;
 

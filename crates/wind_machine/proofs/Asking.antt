@@ -9,7 +9,7 @@ use Rattle.wind_base.specs.Boards.{board_rules}
 use Rattle.wind_base.specs.Gates.{gate_at}
 use Rattle.kernel_world.specs.Starting.{no_regs}
 use Rattle.kernel_world.specs.Actors.{shell_id}
-use Rattle.kernel_calls.specs.Calls.{file_wanted}
+use Rattle.live_loading.specs.KernelCalls.{file_wanted}
 use Rattle.kernel_world.specs.Objects.{IsReady}
 use Rattle.kernel_world.specs.declared.actor.Actor.{Actor}
 use Rattle.live_loading.specs.Loading.{shell}

@@ -9,7 +9,7 @@ use Rattle.wind_core.specs.State.{KernState, Lives, task_of}
 use Rattle.wind_core.specs.Moves.{unreserved}
 use Rattle.wind_core.specs.Tick.{tick}
 use Rattle.wind_core.proofs.Ids.{ids-tick, lives_by}
-use Rattle.task_safety.specs.Safety.{safe_of}
+use Rattle.kernel_world.specs.Safety.{safe_of}
 use Rattle.shell_parse.specs.Reading.{read_line}
 use Rattle.con_line.specs.Lines.{has_line, first_line, line_dropped}
 use Rattle.kernel_world.specs.State.{choice_of}

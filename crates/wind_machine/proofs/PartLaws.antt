@@ -15,7 +15,7 @@ use Rattle.mem_partition.specs.declared.block.Block.{Block}
 use Rattle.mem_partition.specs.declared.block.Class.TheVariants.{Kernel}
 use Rattle.mem_partition.proofs.Owners.{is_own, only_block}
 use Rattle.wind_core.specs.State.{Lives, task_of}
-use Rattle.task_safety.specs.Safety.{safe_of}
+use Rattle.kernel_world.specs.Safety.{safe_of}
 use Rattle.wind_core.specs.Moves.{set_regs}
 use Rattle.wind_core.specs.Move.{SetRegs}
 use Rattle.wind_core.proofs.Ids.{ids-change, lives_by}
@@ -25,9 +25,9 @@ use Rattle.wind_core.proofs.Unwritten.{map-change}
 use Rattle.kernel_world.specs.State.{WorldState, choice_of}
 use Rattle.kernel_world.specs.Actors.{shell_id}
 use Rattle.kernel_world.specs.Starting.{cleared, framed}
-use Rattle.task_calls.specs.Ending.{ended}
+use Rattle.live_loading.specs.TaskEnding.{ended}
 use Rattle.kernel_world.specs.Kept.{stack_of, routine_stack, IsStack, AreStacks, task_stacks, IsWorld, HasCounts, Within, ReservedBy, call_sinces}
-use Rattle.kernel_calls.specs.Laws.{OnlyUnsafeGo, Passes}
+use Rattle.live_loading.specs.KernelCallLaws.{OnlyUnsafeGo, Passes}
 use Rattle.kernel_world.specs.Objects.{IsFree}
 use Rattle.kernel_world.specs.declared.actor.Actor.{Actor}
 use Rattle.kernel_world.specs.declared.actor.Actor.TheVariants.{Task as by_task, Interrupt}
@@ -37,8 +37,8 @@ use Rattle.kernel_world.proofs.Stacks.{is_there}
 use Rattle.kernel_world.proofs.Boards.{pool_in_ram}
 use Rattle.kernel_world.proofs.Advancing.{Advances, within_more, stays}
 use Rattle.kernel_world.proofs.ObjectMoves.{objects-move}
-use Rattle.kernel_calls.proofs.Departing.{ends}
-use Rattle.kernel_calls.proofs.Serves.{passes_by}
+use Rattle.live_loading.proofs.Departing.{ends}
+use Rattle.live_loading.proofs.Serves.{passes_by}
 use Rattle.shell_eval.specs.State.{State as EvalState}
 use Rattle.shell_eval.specs.Kept.{IsPoolInRam, Keeps}
 use Rattle.wind_machine.specs.Shell.{eval_state, with_eval}

@@ -14,9 +14,9 @@ use Rattle.wind_core.specs.Moves.{suspend}
 use Rattle.wind_core.specs.Move.{Suspend}
 use Rattle.kernel_world.specs.State.{WorldState}
 use Rattle.kernel_world.specs.Actors.{shell_id, MayCall}
-use Rattle.kernel_calls.specs.Calls.{call}
+use Rattle.live_loading.specs.KernelCalls.{call}
 use Rattle.kernel_world.specs.Allowed.{is_call}
-use Rattle.task_calls.specs.Ending.{ended}
+use Rattle.live_loading.specs.TaskEnding.{ended}
 use Rattle.kernel_world.specs.Kept.{IsWorld, Within, call_sinces}
 use Rattle.kernel_world.specs.declared.actor.Actor.{Actor}
 use Rattle.kernel_world.specs.declared.actor.Actor.TheVariants.{Task as by_task, Interrupt}
@@ -29,7 +29,7 @@ use Rattle.live_loading.specs.Laws.{LoadLaw}
 use Rattle.kernel_world.specs.Objects.{IsFree, IsReady}
 use Rattle.kernel_world.proofs.Living.{ready_free}
 use Rattle.kernel_world.proofs.Advancing.{Advances, advances_on, by_kern, beside, at_routine}
-use Rattle.kernel_calls.proofs.Passing.{call_passes}
+use Rattle.live_loading.proofs.CallsPassing.{call_passes}
 use Rattle.shell_eval.specs.Pending.{Pending}
 use Rattle.shell_eval.specs.Evaluate.{Ending, Value, Call, Fault, Waiting, evaluate}
 use Rattle.shell_eval.proofs.KeptSteps.{keeps}
@@ -38,7 +38,7 @@ use Rattle.wind_machine.specs.State.{ShellState}
 use Rattle.wind_machine.specs.Good.{HasItsLine}
 use Rattle.wind_machine.specs.Part.{Part, part_of, with_kern, writing}
 use Rattle.wind_machine.specs.Task.{aborted, listening, stack_pointer, call_regs}
-use Rattle.text_show.specs.Value.{value_text}
+use Rattle.live_loading.specs.Value.{value_text}
 use Rattle.wind_machine.specs.Text.{prompt_text, fault_text, routine_text}
 use Rattle.wind_machine.specs.Shell.{at_prompt, shell_with, returned, prompt_part, read_part, read_text, eval_state, with_eval, calling, came_to, eval_part}
 use Rattle.wind_machine.specs.Routine.{without_reserve, next_routine}

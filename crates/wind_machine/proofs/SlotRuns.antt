@@ -22,7 +22,7 @@ use Rattle.dev_irq.specs.Calls.{with_one_more, with_one_less, raised}
 use Rattle.dev_irq.proofs.Lines.{lines_stay, first_is}
 use Rattle.dev_irq.proofs.Counting.{counts}
 use Rattle.dev_irq.proofs.Nexts.{nexts}
-use Rattle.object_calls.specs.IrqRows.{is_device}
+use Rattle.live_loading.specs.IrqRows.{is_device}
 use Rattle.kernel_world.specs.Actors.{caller_words}
 use Rattle.kernel_world.specs.Opening.{no_irqs, opening_world}
 use Rattle.kernel_world.specs.declared.actor.Actor.TheVariants.{Task as by_task, Interrupt}

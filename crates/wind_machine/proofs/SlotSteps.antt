@@ -14,8 +14,8 @@ use Rattle.ppc_core.specs.declared.trap.Trap.TheVariants as traps
 use Rattle.elf_read.specs.declared.module.Module.{Module}
 use Rattle.elf_read.specs.Contents.{module_at}
 use Rattle.module_image.specs.declared.segments.Places.{Places}
-use Rattle.module_loader.specs.declared.module.LoadErr.{LoadErr}
-use Rattle.module_loader.specs.Loading.{file_verdict}
+use Rattle.kernel_world.specs.LoadErr.{LoadErr}
+use Rattle.kernel_world.specs.ModuleLoading.{file_verdict}
 use Rattle.board_bus.specs.BusState.{BusState}
 use Rattle.board_bus.specs.Access.{board_meaning, fetched}
 use Rattle.wind_core.specs.State.{task_of}
@@ -30,8 +30,8 @@ use Rattle.kernel_world.specs.Allowed.{is_call}
 use Rattle.kernel_world.specs.Replies.{left_gate}
 use Rattle.kernel_world.specs.declared.actor.Actor.{Actor}
 use Rattle.kernel_world.specs.declared.actor.Actor.TheVariants.{Task as by_task, Interrupt}
-use Rattle.kernel_calls.specs.Calls.{call}
-use Rattle.task_calls.specs.Ending.{ended}
+use Rattle.live_loading.specs.KernelCalls.{call}
+use Rattle.live_loading.specs.TaskEnding.{ended}
 use Rattle.live_loading.specs.Said.{FileSaid, Held, Missing, TooLong}
 use Rattle.live_loading.specs.Loading.{shell, loader_state, by_verdict, effect, load_call}
 use Rattle.wind_machine.specs.State.{ShellState, State}

@@ -15,8 +15,8 @@ use Rattle.board_bus.proofs.Removals.{removals}
 use Rattle.dev_irq.specs.declared.line.Line.{Line}
 use Rattle.dev_irq.specs.State.{pending_of, IsIrqs}
 use Rattle.dev_irq.proofs.Lines.{lines_stay}
-use Rattle.object_calls.specs.IrqRows.{IrqRow, row_of as irq_row, is_device, on_device}
-use Rattle.object_calls.specs.WatchRows.{routine_of}
+use Rattle.live_loading.specs.IrqRows.{IrqRow, row_of as irq_row, is_device, on_device}
+use Rattle.live_loading.specs.WatchRows.{routine_of}
 use Rattle.kernel_world.specs.State.{WorldState}
 use Rattle.kernel_world.specs.Actors.{caller_words}
 use Rattle.kernel_world.specs.CallWords.{call_of, call_by}
@@ -25,8 +25,8 @@ use Rattle.kernel_world.specs.declared.actor.Actor.{Actor}
 use Rattle.kernel_world.specs.declared.actor.Actor.TheVariants.{Task, Interrupt}
 use Rattle.kernel_world.specs.declared.reply.Reply.{Reply}
 use Rattle.kernel_world.specs.declared.reply.Reply.TheVariants.{Answer, Refusal, Later, Gone}
-use Rattle.kernel_calls.specs.Calls.{row_of, refusal_before, row_unless, made, call}
-use Rattle.kernel_calls.proofs.Removing.{slot_law, none_back}
+use Rattle.live_loading.specs.KernelCalls.{row_of, refusal_before, row_unless, made, call}
+use Rattle.live_loading.proofs.CallsRemoving.{slot_law, none_back}
 use Rattle.wind_machine.proofs.Executing.{Lasts}
 
 -- the slots of a world, and their lines

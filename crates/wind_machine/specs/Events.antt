@@ -13,7 +13,7 @@ use Rattle.wind_outside.specs.Devices.{DeviceState}
 use Rattle.dev_irq.specs.declared.line.Line.{Line}
 use Rattle.dev_irq.specs.State.{routines_of}
 use Rattle.dev_irq.specs.Calls.{raised, delivered}
-use Rattle.object_calls.specs.IrqRows.{is_device}
+use Rattle.live_loading.specs.IrqRows.{is_device}
 use Rattle.con_line.specs.State.{ConsoleState}
 use Rattle.con_line.specs.Keys.{after_byte, byte_echo, byte_done}
 use Rattle.con_line.specs.declared.console.ByteDone.{ByteDone}

@@ -12,7 +12,7 @@ use Rattle.board_mem.specs.Memory.{has}
 use Rattle.board_bus.specs.Slots.{is_occupied, slot_number}
 use Rattle.board_bus.specs.Access.{faults_at}
 use Rattle.dev_irq.specs.State.{pending_of, IsIrqs}
-use Rattle.object_calls.specs.IrqRows.{is_device}
+use Rattle.live_loading.specs.IrqRows.{is_device}
 use Rattle.kernel_world.specs.Actors.{caller_words}
 use Rattle.kernel_world.specs.declared.actor.Actor.TheVariants.{Task as by_task}
 use Rattle.live_loading.specs.Said.{FileSaid}

@@ -9,7 +9,7 @@ use Rattle.live_loading.specs.Said.{FileSaid}
 use Rattle.tick_file.specs.Schedule.{Timetable, timetable_of}
 use Rattle.tick_file.specs.Laws.{IsEarly}
 use Rattle.wind_core.specs.State.{Lives, task_of}
-use Rattle.task_safety.specs.Safety.{safe_of}
+use Rattle.kernel_world.specs.Safety.{safe_of}
 use Rattle.isr_watch.specs.State.{WatchState}
 use Rattle.isr_watch.specs.Calls.{finish}
 use Rattle.kernel_world.specs.State.{Choice, choice_of}

@@ -18,3 +18,7 @@ pub mod Shell
 pub mod State
 pub mod Task
 pub mod Text
+pub use Rattle.live_loading.specs.KernelCalls
+pub use Rattle.live_loading.specs.Space
+pub use Rattle.live_loading.specs.Said
+pub use Rattle.live_loading.specs.Loading as LiveLoading

@@ -18,9 +18,9 @@ use Rattle.board_bus.specs.Access.{board_meaning, fetched}
 use Rattle.kernel_world.specs.State.{WorldState}
 use Rattle.kernel_world.specs.Actors.{shell_id, caller_regs}
 use Rattle.kernel_world.specs.Replies.{at_level}
-use Rattle.kernel_calls.specs.Calls.{call}
+use Rattle.live_loading.specs.KernelCalls.{call}
 use Rattle.kernel_world.specs.Allowed.{is_call}
-use Rattle.task_calls.specs.Ending.{ended}
+use Rattle.live_loading.specs.TaskEnding.{ended}
 use Rattle.kernel_world.specs.declared.actor.Actor.{Actor}
 use Rattle.kernel_world.specs.declared.actor.Actor.TheVariants.{Task as by_task, Interrupt}
 use Rattle.wind_machine.specs.State.{ShellState}

@@ -13,7 +13,7 @@ use Rattle.kernel_world.specs.Starting.{framed}
 use Rattle.wind_machine.specs.State.{ShellState}
 use Rattle.wind_machine.specs.Part.{Part, part_of, with_kern, writing}
 use Rattle.wind_machine.specs.Task.{listening, stack_pointer, call_regs}
-use Rattle.text_show.specs.Value.{value_text}
+use Rattle.live_loading.specs.Value.{value_text}
 use Rattle.wind_machine.specs.Text.{prompt_text, syntax_text, fault_text}
 use Rattle.wind_machine.specs.declared.phase.Phase.TheVariants as phases
 

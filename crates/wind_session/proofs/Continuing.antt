@@ -5,11 +5,11 @@ use Rattle.wind_outside.specs.Files.{Files}
 use Rattle.wind_outside.specs.Requests.{GrowsBy, Request, Piece}
 use Rattle.wind_outside.specs.Appending.{Appended, AppendedPrefix}
 use Rattle.wind_outside.specs.declared.sink.Put.TheVariants as puts
-use Rattle.wind_machine.specs.State.{State}
-use Rattle.wind_machine.specs.Machine.{IsOver, file_asked, may_exhaust_memory}
-use Rattle.wind_machine.specs.Run.{Answers, text}
-use Rattle.wind_machine.specs.Silent.{SilentSteps, SilentLaw}
-use Rattle.wind_machine.specs.Extending.{IsRoom}
+use Rattle.board_player.specs.MachineState.{State}
+use Rattle.board_player.specs.Machine.{IsOver, file_asked, may_exhaust_memory}
+use Rattle.board_player.specs.Run.{Answers, text}
+use Rattle.board_player.specs.Silent.{SilentSteps, SilentLaw}
+use Rattle.board_player.specs.Extending.{IsRoom}
 use Rattle.wind_session.specs.Modules.{Shelf}
 use Rattle.wind_session.specs.Fetches.{Stops, requests_of}
 use Rattle.wind_session.specs.Outside.{Outside, outside}

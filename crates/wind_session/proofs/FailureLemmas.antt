@@ -8,9 +8,9 @@ use Rattle.std.proofs.lemmas.List.Elements.{All-nil, All-cons, All-append}
 use Rattle.wind_outside.specs.Requests.{GrowsBy, Request}
 use Rattle.wind_outside.specs.declared.folder.FetchOutcome.{FetchOutcome}
 use Rattle.wind_outside.specs.declared.folder.FetchOutcome.TheVariants as outcomes
-use Rattle.wind_machine.specs.State.{State}
-use Rattle.wind_machine.specs.Machine.{file_asked}
-use Rattle.wind_machine.specs.Run.{Answers, after}
+use Rattle.board_player.specs.MachineState.{State}
+use Rattle.board_player.specs.Machine.{file_asked}
+use Rattle.board_player.specs.Run.{Answers, after}
 use Rattle.wind_session.specs.Command.{CommandState}
 use Rattle.wind_session.specs.Fetches.{LeadsTo, IsAfterFiles, EndsWithRounds, Requests, IsLastRequest, IsFine, IsFailure, FailsLast, file_requests, module_request, outcome_said, requests_of, rounds_requests, step_request, text_request}
 use Rattle.wind_session.specs.Headline.{IsLeft, IsSummed, status_of}

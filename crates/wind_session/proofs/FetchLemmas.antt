@@ -8,10 +8,10 @@ use Rattle.wind_base.specs.Limits.{longest_module_file}
 use Rattle.wind_outside.specs.Requests.{GrowsBy, Request}
 use Rattle.wind_outside.specs.declared.folder.FetchOutcome.{FetchOutcome}
 use Rattle.wind_outside.specs.declared.folder.FetchOutcome.TheVariants as outcomes
-use Rattle.live_loading.specs.Said.{FileSaid, Held, Missing, TooLong}
-use Rattle.wind_machine.specs.State.{State}
-use Rattle.wind_machine.specs.Machine.{file_asked}
-use Rattle.wind_machine.specs.Run.{Answers, after}
+use Rattle.board_player.specs.Said.{FileSaid, Held, Missing, TooLong}
+use Rattle.board_player.specs.MachineState.{State}
+use Rattle.board_player.specs.Machine.{file_asked}
+use Rattle.board_player.specs.Run.{Answers, after}
 use Rattle.wind_session.specs.Command.{CommandState}
 use Rattle.wind_session.specs.Modules.{module_path}
 use Rattle.wind_session.specs.Fetches.{LeadsTo, IsAfterFiles, EndsWithFiles, EndsWithRounds, EndsWithInputs, Stops, file_requests, module_request, outcome_said, requests_of, rounds_requests, step_request, text_request}

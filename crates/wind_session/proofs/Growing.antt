@@ -11,10 +11,10 @@ use Rattle.tick_file.specs.declared.event.Event.{Event}
 use Rattle.tick_file.specs.declared.event.Event.TheVariants.{Tick, Rx, Irq}
 use Rattle.tick_file.specs.Schedule.{Timed, Timetable, brings_bytes, timetable_of}
 use Rattle.tick_file.specs.Writing.{recorded, MoreLaw, LongerLaw}
-use Rattle.wind_machine.specs.State.{State}
-use Rattle.wind_machine.specs.Machine.{file_asked, machine_step, opening}
-use Rattle.wind_machine.specs.Run.{Answers, after}
-use Rattle.wind_machine.specs.Extending.{More, more_of, longer, extended, bytes_asked, bytes_at, IsUndemanded, IsLater, DemandStays, Setup, booted, IsFed, Grows, GrowsLaw}
+use Rattle.board_player.specs.MachineState.{State}
+use Rattle.board_player.specs.Machine.{file_asked, machine_step, opening}
+use Rattle.board_player.specs.Run.{Answers, after}
+use Rattle.board_player.specs.Extending.{More, more_of, longer, extended, bytes_asked, bytes_at, IsUndemanded, IsLater, DemandStays, Setup, booted, IsFed, Grows, GrowsLaw}
 use Rattle.wind_session.specs.Modules.{Shelf}
 use Rattle.wind_session.specs.Fetches.{outcome_said, requests_of, step_request}
 use Rattle.wind_session.specs.Outside.{Outside}

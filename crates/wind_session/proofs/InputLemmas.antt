@@ -3,8 +3,8 @@ use Rattle.std.proofs.Common.{◌≡◌, ℕ, zero, suc, List, ◌++◌, Option,
 use Rattle.std.specs.Option.{option_map}
 use Rattle.wind_outside.specs.Files.{Files}
 use Rattle.wind_outside.specs.Requests.{GrowsBy, Request}
-use Rattle.wind_machine.specs.State.{State}
-use Rattle.wind_machine.specs.Run.{Answers}
+use Rattle.board_player.specs.MachineState.{State}
+use Rattle.board_player.specs.Run.{Answers}
 use Rattle.wind_session.specs.Fetches.{requests_of}
 use Rattle.wind_session.specs.Headline.{IsLeft}
 use Rattle.wind_session.specs.Modules.{Shelf}

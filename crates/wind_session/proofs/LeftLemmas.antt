@@ -4,8 +4,8 @@ use Rattle.std.specs.Prelude.{◌⊎◌}
 use Rattle.wind_outside.specs.Requests.{Request, Piece}
 use Rattle.wind_outside.specs.Appending.{Appended, AppendedPrefix}
 use Rattle.generated_session.specs.Session.{summary_line}
-use Rattle.wind_machine.specs.State.{State}
-use Rattle.wind_machine.specs.Run.{Answers, after, text}
+use Rattle.board_player.specs.MachineState.{State}
+use Rattle.board_player.specs.Run.{Answers, after, text}
 use Rattle.wind_session.specs.Modules.{Shelf}
 use Rattle.wind_session.specs.Generated.{summary}
 use Rattle.wind_session.specs.Outside.{outside}

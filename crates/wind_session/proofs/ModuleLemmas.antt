@@ -6,7 +6,7 @@ use Rattle.std.proofs.lemmas.Str.{IsUtf8-from_is_utf8, is_utf8-from_IsUtf8}
 use Rattle.std.proofs.lemmas.Bool.Decides.{nat_tests}
 use Rattle.wind_base.specs.Limits.{longest_module_file}
 use Rattle.wind_outside.specs.Files.{Files}
-use Rattle.live_loading.specs.Said.{FileSaid, Held, Missing, TooLong, said_by}
+use Rattle.board_player.specs.Said.{FileSaid, Held, Missing, TooLong, said_by}
 use Rattle.wind_session.specs.Modules.{IsSaidBy}
 use Rattle.wind_session.proofs.PlanLemmas.{found_entry, missing_entry, long_entry}
 

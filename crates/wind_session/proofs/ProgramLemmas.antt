@@ -5,7 +5,7 @@ use Rattle.std.specs.declared.dyn_box.DynBox.{DynBox}
 use Rattle.std.specs.declared.alloc.Global.{Global}
 use Rattle.wind_outside.specs.Devices.{DeviceState}
 use Rattle.wind_outside.specs.Files.{Files}
-use Rattle.wind_machine.specs.State.{State}
+use Rattle.board_player.specs.MachineState.{State}
 use Rattle.board_player.specs.declared.board.Board.{Board}
 use Rattle.wind_session.specs.Command.{CommandState}
 use Rattle.wind_session.specs.Fetches.{EndsWithInputs}

@@ -5,16 +5,16 @@ use Rattle.std.specs.declared.alloc.Global.{Global}
 use Rattle.wind_outside.specs.Devices.{DeviceState}
 use Rattle.wind_outside.specs.Files.{Files}
 use Rattle.wind_outside.specs.Appending.{Appended, AppendedPrefix}
-use Rattle.wind_machine.specs.State.{State}
-use Rattle.wind_machine.specs.Good.{Good}
-use Rattle.wind_machine.specs.Instants.{IsInstant}
+use Rattle.board_player.specs.MachineState.{State}
+use Rattle.board_player.specs.Good.{Good}
+use Rattle.board_player.specs.Instants.{IsInstant}
 use Rattle.board_player.specs.declared.board.Board.{Board}
 use Rattle.wind_base.specs.declared.board_kind.BoardKind.{BoardKind}
 use Rattle.wind_base.specs.declared.board_kind.BoardKind.TheVariants as boards
 use Rattle.wind_base.specs.declared.profile.Profile.{Profile}
 use Rattle.wind_base.specs.declared.profile.Profile.TheVariants.{One}
-use Rattle.wind_machine.specs.Machine.{opening}
-use Rattle.wind_machine.specs.Run.{Answers}
+use Rattle.board_player.specs.Machine.{opening}
+use Rattle.board_player.specs.Run.{Answers}
 use Rattle.wind_session.specs.Modules.{Shelf}
 use Rattle.wind_session.specs.Fetches.{EndsWithInputs}
 use Rattle.wind_session.specs.Outside.{Outside, with_inputs}

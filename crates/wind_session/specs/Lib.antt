@@ -13,3 +13,11 @@ pub mod Runs
 pub mod Status
 pub mod Texts
 pub mod Words
+pub use Rattle.board_player.specs.Seen as BoardSeen
+pub use Rattle.board_player.specs.Said
+pub use Rattle.board_player.specs.declared.board.Board
+pub use Rattle.board_player.specs.MachineState
+pub use Rattle.board_player.specs.Good
+pub use Rattle.board_player.specs.Instants
+pub use Rattle.board_player.specs.Machine
+pub use Rattle.board_player.specs.Run

@@ -2,10 +2,10 @@
 use Rattle.std.specs.Prelude.{◌≡◌, ℕ, ◌<◌, Bool, true, false, List, ◌∷◌, ◌++◌, Option, Some}
 use Rattle.std.specs.Str.{is_utf8}
 use Rattle.wind_outside.specs.Files.{Files}
-use Rattle.live_loading.specs.Said.{FileSaid, Missing, said_by}
-use Rattle.wind_machine.specs.State.{State}
-use Rattle.wind_machine.specs.Machine.{file_asked}
-use Rattle.wind_machine.specs.Run.{Answers, after}
+use Rattle.board_player.specs.Said.{FileSaid, Missing, said_by}
+use Rattle.board_player.specs.MachineState.{State}
+use Rattle.board_player.specs.Machine.{file_asked}
+use Rattle.board_player.specs.Run.{Answers, after}
 use Rattle.wind_session.specs.Plan.{IsEntry}
 
 -- the folder of modules: its files, which it may leave untold, and the name that the arguments give it

@@ -3,9 +3,9 @@ use Rattle.std.specs.Prelude.{◌≡◌, ◌≢◌, ◌⊎◌, ◌↔◌, ℕ, L
 use Rattle.wind_outside.specs.Devices.{DeviceState}
 use Rattle.wind_outside.specs.Files.{Files}
 use Rattle.wind_outside.specs.declared.device.DeviceKind.TheVariants as kinds
-use Rattle.wind_machine.specs.State.{State}
-use Rattle.wind_machine.specs.Good.{Good}
-use Rattle.wind_machine.specs.Instants.{IsInstant}
+use Rattle.board_player.specs.MachineState.{State}
+use Rattle.board_player.specs.Good.{Good}
+use Rattle.board_player.specs.Instants.{IsInstant}
 use Rattle.wind_session.specs.Command.{CommandState}
 use Rattle.wind_session.specs.Fetches.{FailsLast}
 use Rattle.wind_session.specs.Headline.{IsComplete, NotPlayed, Played, board_of, fetch_fault, limit_of, profile_of, rounds_of, shelf_of}

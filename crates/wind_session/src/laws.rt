@@ -3,8 +3,8 @@
 ghost use Rattle.wind_session.specs.Laws.{RightWords, WrongWords};
 ghost use Rattle.wind_session.specs.Live.{TypedLaw};
 
+use board_player::{extend_law, live_law};
 use tick_file::writing_law;
-use wind_machine::{extend_law, live_law};
 
 /// The law of the arguments, by example. An option is given at most once, with its value as the
 /// next word or after `=`; otherwise it has its default. Other words, calls for help and invalid

@@ -12,6 +12,7 @@ mod report;
 mod resuming;
 mod run;
 
+pub use board_player::{Board, instant_law};
 pub use command::{
     Command, CommandErr, Machine, command_line, command_of, command_of_matches, machine_of,
     matches_of, number_of, option, valid, value_of, with_machine_options, with_session_options,

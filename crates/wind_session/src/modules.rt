@@ -3,8 +3,8 @@
 ghost use Rattle.std.specs.Prelude.{◌≡◌, ◌≢◌, ◌+◌, ◌<◌, ◌≤◌, true, Err, Some, IfOk, IsSome, string_bytes};
 ghost use Rattle.wind_base.specs.Limits.{most_steps};
 ghost use Rattle.wind_outside.specs.Counts.{Rose};
-ghost use Rattle.live_loading.specs.Said.{FileSaid, said_of};
-ghost use Rattle.wind_machine.specs.Machine.{file_asked, machine_step, IsOver, may_exhaust_memory};
+ghost use Rattle.board_player.specs.Said.{FileSaid, said_of};
+ghost use Rattle.board_player.specs.Machine.{file_asked, machine_step, IsOver, may_exhaust_memory};
 ghost use Rattle.board_player.specs.Seen.{seen};
 ghost use Rattle.wind_session.specs.Modules.{IsSaid, IsSaidOf, module_path as module_path_lem};
 ghost use Rattle.wind_outside.specs.Requests.{GrowsBy};
@@ -13,8 +13,7 @@ ghost use Rattle.wind_session.specs.declared.run.RunEnd.TheVariants as ends;
 ghost use Rattle.wind_session.specs.declared.modules.Unread.TheVariants as unread;
 ghost use Rattle.wind_session.specs.declared.modules.Move.TheVariants as moves;
 
-use board_player::{Board, Step};
-use live_loading::FileAnswer;
+use board_player::{Board, FileAnswer, Step};
 use std::alloc::Global;
 use wind_base::limits::MODULE_FILE_BYTES;
 use wind_base::{Name, NoMemory};

@@ -27,13 +27,12 @@ use crate::command::{Command, CommandErr, PROGRAM, command_of};
 use crate::ending::{Ending, Stand, Status, Which};
 use crate::report::{tell, tell_no_memory, tell_usage};
 use crate::run::{RunEnd, Tally, count_board, run_board};
-use board_player::Board;
+use board_player::{Board, instant_law};
 use generated_session::Summary;
 use std::alloc::Global;
 use tick_file::{Schedule, TickErr, read_ticks};
 use wind_base::NoMemory;
 use wind_base::limits::TEXT_FILE_BYTES;
-use wind_machine::instant_law;
 use wind_outside::{Device, Fetched, Folder, Put, Sink, Slots};
 
 // The ending of a session without a board.

@@ -4,18 +4,17 @@ ghost use Rattle.std.specs.Prelude.{◌≡◌, ◌≤◌, ℕ, ◌+◌};
 ghost use Rattle.wind_base.specs.Limits.{most_steps};
 ghost use Rattle.wind_outside.specs.Counts.{Rose};
 ghost use Rattle.board_player.specs.Seen.{seen};
-ghost use Rattle.wind_machine.specs.State.{State};
-ghost use Rattle.wind_machine.specs.Machine.{IsOver};
-ghost use Rattle.wind_machine.specs.Extending.{IsRoom};
+ghost use Rattle.board_player.specs.MachineState.{State};
+ghost use Rattle.board_player.specs.Machine.{IsOver};
+ghost use Rattle.board_player.specs.Extending.{IsRoom};
 ghost use Rattle.wind_session.specs.Outside.{Outside, outside};
 ghost use Rattle.wind_session.specs.Runs.{Ran};
 ghost use Rattle.wind_session.specs.declared.run.RunEnd.TheVariants as ends;
 
 use crate::modules::{Move, step};
 use crate::run::{RunEnd, put_some};
-use board_player::Board;
+use board_player::{Board, extend_law, silent_law};
 use std::alloc::Global;
-use wind_machine::{extend_law, silent_law};
 use wind_outside::{Device, Folder, Put, Sink};
 
 /// Makes at most `most` further steps, and puts what each of them writes. The modules that the

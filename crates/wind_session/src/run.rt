@@ -14,9 +14,8 @@ ghost use Rattle.wind_session.specs.declared.run.RunEnd.TheVariants as ends;
 
 use crate::modules::{Move, step};
 use crate::resuming::resume_board;
-use board_player::Board;
+use board_player::{Board, silent_law};
 use std::alloc::Global;
-use wind_machine::silent_law;
 use wind_outside::{Device, Folder, Put, Sink};
 
 /// How a run ends.

@@ -1,7 +1,7 @@
 use Rattle.std.proofs.Common.{◌<◌, ◌+◌, ◌∙◌, ap, sym, arith}
 use Rattle.wind_machine.specs.State.{State}
 use Rattle.wind_machine.specs.Silent.{last_actor}
-use Rattle.board_player.specs.Seen.{board_by}
+use Rattle.wind_session.specs.BoardSeen.{board_by}
 use Rattle.board_trace.specs.Snapshots.{snapshot_of}
 use Rattle.trace_run.proofs.Bursts.{lines_burst, none_made, same_ends, same_state}
 use Rattle.trace_run.proofs.events.burst.Goals as goal

@@ -1,6 +1,6 @@
 use Rattle.std.proofs.Common.{◌≡◌, ◌-◌, ◌≤◌}
 use Rattle.wind_machine.specs.Run.{Answers}
-use Rattle.board_player.specs.Seen.{board_by}
+use Rattle.wind_session.specs.BoardSeen.{board_by}
 use Rattle.wind_session.proofs.RunLemmas.{After}
 use Rattle.trace_run.proofs.run.tell_run.Given as goal
 

@@ -1,7 +1,7 @@
 use Rattle.std.proofs.Common.{◌∙◌, ◌∷◌, [], Some, true, sym, ap, subst}
 use Rattle.std.specs.Str.{IsUtf8}
 use Rattle.wind_outside.specs.declared.folder.FetchOutcome.TheVariants as outcomes
-use Rattle.live_loading.specs.Said.{Held, TooLong, Missing}
+use Rattle.board_player.specs.Said.{Held, TooLong, Missing}
 use Rattle.wind_session.specs.Modules.{IsSaidBy, module_path}
 use Rattle.wind_outside.specs.Requests.{GrowsBy}
 use Rattle.wind_session.proofs.FetchLemmas.{grows_none, no_text_module, path_request, requested, stops_after, stops_unread}

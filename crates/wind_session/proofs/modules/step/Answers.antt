@@ -1,10 +1,10 @@
 use Rattle.std.proofs.Common.{◌≡◌, ◌∙◌, Some, None, refl, sym, subst}
-use Rattle.live_loading.specs.Said.{Missing}
+use Rattle.board_player.specs.Said.{Missing}
 use Rattle.wind_outside.specs.declared.folder.FetchOutcome.TheVariants as outcomes
 use Rattle.wind_outside.specs.Requests.{GrowsBy}
 use Rattle.wind_session.specs.Fetches.{step_request}
 use Rattle.wind_session.proofs.FetchLemmas.{grows_none, stops_before}
-use Rattle.wind_machine.proofs.Asking.{asked_may}
+use Rattle.board_player.proofs.Asking.{asked_may}
 use Rattle.wind_session.proofs.modules.step.Goals as goal
 
 -- a step that needs a file may run out of memory

@@ -1,6 +1,6 @@
 use Rattle.std.proofs.Common.{ap, refl}
-use Rattle.wind_machine.specs.State.{State}
-use Rattle.wind_machine.specs.Machine.{opening}
+use Rattle.board_player.specs.MachineState.{State}
+use Rattle.board_player.specs.Machine.{opening}
 use Rattle.wind_outside.specs.Counts.{Rose}
 use Rattle.wind_session.specs.Fetches.{rounds_requests}
 use Rattle.wind_session.specs.Outside.{outside}

@@ -1,6 +1,6 @@
 use Rattle.std.proofs.Common.{◌+◌, ◌∙◌, ◌≤◌, subst, sym, arith, refl, ap}
-use Rattle.wind_machine.specs.State.{State}
-use Rattle.wind_machine.specs.Extending.{IsRoom}
+use Rattle.board_player.specs.MachineState.{State}
+use Rattle.board_player.specs.Extending.{IsRoom}
 use Rattle.wind_session.proofs.Continuing.{resumed, burst_counted, burst_room, burst_on, step_on, cut_on, quiet_on, exhausted_on, unread_on, limit_on}
 use Rattle.wind_session.proofs.resuming.resume_board.Goals as goal
 

@@ -2,7 +2,7 @@ use Rattle.std.proofs.Common.{ap, ◌∙◌, refl, sym, subst, arith, length, So
 use Rattle.std.specs.Prelude.{IsSome}
 use Rattle.std.proofs.lemmas.Option.{same_Some}
 use Rattle.slab.specs.Slab as slabs
-use Rattle.wind_lists.specs.Records.{without}
+use Rattle.id_table.specs.Records.{without}
 use Rattle.linked_lists.specs.Chains.{cell_key, value_of, all_cells, without_cell}
 use Rattle.linked_lists.specs.Inside.{IsKept, chains_in, goes_on, goes_back}
 use Rattle.linked_lists.proofs.Keeping.{some_aimed, length-aim_first, len_aimed}

@@ -1,5 +1,5 @@
 use Rattle.std.proofs.Common.{◌∙◌, ap}
-use Rattle.board_player.specs.Seen.{board_by}
+use Rattle.wind_session.specs.BoardSeen.{board_by}
 use Rattle.board_trace.specs.declared.moment.BeforeStep.{BeforeStep}
 use Rattle.task_spans.specs.Spans.{SpanState}
 use Rattle.board_trace.specs.Before.{before_step}

@@ -1,7 +1,7 @@
 use Rattle.std.proofs.Common.{◌≡◌, ◌≤◌, List, ap, sym, subst, ◌∙◌, arith}
 use Rattle.std.specs.List.{sum_by}
 use Rattle.wind_machine.specs.State.{State}
-use Rattle.board_player.specs.Seen.{board_by}
+use Rattle.wind_session.specs.BoardSeen.{board_by}
 use Rattle.board_trace.specs.Runs.{Line, with_lines}
 use Rattle.board_trace.specs.Snapshots.{after_step, snapshot_of}
 use Rattle.board_trace.specs.Views.{SnapshotState, snapshot_state}

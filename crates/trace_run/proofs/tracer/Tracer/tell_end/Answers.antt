@@ -1,6 +1,6 @@
 use Rattle.std.proofs.Common.{◌++◌, ap, ◌∙◌, length}
 use Rattle.std.proofs.lemmas.Result.{on_ok_weaker}
-use Rattle.board_player.specs.Seen.{board_by}
+use Rattle.wind_session.specs.BoardSeen.{board_by}
 use Rattle.board_trace.specs.Views.{SnapshotState}
 use Rattle.trace_run.proofs.Puts.{last_put, last_read}
 use Rattle.trace_run.proofs.tracer.Tracer.tell_end.Goals as goal
