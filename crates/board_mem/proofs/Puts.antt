@@ -15,6 +15,18 @@ pub record IsPut (size : ℕ) (index store index₁ store₁ index₂ store₂ :
   pub index_same : index₂ ≡ index₁
   pub put : store₂ ≡ with_bytes store₁ (place_of index₁ at) src
 
+-- the page of the range is created, and then the bytes are written at its place
+pub put_made : {size : ℕ} {index store index₁ store₁ index₂ store₂ : List ℕ} {capacity capacity₁ at start : ℕ} {src held : List ℕ} → IsWindow size index store capacity at (length src)
+    → IsMade index store index₁ store₁ capacity₁ (page_of at) → length index₁ ≡ length index → index₂ ≡ index₁ → store₂ ≡ with_bytes held start src → held ≡ store₁ → start ≡ place_of index₁ at
+    → IsPut size index store index₁ store₁ index₂ store₂ capacity capacity₁ at src
+put_made {src = src} window page size_same index_same put same place = record {
+  window = window;
+  page = page;
+  size_same = size_same;
+  index_same = index_same;
+  put = put ∙ ap₂ (λ (store : List ℕ) (start : ℕ). with_bytes store start src) same place;
+}
+
 -- the range is still a window
 window_after : {size : ℕ} {index store index₁ store₁ index₂ store₂ : List ℕ} {capacity capacity₁ at : ℕ} {src : List ℕ} → IsPut size index store index₁ store₁ index₂ store₂ capacity capacity₁ at src → IsWindow size index₁ store₁ capacity₁ at (length src)
 window_after p = record {

@@ -1,6 +1,5 @@
 -- What is required of the sections, symbols and relocations of a buildable module, one by one.
-use Rattle.std.proofs.Common.{◌≡◌, ◌≢◌, ℕ, ◌+◌, ◌<◌, ◌≤◌, ◌^◌, List, length, get_or, true, false, refl}
-use Rattle.std.specs.Prelude.{◌==◌, bit_and}
+use Rattle.std.proofs.Common.{◌≡◌, ◌≢◌, ℕ, ◌+◌, ◌<◌, ◌≤◌, ◌^◌, List, length, get_or, true, refl}
 use Rattle.std.specs.List.{All}
 use Rattle.wind_base.specs.Limits.{most_section_bytes}
 use Rattle.elf_read.specs.declared.module.SymPlace.{SymPlace}
@@ -9,7 +8,7 @@ use Rattle.elf_read.specs.declared.module.Sect.{Sect}
 use Rattle.elf_read.specs.declared.module.Sym.{Sym}
 use Rattle.elf_read.specs.declared.module.Rel.{Rel}
 use Rattle.elf_read.specs.declared.module.Module.{Module}
-use Rattle.elf_read.specs.Standard.{shf_alloc, shf_tls_or_compressed, stb_weak, stt_common}
+use Rattle.elf_read.specs.Standard.{stb_weak, stt_common}
 use Rattle.elf_read.specs.Tables.{width}
 use Rattle.elf_read.specs.Rules.{is_alignment}
 use Rattle.elf_read.specs.Modules.{IsName, IsSect, size_of, IsPlaced, HoldsBytes}

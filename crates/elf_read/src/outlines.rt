@@ -15,7 +15,7 @@ use crate::items::Items;
 use crate::module::{Body, Module, Sect, SymList};
 use crate::reading::{complete, read_syms, section_numbers};
 use crate::standard::SHT_NOBITS;
-use crate::tables::{content, header, header_count, is_loaded, symtab};
+use crate::tables::{content, header, header_count, is_loaded};
 use std::alloc::{AllocError, Global};
 use wind_base::NoMemory;
 
@@ -109,7 +109,7 @@ fn gather_outline(alloc: Global, bytes: &[u8]) -> Result<Outline, AllocError>
 {
     let numbers = section_numbers(alloc, bytes)?;
     let shapes = read_shapes(alloc, bytes)?;
-    let symbols = read_syms(alloc, bytes, &numbers, symtab(bytes))?;
+    let symbols = read_syms(alloc, bytes, &numbers)?;
     Ok(Outline {
         shapes: Items::from_vec(shapes),
         symbols,

@@ -166,22 +166,16 @@ fn read_sym(
 }
 
 #[tactic(auto, using(crate::proofs::Gather::gathered_step, crate::proofs::Gather::gathered_last))]
-pub(crate) fn read_syms(
-    alloc: Global,
-    bytes: &[u8],
-    numbers: &[u32],
-    symtab: usize,
-) -> Result<SymList, AllocError>
-    requires all { numbers.now ≡ section_numbers_of bytes.now }
-    requires table { symtab ≡ symtab_of bytes.now }
-    requires low { symtab < 2 ^ 16 }
+pub(crate) fn read_syms(alloc: Global, bytes: &[u8], numbers: &[u32]) -> Result<SymList, AllocError>
+    requires { numbers.now ≡ section_numbers_of bytes.now }
     ensures { IfOk result (λ ss. ss ≡ gathered 1 (symbol_count_of bytes.now - 1) (syms_at bytes.now)) }
 {
     let mut list = Vec::new(alloc);
-    let names = symbol_names(bytes, symtab);
-    let count = symbol_count(bytes, symtab);
+    let table = symtab(bytes);
+    let names = symbol_names(bytes, table);
+    let count = symbol_count(bytes, table);
     for k in 1..count {
-        let sym = read_sym(alloc, bytes, numbers, symtab, names, k)?;
+        let sym = read_sym(alloc, bytes, numbers, table, names, k)?;
         list.push(sym)?;
     }
     Ok(SymList::from_vec(list))
@@ -215,42 +209,20 @@ fn target_number(bytes: &[u8], numbers: &[u32], i: usize) -> u32
     numbers[header(bytes, i).info as usize]
 }
 
-// Adds the relocations of section number `i`.
-#[tactic(auto, unfolding(crate::specs::Contents::rels_at), using(crate::proofs::Gather::gathered_step, crate::proofs::Gather::gathered_last))]
-fn read_applied(
-    list: &mut Vec<Rel>,
-    bytes: &[u8],
-    numbers: &[u32],
-    i: usize,
-) -> Result<(), AllocError>
+// Adds the relocations of section number `i`, if it has any.
+#[tactic(auto, unfolding(crate::specs::Contents::rels_at, crate::specs::Tables::rela_count), using(crate::proofs::Gather::gathered_step, crate::proofs::Gather::gathered_last))]
+fn add_rels(list: &mut Vec<Rel>, bytes: &[u8], numbers: &[u32], i: usize) -> Result<(), AllocError>
     requires low { i < 2 ^ 16 }
     requires all { numbers.now ≡ section_numbers_of bytes.now }
-    requires applied { IsTrue (is_applied_at bytes.now i) }
     ensures { IfOk result (λ u. list.new.items ≡ list.old.items ++ rels_at bytes.now i) }
 {
+    if !is_applied(bytes, i) {
+        return Ok(());
+    }
     let count = rela_count(bytes, i);
     let section = target_number(bytes, numbers, i);
     for k in 0..count {
-        let rel = read_rel(bytes, section, i, k);
-        list.push(rel)?;
-    }
-    Ok(())
-}
-
-// Adds the relocations of section number `i`, if it has any.
-#[tactic(auto, unfolding(crate::specs::Contents::rels_at, crate::specs::Tables::rela_count))]
-fn read_rels_at(
-    list: &mut Vec<Rel>,
-    bytes: &[u8],
-    numbers: &[u32],
-    i: usize,
-) -> Result<(), AllocError>
-    requires low { i < 2 ^ 16 }
-    requires all { numbers.now ≡ section_numbers_of bytes.now }
-    ensures { IfOk result (λ u. list.new.items ≡ list.old.items ++ rels_at bytes.now i) }
-{
-    if is_applied(bytes, i) {
-        return read_applied(list, bytes, numbers, i);
+        list.push(read_rel(bytes, section, i, k))?;
     }
     Ok(())
 }
@@ -263,7 +235,7 @@ fn read_rels(alloc: Global, bytes: &[u8], numbers: &[u32]) -> Result<RelList, Al
     let mut list = Vec::new(alloc);
     let count = header_count(bytes);
     for i in 0..count {
-        read_rels_at(&mut list, bytes, numbers, i)?;
+        add_rels(&mut list, bytes, numbers, i)?;
     }
     Ok(RelList::from_vec(list))
 }
@@ -295,7 +267,7 @@ fn read_module(alloc: Global, bytes: &[u8]) -> Result<Module, AllocError>
     ensures { IfOk result (λ m. m ≡ module_at bytes.now) }
 {
     let numbers = section_numbers(alloc, bytes)?;
-    let symbols = read_syms(alloc, bytes, &numbers, symtab(bytes))?;
+    let symbols = read_syms(alloc, bytes, &numbers)?;
     complete(alloc, bytes, &numbers, symbols)
 }
 

@@ -3,7 +3,7 @@
 ghost use Rattle.std.specs.Prelude.{◌≡◌, ◌++◌, ◌≤◌, IfOk, OnErr};
 ghost use Rattle.wind_base.specs.OutBuf.{KeepsSpace};
 ghost use Rattle.text_show.specs.Columns.{with_text};
-ghost use Rattle.kernel_calls.specs.ShowRows.{printf_row, tasks_row, width_of as width_of_lem, units_of as units_of_lem, dump_in as dump_in_lem, dump_row, lookup_row, modules_row};
+ghost use Rattle.kernel_calls.specs.ShowRows.{printf_row, tasks_row, width_of as width_of_lem, units_of as units_of_lem, dump_row, lookup_row, modules_row};
 
 use board_mem::Ram;
 use kernel_world::{DONE, Reply};
@@ -99,31 +99,6 @@ fn units_of(units: u32, width: u32) -> u32
     if units == 0 { 128 / width } else { units }
 }
 
-// Writes a dump, if it isn't too long and its bytes are in RAM.
-fn dump_in(
-    alloc: Global,
-    ram: &Ram,
-    at: u32,
-    units: u32,
-    width: u32,
-    out: &mut OutBuf,
-) -> Result<Reply, NoMemory>
-    requires some { 1 ≤ width }
-    requires wide { width ≤ 4 }
-    ensures ok { IfOk result (λ r. (r ≡ (dump_in_lem ram.now.bytes at units width).reply)
-        × (out.new ≡ with_text out.old (dump_in_lem ram.now.bytes at units width).text)) }
-    ensures err { OnErr result (out.new ≡ out.old) }
-{
-    if u64::from(units) * u64::from(width) > MOST_DUMPED {
-        return Ok(Reply::Refusal(Errno::BadSize));
-    }
-    if !ram.has(at, units * width) {
-        return Ok(Reply::Refusal(Errno::BadAddress));
-    }
-    dump(alloc, ram, at, units, width, out)?;
-    Ok(DONE)
-}
-
 // d: writes units of a width in bytes, from an address on. If memory runs out, nothing is written.
 pub(crate) fn show_memory(
     alloc: Global,
@@ -141,5 +116,13 @@ pub(crate) fn show_memory(
     if width != 1 && width != 2 && width != 4 {
         return Ok(Reply::Refusal(Errno::BadSize));
     }
-    dump_in(alloc, ram, at, units_of(units, width), width, out)
+    let units = units_of(units, width);
+    if u64::from(units) * u64::from(width) > MOST_DUMPED {
+        return Ok(Reply::Refusal(Errno::BadSize));
+    }
+    if !ram.has(at, units * width) {
+        return Ok(Reply::Refusal(Errno::BadAddress));
+    }
+    dump(alloc, ram, at, units, width, out)?;
+    Ok(DONE)
 }

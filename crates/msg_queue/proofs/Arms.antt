@@ -68,6 +68,17 @@ length-there ram at n e =
     let left : length (drop at ram) ≡ length ram - at = length-drop at ram in
     ⊎_elim (λ none. let zero_n = eqb-true n 0 none in omega arith) (λ fits. let within = leb-true (at + n) (length ram) fits in omega arith) (or_cases (eqb n 0) (leb (at + n) (length ram)) e)
 
+-- ---- a wait
+-- the task's request is added, and its wait begins
+abbrev pub BeginsWait : Scene → Ask → Bool → ℕ → KernState → QueuesState → Type 0
+BeginsWait s a fifo n k qs = (qs ≡ record s.queues { asks = with_new_ask s.kern s.queues.asks a }) × (k ≡ pend s.kern a.who a.place fifo n)
+
+pub wait_begun : (s : Scene) (a b : Ask) (fifo order : Bool) (n : ℕ) (k : KernState) (qs : QueuesState) → a ≡ b → fifo ≡ order → BeginsWait s a fifo n k qs
+    → scene k qs s.ram ≡ waiting s b order n
+wait_begun s a b fifo order n k qs ask same begins =
+    ap₂ (λ l r. scene l r s.ram) begins.1 begins.0
+    ∙ ap₂ (λ c v. waiting s c v n) ask same
+
 -- ---- a send
 module _ (s : Scene) (id : ℕ) (x : Sending) where
   is_at : (d : SendDeed) → send_deed s id x ≡ d → SendIs s id x d
@@ -150,12 +161,8 @@ module _ (s : Scene) (id : ℕ) (x : Sending) where
     pub blocked_timeout : 0 < x.timeout
     blocked_timeout = positive x.timeout blocked_is.5
 
-    pub sent_blocked : (k : KernState) (qs : QueuesState) → qs ≡ record s.queues { asks = with_new_ask s.kern s.queues.asks a } → k ≡ pend s.kern a.who a.place b x.timeout
-        → scene k qs s.ram ≡ send s id x
-    sent_blocked k qs e f =
-        ap₂ (λ l r. scene l r s.ram) f e
-        ∙ ap₂ (λ c v. waiting s c v x.timeout) at_wait.ask at_wait.fifo
-        ∙ sym (ap (after_send s id x) at_wait.deed)
+    pub sent_blocked : (k : KernState) (qs : QueuesState) → BeginsWait s a b x.timeout k qs → scene k qs s.ram ≡ send s id x
+    sent_blocked k qs begins = wait_begun s a (send_ask id at_wait.who x) b (not at_wait.queue.by_priority) x.timeout k qs at_wait.ask at_wait.fifo begins ∙ sym (ap (after_send s id x) at_wait.deed)
 
     pub answer_blocked : Ok took.Pended ≡ send_answer (send_deed s id x)
     answer_blocked = sym (ap send_answer at_wait.deed)

@@ -9,16 +9,16 @@ use Rattle.wind_base.specs.declared.errno.Errno.{Errno}
 use Rattle.id_table.specs.Rows.{object_of, with_object}
 use Rattle.board_mem.specs.Memory.{with_bytes}
 use Rattle.wind_core.specs.State.{KernState, Lives}
-use Rattle.wind_core.specs.Moves.{pend}
 use Rattle.msg_queue.specs.declared.asks.Ask.{Ask}
 use Rattle.msg_queue.specs.declared.plans.ReceivePlan.TheVariants as plan
 use Rattle.msg_queue.specs.declared.words.Receiving.{Receiving}
 use Rattle.msg_queue.specs.declared.words.Got.TheVariants as got
-use Rattle.msg_queue.specs.State.{QueueState, QueuesState, Scene, scene, queue_of, lies_in, size_of, is_full, senders, first_asking, counts, with_new_ask, waiting}
+use Rattle.msg_queue.specs.State.{QueueState, QueuesState, Scene, scene, queue_of, lies_in, size_of, is_full, senders, first_asking, counts}
 use Rattle.msg_queue.specs.Receives.{ReceiveDeed, denied, taken, starved, receive_deed, receive_ask, refilled, after_receive, receive, receive_answer}
 use Rattle.msg_queue.specs.Inside.{receive_plan}
 use Rattle.msg_queue.specs.Kept.{IsKept, IsCaller}
 use Rattle.msg_queue.proofs.Tables.{written_same}
+use Rattle.msg_queue.proofs.Arms.{BeginsWait, wait_begun}
 use Rattle.msg_queue.proofs.Deeds.{ReceiveIs, receive_is}
 use Rattle.msg_queue.proofs.Traffic.{is_first, first_lives, stuck}
 use Rattle.msg_queue.proofs.Steps.{positive, good_of, length-with_bytes}
@@ -98,12 +98,8 @@ module _ (s : Scene) (id : ℕ) (x : Receiving) where
     pub starved_timeout : 0 < x.timeout
     starved_timeout = positive x.timeout starved_is.3
 
-    pub got_starved : (k : KernState) (qs : QueuesState) → qs ≡ record s.queues { asks = with_new_ask s.kern s.queues.asks a } → k ≡ pend s.kern a.who a.place b x.timeout
-        → scene k qs s.ram ≡ receive s id x
-    got_starved k qs e f =
-        ap₂ (λ l r. scene l r s.ram) f e
-        ∙ ap₂ (λ c v. waiting s c v x.timeout) at_wait.ask at_wait.fifo
-        ∙ sym (ap (after_receive s id x) at_wait.deed)
+    pub got_starved : (k : KernState) (qs : QueuesState) → BeginsWait s a b x.timeout k qs → scene k qs s.ram ≡ receive s id x
+    got_starved k qs begins = wait_begun s a (receive_ask id x) b (not at_wait.queue.by_priority) x.timeout k qs at_wait.ask at_wait.fifo begins ∙ sym (ap (after_receive s id x) at_wait.deed)
 
     pub answer_starved : Ok got.Pended ≡ receive_answer x (receive_deed s id x)
     answer_starved = sym (ap (receive_answer x) at_wait.deed)

@@ -1,7 +1,8 @@
 -- Each row of the calls on objects keeps the objects' invariant.
 use Rattle.std.proofs.Common.{◌≡◌, ℕ, ◌+◌, ◌<◌, ◌≤◌, Bool, true, false, cond, not, ◌&&◌, ◌||◌, eqb, leb, List, [], ◌∷◌, ◌++◌, length, get_or, Option, None, Some, IfSome, is_some, refl, sym, ap, ◌∙◌, subst, arith}
 use Rattle.std.specs.List.{All}
-use Rattle.std.proofs.lemmas.Bool.{eqb-true, eqb-false, leb-false, and_parts, or_left, or_right}
+use Rattle.std.proofs.lemmas.Bool.{eqb-true, eqb-false, and_parts, or_left, or_right}
+use Rattle.std.proofs.lemmas.Bool.Decides.{nat_tests}
 use Rattle.std.proofs.lemmas.List.Elements.{All-weaker, All-filter, All-push}
 use Rattle.wind_base.specs.SemBits.{has_bits, are_options, is_priority, is_inversion_safe}
 use Rattle.wind_base.specs.declared.board_kind.BoardKind.{BoardKind}
@@ -56,15 +57,7 @@ KeepsRow board r = KeepsObjects board r.kern r.objects
 
 -- an object is made only if there is room and an id is left
 room_left : (n id : ℕ) (e f : Errno) → cond (leb 1024 n) (Some e) (cond (leb 1048577 id) (Some f) None) ≡ None → (n < 1024) × (id ≤ 1048576)
-room_left n id e f none =
-    elim (leb 1024 n) as (λ b. leb 1024 n ≡ b → cond b (Some e) (cond (leb 1048577 id) (Some f) None) ≡ None → (n < 1024) × (id ≤ 1048576)) [
-      | true ↦ λ h q. absurd (cc)
-      | false ↦ λ h q.
-          elim (leb 1048577 id) as (λ b. leb 1048577 id ≡ b → cond b (Some f) None ≡ None → (n < 1024) × (id ≤ 1048576)) [
-            | true ↦ λ i r. absurd (cc)
-            | false ↦ λ i r. (omega (arith, leb-false 1024 n h), omega (arith, leb-false 1048577 id i))
-          ] refl q
-    ] refl none
+room_left n id e f none = grind (arith, nat_tests)
 
 -- only a mutex whose tasks wait by priority may be inversion-safe
 inherits : (a b c : Bool) → (a && (not b || c)) ≡ true → b ≡ true → c ≡ true

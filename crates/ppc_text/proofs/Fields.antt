@@ -1,5 +1,5 @@
--- An instruction's fields are exactly those within the limits of its operands that meet its condition.
-use Rattle.std.proofs.Common.{◌≡◌, ℕ, zero, suc, ◌+◌, ◌-◌, ◌/◌, ◌%◌, ◌^◌, ◌<◌, Bool, true, false, not, ◌&&◌, ◌||◌, nat_eq, nat_lt, List, [], ◌∷◌, ◌++◌, length, replicate, map, get_or, refl, sym, ap, ◌∙◌, subst, arith, eqb-true, eq-eqb, length-append}
+-- An instruction's fields are exactly those within the limits of its operands that meet its rule.
+use Rattle.std.proofs.Common.{◌≡◌, ℕ, ◌+◌, ◌-◌, ◌/◌, ◌%◌, ◌^◌, ◌<◌, Bool, true, false, ◌&&◌, nat_eq, List, [], ◌∷◌, ◌++◌, length, replicate, map, get_or, refl, sym, ap, ◌∙◌, arith, eqb-true, eq-eqb, length-append}
 use Rattle.std.specs.List.{list_all}
 use Rattle.std.proofs.lemmas.Bool.{and_parts}
 use Rattle.std.proofs.lemmas.List.{get_or-map, length-replicate}
@@ -45,18 +45,14 @@ fit-within row (a ∷ b ∷ c ∷ d ∷ e ∷ f ∷ []) h =
     along (λ (g : Form). fit g.pieces (a ∷ b ∷ c ∷ d ∷ e ∷ f ∷ [])) (λ (m : Named). are_within (limits_of m) (a ∷ b ∷ c ∷ d ∷ e ∷ f ∷ [])) (fits_alike a b c d e f) row
 fit-within row (a ∷ b ∷ c ∷ d ∷ e ∷ f ∷ g ∷ fs) h = absurd (omega arith)
 
--- ---- conditions
-allowed_alike : (w : ℕ) → map (λ (g : Form). allowed g.rule w) table ≡ map (λ (m : Named). allowed m.condition w) instructions
-unfolding table instructions
-allowed_alike w = refl
-
+-- ---- rules
 -- a form's first field has 5 bits, and its second the given number
 abbrev begins : ℕ → List (ℕ × ℕ) → Bool
 begins width [] = false
 begins width (p ∷ []) = false
 begins width (p ∷ q ∷ ps) = nat_eq p.0 6 && (nat_eq p.1 5 && (nat_eq q.0 11 && nat_eq q.1 width))
 
--- the fields that a condition reads stand where the word has them
+-- the fields that a rule reads stand where the word has them
 unfoldable placed_for : Rule → List (ℕ × ℕ) → Bool
 placed_for Any ps = true
 placed_for LoadUpdate ps = begins 5 ps
@@ -65,30 +61,9 @@ placed_for LoadMultiple ps = begins 5 ps
 placed_for SpecialRegister ps = begins 10 ps
 placed_for NoCount ps = begins 5 ps
 
-abbrev all_placed : List Named → List (List (ℕ × ℕ)) → Bool
-all_placed [] [] = true
-all_placed (m ∷ ms) [] = false
-all_placed [] (p ∷ ps) = false
-all_placed (m ∷ ms) (p ∷ ps) = placed_for m.condition p && all_placed ms ps
-
-places_alike : all_placed instructions (map (λ (g : Form). field_places g.pieces) table) ≡ true
-unfolding table instructions placed_for
-places_alike = refl
-
-all_placed-at : (ms : List Named) (ps : List (List (ℕ × ℕ))) (k : ℕ) (d : Named) (e : List (ℕ × ℕ)) → all_placed ms ps ≡ true → k < length ms → placed_for (get_or ms k d).condition (get_or ps k e) ≡ true
-all_placed-at [] ps k d e h lt = absurd (omega arith)
-all_placed-at (m ∷ ms) [] k d e h lt = cc
-all_placed-at (m ∷ ms) (p ∷ ps) zero d e h lt = (and_parts (placed_for m.condition p) (all_placed ms ps) h).0
-all_placed-at (m ∷ ms) (p ∷ ps) (suc k) d e h lt = all_placed-at ms ps k d e (and_parts (placed_for m.condition p) (all_placed ms ps) h).1 (omega arith)
-
-row_placed : (row : Row) → placed_for (named_as row).condition (field_places (form_of row).pieces) ≡ true
-unfolding named_as
-row_placed row =
-    let k = number row in
-    let low : k < length table = omega (arith, number-below row, length-table) in
-    let low' : k < length instructions = omega (arith, number-below row, length-instructions) in
-    subst (λ (ps : List (ℕ × ℕ)). placed_for (get_or instructions k no_name).condition ps ≡ true) (get_or-map (λ (g : Form). field_places g.pieces) table k no_form [] low)
-    (all_placed-at instructions (map (λ (g : Form). field_places g.pieces) table) k no_name [] places_alike low')
+placed : list_all (λ (g : Form). placed_for g.rule (field_places g.pieces)) table ≡ true
+unfolding table placed_for
+placed = refl
 
 -- ---- the fields of a word
 counts : list_all (λ (g : Form). nat_eq (length (field_places g.pieces)) (fields g.pieces)) table ≡ true
@@ -138,7 +113,7 @@ special_word w = omega arith
 count_word : (w : ℕ) → w / 2 ^ 21 % 2 ^ 5 / 4 % 2 ≡ bo2_of w
 count_word w = omega arith
 
--- a word meets a condition exactly if its first two fields do
+-- a word meets a rule exactly if its first two fields do
 holds_word : (c : Rule) (w : ℕ) (ps : List (ℕ × ℕ)) (zs : List ℕ) → placed_for c ps ≡ true → allowed c w ≡ holds c (map (at_place w) ps ++ zs)
 unfolding placed_for holds
 holds_word Any w ps zs h = refl
@@ -154,14 +129,13 @@ pub unfit : (row : Row) (fs : List ℕ) → length fs ≡ 6 → are_within (limi
 unfolding are_fields
 unfit row fs six f = rw (eq-eqb (length fs) 6 six, fit-within row fs six, f) refl
 
--- values within the limits are an instruction's fields exactly if they meet the condition
-pub fitting : (row : Row) (fs : List ℕ) → length fs ≡ 6 → are_within (limits_of (named_as row)) fs ≡ true → holds (named_as row).condition fs ≡ are_fields row fs
+-- values within the limits are an instruction's fields exactly if they meet its rule
+pub fitting : (row : Row) (fs : List ℕ) → length fs ≡ 6 → are_within (limits_of (named_as row)) fs ≡ true → holds (form_of row).rule fs ≡ are_fields row fs
 unfolding are_fields word_with
 fitting row fs six f =
     let h : fit (form_of row).pieces fs ≡ true = fit-within row fs six ∙ f in
     let w = joined (form_of row).pieces fs in
-    let e = joined_fields row fs six h in
-    let a : allowed (form_of row).rule w ≡ allowed (named_as row).condition w = along (λ (g : Form). allowed g.rule w) (λ (m : Named). allowed m.condition w) (allowed_alike w) row in
-    let b = holds_word (named_as row).condition w (field_places (form_of row).pieces) (replicate (6 - fields (form_of row).pieces) 0) (row_placed row) in
-    let same : holds (named_as row).condition fs ≡ allowed (form_of row).rule w = ap (holds (named_as row).condition) e ∙ sym b ∙ sym a in
+    let there = form-test (λ (g : Form). placed_for g.rule (field_places g.pieces)) placed row in
+    let met = holds_word (form_of row).rule w (field_places (form_of row).pieces) (replicate (6 - fields (form_of row).pieces) 0) there in
+    let same : holds (form_of row).rule fs ≡ allowed (form_of row).rule w = ap (holds (form_of row).rule) (joined_fields row fs six h) ∙ sym met in
     rw (eq-eqb (length fs) 6 six, h) same

@@ -1,5 +1,5 @@
 -- An instruction's text has no line feed.
-use Rattle.std.proofs.Common.{◌≡◌, ◌≢◌, ℕ, ◌+◌, ◌*◌, ◌-◌, ◌^◌, ◌<◌, ◌≤◌, Bool, true, false, not, ◌&&◌, List, [], ◌∷◌, ◌++◌, refl, ap, ◌∙◌, arith}
+use Rattle.std.proofs.Common.{◌≡◌, ◌≢◌, ℕ, ◌+◌, ◌*◌, ◌-◌, ◌^◌, ◌<◌, Bool, true, false, not, ◌&&◌, List, [], ◌∷◌, ◌++◌, refl, ap, ◌∙◌, arith}
 use Rattle.std.specs.Prelude.{if◌then◌else◌, ◌==◌, nat_lt, codes}
 use Rattle.std.specs.List.{All, flat_map, list_all}
 use Rattle.std.specs.Char.{digit_value}
@@ -15,7 +15,7 @@ use Rattle.ppc_text.specs.declared.part.Reach.TheVariants.{Long, Short}
 use Rattle.ppc_text.specs.declared.part.Part.{Part}
 use Rattle.ppc_text.specs.declared.part.Part.TheVariants as parts
 use Rattle.ppc_text.specs.Mnemonics.{Named, instructions, named_as}
-use Rattle.ppc_text.specs.Limits.{limit_of, limits_of, special_of}
+use Rattle.ppc_text.specs.Limits.{limit_of, special_of}
 use Rattle.ppc_text.specs.Shapes.{parts_of}
 use Rattle.ppc_text.specs.Shown.{field_at, signed_text, part_text, operands_text, text_of}
 use Rattle.ppc_text.proofs.Widths.{fields_within, at_row}

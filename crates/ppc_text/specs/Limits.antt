@@ -1,4 +1,4 @@
--- Which fields an instruction may have: the limit of each, and the condition that they meet in addition.
+-- Which fields an instruction may have: the limit of each, and its form's rule.
 use Rattle.std.specs.Prelude.{ℕ, ◌+◌, ◌*◌, ◌/◌, ◌%◌, Bool, true, false, not, ◌&&◌, ◌||◌, nat_eq, nat_lt, min, if◌then◌else◌, List, [], ◌∷◌, slice_index}
 use Rattle.wind_base.specs.Limits.{greatest_word}
 use Rattle.ppc_text.specs.declared.part.Reach.TheVariants.{Long, Short}
@@ -46,7 +46,7 @@ are_within (l ∷ ls) (f ∷ fs) = lies_below l f && are_within ls fs
 abbrev pub special_of : ℕ → ℕ
 special_of field = field % 32 * 32 + field / 32
 
--- fields meet a condition: field 0 is the target or BO, and field 1 is the base or the special register
+-- fields meet a rule: field 0 is the target or BO, and field 1 is the base or the special register
 unfoldable pub holds : Rule → List ℕ → Bool
 holds Any fs = true
 holds LoadUpdate fs = not (nat_eq (slice_index fs 1) 0) && not (nat_eq (slice_index fs 1) (slice_index fs 0))

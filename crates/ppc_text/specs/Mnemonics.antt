@@ -9,8 +9,6 @@ use Rattle.ppc_text.specs.declared.part.Shape.{Shape}
 use Rattle.ppc_text.specs.declared.part.Shape.TheVariants.{Immediate, Shifted, LogicalImmediate, CompareImmediate, CompareUnsigned, Compare, TrapImmediate, Trap, Memory, Three, Two, LogicalThree, LogicalTwo, Shift, Rotate, RotateBy, Branch, BranchConditional, BranchRegister, Bits, Fields, Field, One, Mask, FromSpecial, ToSpecial, Nothing, LoadImmediate, LoadShifted, Move, Always, FromLink, ToLink}
 use Rattle.ppc_text.specs.declared.mnemonic.Endings.{Endings}
 use Rattle.ppc_text.specs.declared.mnemonic.Endings.TheVariants.{Bare, Record, Overflow, Link, LinkAbsolute}
-use Rattle.ppc_word.specs.declared.rule.Rule.{Rule}
-use Rattle.ppc_word.specs.declared.rule.Rule.TheVariants.{Any, LoadUpdate, StoreUpdate, LoadMultiple, SpecialRegister, NoCount}
 use Rattle.ppc_text.specs.declared.mnemonic.Flags.{Flags}
 use Rattle.ppc_text.specs.declared.mnemonic.Spelling.{Spelling}
 use Rattle.ppc_text.specs.declared.mnemonic.Mnemonic.{Mnemonic}
@@ -21,7 +19,6 @@ pub record Named : Type 0 where
   pub row : Row
   pub shape : Shape
   pub endings : Endings
-  pub condition : Rule
 
 -- the name without the zeros after it
 abbrev pub name_of : Mnemonic → List ℕ
@@ -29,7 +26,7 @@ name_of m = take_while (λ b. not (b == 0)) m.name
 
 -- an entry of the code's table as the definitions see it
 abbrev pub seen : Mnemonic → Named
-seen m = record { name = name_of m; row = m.row; shape = m.shape; endings = m.endings; condition = m.condition }
+seen m = record { name = name_of m; row = m.row; shape = m.shape; endings = m.endings }
 
 -- the fields that these bytes set after a name, if they are one of its endings: `.` sets Rc, `o` OE, `l` LK and `a` AA
 unfoldable pub ending_of : Endings → List ℕ → Option Flags
@@ -74,140 +71,154 @@ abbrev pub spelling_in : List Named → List ℕ → Option Spelling
 spelling_in [] word = None
 spelling_in (m ∷ ms) word = spelled_or m (named m word) (spelling_in ms word)
 
--- a mnemonic whose fields need only lie in their ranges
-abbrev pub mnemonic : List ℕ → Row → Shape → Endings → Named
-mnemonic name row shape endings = record { name = name; row = row; shape = shape; endings = endings; condition = Any }
+-- the place of the first field after those of the operands, for the shapes with an ending
+abbrev pub place_after : Shape → ℕ
+place_after Branch = 1
+place_after Two = 2
+place_after LogicalTwo = 2
+place_after BranchRegister = 2
+place_after Rotate = 5
+place_after RotateBy = 5
+place_after shape = 3
 
--- a mnemonic whose fields meet a condition in addition to their ranges
-abbrev pub limited : Rule → Named → Named
-limited condition m = record m { condition = condition }
+-- no letters may follow the name
+abbrev pub bare : ℕ → Endings
+bare place = Bare
+
+-- a mnemonic: an ending's fields follow those of the operands
+abbrev pub mnemonic : List ℕ → Row → Shape → (ℕ → Endings) → Named
+mnemonic name row shape ending = record { name = name; row = row; shape = shape; endings = ending (place_after shape) }
+
+-- a short form, which has no ending
+abbrev pub short : List ℕ → Row → Shape → Named
+short name row shape = mnemonic name row shape bare
 
 -- the instructions, in the order of their table
 unfoldable pub instructions : List Named
 instructions =
-    mnemonic (codes "twi") Twi TrapImmediate Bare ∷
-    mnemonic (codes "mulli") Mulli Immediate Bare ∷
-    mnemonic (codes "subfic") Subfic Immediate Bare ∷
-    mnemonic (codes "cmplwi") Cmpli CompareUnsigned Bare ∷
-    mnemonic (codes "cmpwi") Cmpi CompareImmediate Bare ∷
-    mnemonic (codes "addic") Addic Immediate Bare ∷
-    mnemonic (codes "addic.") AddicDot Immediate Bare ∷
-    mnemonic (codes "addi") Addi Immediate Bare ∷
-    mnemonic (codes "addis") Addis Shifted Bare ∷
-    mnemonic (codes "bc") Bc BranchConditional (LinkAbsolute 3) ∷
-    mnemonic (codes "sc") Sc Nothing Bare ∷
-    mnemonic (codes "b") B Branch (LinkAbsolute 1) ∷
-    mnemonic (codes "rlwimi") Rlwimi Rotate (Record 5) ∷
-    mnemonic (codes "rlwinm") Rlwinm Rotate (Record 5) ∷
-    mnemonic (codes "rlwnm") Rlwnm RotateBy (Record 5) ∷
-    mnemonic (codes "ori") Ori LogicalImmediate Bare ∷
-    mnemonic (codes "oris") Oris LogicalImmediate Bare ∷
-    mnemonic (codes "xori") Xori LogicalImmediate Bare ∷
-    mnemonic (codes "xoris") Xoris LogicalImmediate Bare ∷
-    mnemonic (codes "andi.") Andi LogicalImmediate Bare ∷
-    mnemonic (codes "andis.") Andis LogicalImmediate Bare ∷
-    mnemonic (codes "lwz") Lwz Memory Bare ∷
-    limited LoadUpdate (mnemonic (codes "lwzu") Lwzu Memory Bare) ∷
-    mnemonic (codes "lbz") Lbz Memory Bare ∷
-    limited LoadUpdate (mnemonic (codes "lbzu") Lbzu Memory Bare) ∷
-    mnemonic (codes "stw") Stw Memory Bare ∷
-    limited StoreUpdate (mnemonic (codes "stwu") Stwu Memory Bare) ∷
-    mnemonic (codes "stb") Stb Memory Bare ∷
-    limited StoreUpdate (mnemonic (codes "stbu") Stbu Memory Bare) ∷
-    mnemonic (codes "lhz") Lhz Memory Bare ∷
-    limited LoadUpdate (mnemonic (codes "lhzu") Lhzu Memory Bare) ∷
-    mnemonic (codes "lha") Lha Memory Bare ∷
-    limited LoadUpdate (mnemonic (codes "lhau") Lhau Memory Bare) ∷
-    mnemonic (codes "sth") Sth Memory Bare ∷
-    limited StoreUpdate (mnemonic (codes "sthu") Sthu Memory Bare) ∷
-    limited LoadMultiple (mnemonic (codes "lmw") Lmw Memory Bare) ∷
-    mnemonic (codes "stmw") Stmw Memory Bare ∷
-    mnemonic (codes "mcrf") Mcrf Fields Bare ∷
-    mnemonic (codes "bclr") Bclr BranchRegister (Link 2) ∷
-    limited NoCount (mnemonic (codes "bcctr") Bcctr BranchRegister (Link 2)) ∷
-    mnemonic (codes "crnor") Crnor Bits Bare ∷
-    mnemonic (codes "crandc") Crandc Bits Bare ∷
-    mnemonic (codes "crxor") Crxor Bits Bare ∷
-    mnemonic (codes "crnand") Crnand Bits Bare ∷
-    mnemonic (codes "crand") Crand Bits Bare ∷
-    mnemonic (codes "creqv") Creqv Bits Bare ∷
-    mnemonic (codes "crorc") Crorc Bits Bare ∷
-    mnemonic (codes "cror") Cror Bits Bare ∷
-    mnemonic (codes "isync") Isync Nothing Bare ∷
-    mnemonic (codes "cmpw") Cmp Compare Bare ∷
-    mnemonic (codes "cmplw") Cmpl Compare Bare ∷
-    mnemonic (codes "tw") Tw Trap Bare ∷
-    mnemonic (codes "subfc") Subfc Three (Overflow 3) ∷
-    mnemonic (codes "subf") Subf Three (Overflow 3) ∷
-    mnemonic (codes "addc") Addc Three (Overflow 3) ∷
-    mnemonic (codes "add") Add Three (Overflow 3) ∷
-    mnemonic (codes "subfe") Subfe Three (Overflow 3) ∷
-    mnemonic (codes "adde") Adde Three (Overflow 3) ∷
-    mnemonic (codes "subfze") Subfze Two (Overflow 2) ∷
-    mnemonic (codes "addze") Addze Two (Overflow 2) ∷
-    mnemonic (codes "subfme") Subfme Two (Overflow 2) ∷
-    mnemonic (codes "addme") Addme Two (Overflow 2) ∷
-    mnemonic (codes "neg") Neg Two (Overflow 2) ∷
-    mnemonic (codes "mulhwu") Mulhwu Three (Record 3) ∷
-    mnemonic (codes "mulhw") Mulhw Three (Record 3) ∷
-    mnemonic (codes "mullw") Mullw Three (Overflow 3) ∷
-    mnemonic (codes "divwu") Divwu Three (Overflow 3) ∷
-    mnemonic (codes "divw") Divw Three (Overflow 3) ∷
-    mnemonic (codes "and") And LogicalThree (Record 3) ∷
-    mnemonic (codes "andc") Andc LogicalThree (Record 3) ∷
-    mnemonic (codes "or") Or LogicalThree (Record 3) ∷
-    mnemonic (codes "orc") Orc LogicalThree (Record 3) ∷
-    mnemonic (codes "xor") Xor LogicalThree (Record 3) ∷
-    mnemonic (codes "eqv") Eqv LogicalThree (Record 3) ∷
-    mnemonic (codes "nor") Nor LogicalThree (Record 3) ∷
-    mnemonic (codes "nand") Nand LogicalThree (Record 3) ∷
-    mnemonic (codes "slw") Slw LogicalThree (Record 3) ∷
-    mnemonic (codes "srw") Srw LogicalThree (Record 3) ∷
-    mnemonic (codes "sraw") Sraw LogicalThree (Record 3) ∷
-    mnemonic (codes "srawi") Srawi Shift (Record 3) ∷
-    mnemonic (codes "cntlzw") Cntlzw LogicalTwo (Record 2) ∷
-    mnemonic (codes "extsb") Extsb LogicalTwo (Record 2) ∷
-    mnemonic (codes "extsh") Extsh LogicalTwo (Record 2) ∷
-    mnemonic (codes "mfcr") Mfcr One Bare ∷
-    mnemonic (codes "mtcrf") Mtcrf Mask Bare ∷
-    mnemonic (codes "mcrxr") Mcrxr Field Bare ∷
-    limited SpecialRegister (mnemonic (codes "mfspr") Mfspr FromSpecial Bare) ∷
-    limited SpecialRegister (mnemonic (codes "mtspr") Mtspr ToSpecial Bare) ∷
-    mnemonic (codes "lwzx") Lwzx Three Bare ∷
-    mnemonic (codes "lbzx") Lbzx Three Bare ∷
-    mnemonic (codes "lhzx") Lhzx Three Bare ∷
-    mnemonic (codes "lhax") Lhax Three Bare ∷
-    limited LoadUpdate (mnemonic (codes "lwzux") Lwzux Three Bare) ∷
-    limited LoadUpdate (mnemonic (codes "lbzux") Lbzux Three Bare) ∷
-    limited LoadUpdate (mnemonic (codes "lhzux") Lhzux Three Bare) ∷
-    limited LoadUpdate (mnemonic (codes "lhaux") Lhaux Three Bare) ∷
-    mnemonic (codes "stwx") Stwx Three Bare ∷
-    mnemonic (codes "stbx") Stbx Three Bare ∷
-    mnemonic (codes "sthx") Sthx Three Bare ∷
-    limited StoreUpdate (mnemonic (codes "stwux") Stwux Three Bare) ∷
-    limited StoreUpdate (mnemonic (codes "stbux") Stbux Three Bare) ∷
-    limited StoreUpdate (mnemonic (codes "sthux") Sthux Three Bare) ∷
-    mnemonic (codes "lwbrx") Lwbrx Three Bare ∷
-    mnemonic (codes "lhbrx") Lhbrx Three Bare ∷
-    mnemonic (codes "stwbrx") Stwbrx Three Bare ∷
-    mnemonic (codes "sthbrx") Sthbrx Three Bare ∷
-    mnemonic (codes "lwarx") Lwarx Three Bare ∷
-    mnemonic (codes "stwcx.") Stwcx Three Bare ∷
-    mnemonic (codes "sync") Sync Nothing Bare ∷
-    mnemonic (codes "eieio") Eieio Nothing Bare ∷
+    mnemonic (codes "twi") Twi TrapImmediate bare ∷
+    mnemonic (codes "mulli") Mulli Immediate bare ∷
+    mnemonic (codes "subfic") Subfic Immediate bare ∷
+    mnemonic (codes "cmplwi") Cmpli CompareUnsigned bare ∷
+    mnemonic (codes "cmpwi") Cmpi CompareImmediate bare ∷
+    mnemonic (codes "addic") Addic Immediate bare ∷
+    mnemonic (codes "addic.") AddicDot Immediate bare ∷
+    mnemonic (codes "addi") Addi Immediate bare ∷
+    mnemonic (codes "addis") Addis Shifted bare ∷
+    mnemonic (codes "bc") Bc BranchConditional LinkAbsolute ∷
+    mnemonic (codes "sc") Sc Nothing bare ∷
+    mnemonic (codes "b") B Branch LinkAbsolute ∷
+    mnemonic (codes "rlwimi") Rlwimi Rotate Record ∷
+    mnemonic (codes "rlwinm") Rlwinm Rotate Record ∷
+    mnemonic (codes "rlwnm") Rlwnm RotateBy Record ∷
+    mnemonic (codes "ori") Ori LogicalImmediate bare ∷
+    mnemonic (codes "oris") Oris LogicalImmediate bare ∷
+    mnemonic (codes "xori") Xori LogicalImmediate bare ∷
+    mnemonic (codes "xoris") Xoris LogicalImmediate bare ∷
+    mnemonic (codes "andi.") Andi LogicalImmediate bare ∷
+    mnemonic (codes "andis.") Andis LogicalImmediate bare ∷
+    mnemonic (codes "lwz") Lwz Memory bare ∷
+    mnemonic (codes "lwzu") Lwzu Memory bare ∷
+    mnemonic (codes "lbz") Lbz Memory bare ∷
+    mnemonic (codes "lbzu") Lbzu Memory bare ∷
+    mnemonic (codes "stw") Stw Memory bare ∷
+    mnemonic (codes "stwu") Stwu Memory bare ∷
+    mnemonic (codes "stb") Stb Memory bare ∷
+    mnemonic (codes "stbu") Stbu Memory bare ∷
+    mnemonic (codes "lhz") Lhz Memory bare ∷
+    mnemonic (codes "lhzu") Lhzu Memory bare ∷
+    mnemonic (codes "lha") Lha Memory bare ∷
+    mnemonic (codes "lhau") Lhau Memory bare ∷
+    mnemonic (codes "sth") Sth Memory bare ∷
+    mnemonic (codes "sthu") Sthu Memory bare ∷
+    mnemonic (codes "lmw") Lmw Memory bare ∷
+    mnemonic (codes "stmw") Stmw Memory bare ∷
+    mnemonic (codes "mcrf") Mcrf Fields bare ∷
+    mnemonic (codes "bclr") Bclr BranchRegister Link ∷
+    mnemonic (codes "bcctr") Bcctr BranchRegister Link ∷
+    mnemonic (codes "crnor") Crnor Bits bare ∷
+    mnemonic (codes "crandc") Crandc Bits bare ∷
+    mnemonic (codes "crxor") Crxor Bits bare ∷
+    mnemonic (codes "crnand") Crnand Bits bare ∷
+    mnemonic (codes "crand") Crand Bits bare ∷
+    mnemonic (codes "creqv") Creqv Bits bare ∷
+    mnemonic (codes "crorc") Crorc Bits bare ∷
+    mnemonic (codes "cror") Cror Bits bare ∷
+    mnemonic (codes "isync") Isync Nothing bare ∷
+    mnemonic (codes "cmpw") Cmp Compare bare ∷
+    mnemonic (codes "cmplw") Cmpl Compare bare ∷
+    mnemonic (codes "tw") Tw Trap bare ∷
+    mnemonic (codes "subfc") Subfc Three Overflow ∷
+    mnemonic (codes "subf") Subf Three Overflow ∷
+    mnemonic (codes "addc") Addc Three Overflow ∷
+    mnemonic (codes "add") Add Three Overflow ∷
+    mnemonic (codes "subfe") Subfe Three Overflow ∷
+    mnemonic (codes "adde") Adde Three Overflow ∷
+    mnemonic (codes "subfze") Subfze Two Overflow ∷
+    mnemonic (codes "addze") Addze Two Overflow ∷
+    mnemonic (codes "subfme") Subfme Two Overflow ∷
+    mnemonic (codes "addme") Addme Two Overflow ∷
+    mnemonic (codes "neg") Neg Two Overflow ∷
+    mnemonic (codes "mulhwu") Mulhwu Three Record ∷
+    mnemonic (codes "mulhw") Mulhw Three Record ∷
+    mnemonic (codes "mullw") Mullw Three Overflow ∷
+    mnemonic (codes "divwu") Divwu Three Overflow ∷
+    mnemonic (codes "divw") Divw Three Overflow ∷
+    mnemonic (codes "and") And LogicalThree Record ∷
+    mnemonic (codes "andc") Andc LogicalThree Record ∷
+    mnemonic (codes "or") Or LogicalThree Record ∷
+    mnemonic (codes "orc") Orc LogicalThree Record ∷
+    mnemonic (codes "xor") Xor LogicalThree Record ∷
+    mnemonic (codes "eqv") Eqv LogicalThree Record ∷
+    mnemonic (codes "nor") Nor LogicalThree Record ∷
+    mnemonic (codes "nand") Nand LogicalThree Record ∷
+    mnemonic (codes "slw") Slw LogicalThree Record ∷
+    mnemonic (codes "srw") Srw LogicalThree Record ∷
+    mnemonic (codes "sraw") Sraw LogicalThree Record ∷
+    mnemonic (codes "srawi") Srawi Shift Record ∷
+    mnemonic (codes "cntlzw") Cntlzw LogicalTwo Record ∷
+    mnemonic (codes "extsb") Extsb LogicalTwo Record ∷
+    mnemonic (codes "extsh") Extsh LogicalTwo Record ∷
+    mnemonic (codes "mfcr") Mfcr One bare ∷
+    mnemonic (codes "mtcrf") Mtcrf Mask bare ∷
+    mnemonic (codes "mcrxr") Mcrxr Field bare ∷
+    mnemonic (codes "mfspr") Mfspr FromSpecial bare ∷
+    mnemonic (codes "mtspr") Mtspr ToSpecial bare ∷
+    mnemonic (codes "lwzx") Lwzx Three bare ∷
+    mnemonic (codes "lbzx") Lbzx Three bare ∷
+    mnemonic (codes "lhzx") Lhzx Three bare ∷
+    mnemonic (codes "lhax") Lhax Three bare ∷
+    mnemonic (codes "lwzux") Lwzux Three bare ∷
+    mnemonic (codes "lbzux") Lbzux Three bare ∷
+    mnemonic (codes "lhzux") Lhzux Three bare ∷
+    mnemonic (codes "lhaux") Lhaux Three bare ∷
+    mnemonic (codes "stwx") Stwx Three bare ∷
+    mnemonic (codes "stbx") Stbx Three bare ∷
+    mnemonic (codes "sthx") Sthx Three bare ∷
+    mnemonic (codes "stwux") Stwux Three bare ∷
+    mnemonic (codes "stbux") Stbux Three bare ∷
+    mnemonic (codes "sthux") Sthux Three bare ∷
+    mnemonic (codes "lwbrx") Lwbrx Three bare ∷
+    mnemonic (codes "lhbrx") Lhbrx Three bare ∷
+    mnemonic (codes "stwbrx") Stwbrx Three bare ∷
+    mnemonic (codes "sthbrx") Sthbrx Three bare ∷
+    mnemonic (codes "lwarx") Lwarx Three bare ∷
+    mnemonic (codes "stwcx.") Stwcx Three bare ∷
+    mnemonic (codes "sync") Sync Nothing bare ∷
+    mnemonic (codes "eieio") Eieio Nothing bare ∷
     []
 
 -- the short forms
 unfoldable pub short_forms : List Named
 short_forms =
-    mnemonic (codes "li") Addi LoadImmediate Bare ∷
-    mnemonic (codes "lis") Addis LoadShifted Bare ∷
-    mnemonic (codes "mr") Or Move Bare ∷
-    mnemonic (codes "blr") Bclr Always Bare ∷
-    mnemonic (codes "bctr") Bcctr Always Bare ∷
-    mnemonic (codes "mflr") Mfspr FromLink Bare ∷
-    mnemonic (codes "mtlr") Mtspr ToLink Bare ∷
-    mnemonic (codes "nop") Ori Nothing Bare ∷
+    short (codes "li") Addi LoadImmediate ∷
+    short (codes "lis") Addis LoadShifted ∷
+    short (codes "mr") Or Move ∷
+    short (codes "blr") Bclr Always ∷
+    short (codes "bctr") Bcctr Always ∷
+    short (codes "mflr") Mfspr FromLink ∷
+    short (codes "mtlr") Mtspr ToLink ∷
+    short (codes "nop") Ori Nothing ∷
     []
 
 -- all mnemonics
@@ -216,7 +227,7 @@ mnemonics = instructions ++ short_forms
 
 -- the answer past the end of the table
 abbrev pub no_name : Named
-no_name = mnemonic [] Twi Nothing Bare
+no_name = mnemonic [] Twi Nothing bare
 
 -- how an instruction is spelled
 unfoldable pub named_as : Row → Named

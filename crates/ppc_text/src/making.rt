@@ -8,7 +8,7 @@ ghost use Rattle.ppc_text.specs.Limits.{limit_of as limit_of_lem, limits_from as
 use crate::mnemonic::{Flags, Mnemonic, flagged, mnemonic_of};
 use crate::operand::with_value;
 use crate::part::{Part, Reach, parts_of};
-use ppc_word::{Insn, Row, Rule};
+use ppc_word::{Insn, Row, Rule, rule_of};
 
 // The number that the field of an operand must lie below. A mark and a fixed field have 0.
 #[tactic(auto, unfolding(crate::specs::Limits::limit_of))]
@@ -83,12 +83,12 @@ fn is_special(number: u64) -> bool
 }
 
 #[tactic(auto, unfolding(crate::specs::Limits::holds))]
-fn holds(condition: Rule, fields: &[u32; 6]) -> bool
-    ensures { result ≡ holds_lem condition fields.now }
+fn holds(rule: Rule, fields: &[u32; 6]) -> bool
+    ensures { result ≡ holds_lem rule fields.now }
 {
     let first = fields[0];
     let second = fields[1];
-    match condition {
+    match rule {
         Rule::Any => true,
         Rule::LoadUpdate => second != 0 && second != first,
         Rule::StoreUpdate => second != 0,
@@ -105,7 +105,7 @@ fn are_its_fields(row: Row, fields: &[u32; 6]) -> bool
     let mnemonic = mnemonic_of(row);
     let limits = limits(mnemonic);
     if are_within(&limits, fields) {
-        holds(mnemonic.condition, fields)
+        holds(rule_of(row), fields)
     } else {
         false
     }

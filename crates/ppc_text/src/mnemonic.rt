@@ -5,7 +5,7 @@ ghost use Rattle.std.specs.List.{prefix_len};
 ghost use Rattle.ppc_text.specs.Mnemonics.{name_of as name_of_lem, seen, ending_of as ending_of_lem, named as named_lem, spelling_in, spelling_of as spelling_of_lem, named_as, flagged as flagged_lem, is_absolute as is_absolute_lem, spells};
 
 use crate::part::Shape;
-use ppc_word::{Row, Rule};
+use ppc_word::Row;
 
 /// The letters that may follow the name of an instruction, with the place of the first field that they set.
 #[derive(Clone, Copy, Debug, PartialEq, Eq, Drop)]
@@ -33,8 +33,6 @@ pub(crate) struct Mnemonic {
     pub shape: Shape,
     /// The letters that may follow the name.
     pub endings: Endings,
-    /// The condition on the fields.
-    pub condition: Rule,
 }
 
 /// The values of the one or two fields that an ending sets, in the order of their places.
@@ -59,32 +57,44 @@ pub(crate) struct Spelling {
     pub fields: [u32; 6],
 }
 
+// The place of the first field after those of the operands, for the shapes with an ending.
+macro_rules! place_after {
+    (Branch) => {
+        1
+    };
+    (Two) => {
+        2
+    };
+    (LogicalTwo) => {
+        2
+    };
+    (BranchRegister) => {
+        2
+    };
+    (Rotate) => {
+        5
+    };
+    (RotateBy) => {
+        5
+    };
+    ($shape:ident) => {
+        3
+    };
+}
+
 macro_rules! mnemonic {
-    ($name:literal, $row:ident, $shape:ident, if $condition:ident) => {
-        Mnemonic {
-            name: *$name,
-            row: Row::$row,
-            shape: Shape::$shape,
-            endings: Endings::Bare,
-            condition: Rule::$condition,
-        }
+    ($name:literal, $row:ident, $shape:ident, Bare) => {
+        mnemonic!($name, $row, $shape, (Endings::Bare))
     };
-    ($name:literal, $row:ident, $shape:ident, Link($place:literal) if $condition:ident) => {
-        Mnemonic {
-            name: *$name,
-            row: Row::$row,
-            shape: Shape::$shape,
-            endings: Endings::Link($place),
-            condition: Rule::$condition,
-        }
+    ($name:literal, $row:ident, $shape:ident, $ending:ident) => {
+        mnemonic!($name, $row, $shape, (Endings::$ending(place_after!($shape))))
     };
-    ($name:literal, $row:ident, $shape:ident, $($endings:tt)*) => {
+    ($name:literal, $row:ident, $shape:ident, ($endings:expr)) => {
         Mnemonic {
             name: *$name,
             row: Row::$row,
             shape: Shape::$shape,
-            endings: Endings::$($endings)*,
-            condition: Rule::Any,
+            endings: $endings,
         }
     };
 }
@@ -103,12 +113,12 @@ pub(crate) static TABLE: [Mnemonic; MNEMONICS] = [
     mnemonic!(b"addic.", AddicDot, Immediate, Bare),
     mnemonic!(b"addi\0\0", Addi, Immediate, Bare),
     mnemonic!(b"addis\0", Addis, Shifted, Bare),
-    mnemonic!(b"bc\0\0\0\0", Bc, BranchConditional, LinkAbsolute(3)),
+    mnemonic!(b"bc\0\0\0\0", Bc, BranchConditional, LinkAbsolute),
     mnemonic!(b"sc\0\0\0\0", Sc, Nothing, Bare),
-    mnemonic!(b"b\0\0\0\0\0", B, Branch, LinkAbsolute(1)),
-    mnemonic!(b"rlwimi", Rlwimi, Rotate, Record(5)),
-    mnemonic!(b"rlwinm", Rlwinm, Rotate, Record(5)),
-    mnemonic!(b"rlwnm\0", Rlwnm, RotateBy, Record(5)),
+    mnemonic!(b"b\0\0\0\0\0", B, Branch, LinkAbsolute),
+    mnemonic!(b"rlwimi", Rlwimi, Rotate, Record),
+    mnemonic!(b"rlwinm", Rlwinm, Rotate, Record),
+    mnemonic!(b"rlwnm\0", Rlwnm, RotateBy, Record),
     mnemonic!(b"ori\0\0\0", Ori, LogicalImmediate, Bare),
     mnemonic!(b"oris\0\0", Oris, LogicalImmediate, Bare),
     mnemonic!(b"xori\0\0", Xori, LogicalImmediate, Bare),
@@ -116,24 +126,24 @@ pub(crate) static TABLE: [Mnemonic; MNEMONICS] = [
     mnemonic!(b"andi.\0", Andi, LogicalImmediate, Bare),
     mnemonic!(b"andis.", Andis, LogicalImmediate, Bare),
     mnemonic!(b"lwz\0\0\0", Lwz, Memory, Bare),
-    mnemonic!(b"lwzu\0\0", Lwzu, Memory, if LoadUpdate),
+    mnemonic!(b"lwzu\0\0", Lwzu, Memory, Bare),
     mnemonic!(b"lbz\0\0\0", Lbz, Memory, Bare),
-    mnemonic!(b"lbzu\0\0", Lbzu, Memory, if LoadUpdate),
+    mnemonic!(b"lbzu\0\0", Lbzu, Memory, Bare),
     mnemonic!(b"stw\0\0\0", Stw, Memory, Bare),
-    mnemonic!(b"stwu\0\0", Stwu, Memory, if StoreUpdate),
+    mnemonic!(b"stwu\0\0", Stwu, Memory, Bare),
     mnemonic!(b"stb\0\0\0", Stb, Memory, Bare),
-    mnemonic!(b"stbu\0\0", Stbu, Memory, if StoreUpdate),
+    mnemonic!(b"stbu\0\0", Stbu, Memory, Bare),
     mnemonic!(b"lhz\0\0\0", Lhz, Memory, Bare),
-    mnemonic!(b"lhzu\0\0", Lhzu, Memory, if LoadUpdate),
+    mnemonic!(b"lhzu\0\0", Lhzu, Memory, Bare),
     mnemonic!(b"lha\0\0\0", Lha, Memory, Bare),
-    mnemonic!(b"lhau\0\0", Lhau, Memory, if LoadUpdate),
+    mnemonic!(b"lhau\0\0", Lhau, Memory, Bare),
     mnemonic!(b"sth\0\0\0", Sth, Memory, Bare),
-    mnemonic!(b"sthu\0\0", Sthu, Memory, if StoreUpdate),
-    mnemonic!(b"lmw\0\0\0", Lmw, Memory, if LoadMultiple),
+    mnemonic!(b"sthu\0\0", Sthu, Memory, Bare),
+    mnemonic!(b"lmw\0\0\0", Lmw, Memory, Bare),
     mnemonic!(b"stmw\0\0", Stmw, Memory, Bare),
     mnemonic!(b"mcrf\0\0", Mcrf, Fields, Bare),
-    mnemonic!(b"bclr\0\0", Bclr, BranchRegister, Link(2)),
-    mnemonic!(b"bcctr\0", Bcctr, BranchRegister, Link(2) if NoCount),
+    mnemonic!(b"bclr\0\0", Bclr, BranchRegister, Link),
+    mnemonic!(b"bcctr\0", Bcctr, BranchRegister, Link),
     mnemonic!(b"crnor\0", Crnor, Bits, Bare),
     mnemonic!(b"crandc", Crandc, Bits, Bare),
     mnemonic!(b"crxor\0", Crxor, Bits, Bare),
@@ -146,56 +156,56 @@ pub(crate) static TABLE: [Mnemonic; MNEMONICS] = [
     mnemonic!(b"cmpw\0\0", Cmp, Compare, Bare),
     mnemonic!(b"cmplw\0", Cmpl, Compare, Bare),
     mnemonic!(b"tw\0\0\0\0", Tw, Trap, Bare),
-    mnemonic!(b"subfc\0", Subfc, Three, Overflow(3)),
-    mnemonic!(b"subf\0\0", Subf, Three, Overflow(3)),
-    mnemonic!(b"addc\0\0", Addc, Three, Overflow(3)),
-    mnemonic!(b"add\0\0\0", Add, Three, Overflow(3)),
-    mnemonic!(b"subfe\0", Subfe, Three, Overflow(3)),
-    mnemonic!(b"adde\0\0", Adde, Three, Overflow(3)),
-    mnemonic!(b"subfze", Subfze, Two, Overflow(2)),
-    mnemonic!(b"addze\0", Addze, Two, Overflow(2)),
-    mnemonic!(b"subfme", Subfme, Two, Overflow(2)),
-    mnemonic!(b"addme\0", Addme, Two, Overflow(2)),
-    mnemonic!(b"neg\0\0\0", Neg, Two, Overflow(2)),
-    mnemonic!(b"mulhwu", Mulhwu, Three, Record(3)),
-    mnemonic!(b"mulhw\0", Mulhw, Three, Record(3)),
-    mnemonic!(b"mullw\0", Mullw, Three, Overflow(3)),
-    mnemonic!(b"divwu\0", Divwu, Three, Overflow(3)),
-    mnemonic!(b"divw\0\0", Divw, Three, Overflow(3)),
-    mnemonic!(b"and\0\0\0", And, LogicalThree, Record(3)),
-    mnemonic!(b"andc\0\0", Andc, LogicalThree, Record(3)),
-    mnemonic!(b"or\0\0\0\0", Or, LogicalThree, Record(3)),
-    mnemonic!(b"orc\0\0\0", Orc, LogicalThree, Record(3)),
-    mnemonic!(b"xor\0\0\0", Xor, LogicalThree, Record(3)),
-    mnemonic!(b"eqv\0\0\0", Eqv, LogicalThree, Record(3)),
-    mnemonic!(b"nor\0\0\0", Nor, LogicalThree, Record(3)),
-    mnemonic!(b"nand\0\0", Nand, LogicalThree, Record(3)),
-    mnemonic!(b"slw\0\0\0", Slw, LogicalThree, Record(3)),
-    mnemonic!(b"srw\0\0\0", Srw, LogicalThree, Record(3)),
-    mnemonic!(b"sraw\0\0", Sraw, LogicalThree, Record(3)),
-    mnemonic!(b"srawi\0", Srawi, Shift, Record(3)),
-    mnemonic!(b"cntlzw", Cntlzw, LogicalTwo, Record(2)),
-    mnemonic!(b"extsb\0", Extsb, LogicalTwo, Record(2)),
-    mnemonic!(b"extsh\0", Extsh, LogicalTwo, Record(2)),
+    mnemonic!(b"subfc\0", Subfc, Three, Overflow),
+    mnemonic!(b"subf\0\0", Subf, Three, Overflow),
+    mnemonic!(b"addc\0\0", Addc, Three, Overflow),
+    mnemonic!(b"add\0\0\0", Add, Three, Overflow),
+    mnemonic!(b"subfe\0", Subfe, Three, Overflow),
+    mnemonic!(b"adde\0\0", Adde, Three, Overflow),
+    mnemonic!(b"subfze", Subfze, Two, Overflow),
+    mnemonic!(b"addze\0", Addze, Two, Overflow),
+    mnemonic!(b"subfme", Subfme, Two, Overflow),
+    mnemonic!(b"addme\0", Addme, Two, Overflow),
+    mnemonic!(b"neg\0\0\0", Neg, Two, Overflow),
+    mnemonic!(b"mulhwu", Mulhwu, Three, Record),
+    mnemonic!(b"mulhw\0", Mulhw, Three, Record),
+    mnemonic!(b"mullw\0", Mullw, Three, Overflow),
+    mnemonic!(b"divwu\0", Divwu, Three, Overflow),
+    mnemonic!(b"divw\0\0", Divw, Three, Overflow),
+    mnemonic!(b"and\0\0\0", And, LogicalThree, Record),
+    mnemonic!(b"andc\0\0", Andc, LogicalThree, Record),
+    mnemonic!(b"or\0\0\0\0", Or, LogicalThree, Record),
+    mnemonic!(b"orc\0\0\0", Orc, LogicalThree, Record),
+    mnemonic!(b"xor\0\0\0", Xor, LogicalThree, Record),
+    mnemonic!(b"eqv\0\0\0", Eqv, LogicalThree, Record),
+    mnemonic!(b"nor\0\0\0", Nor, LogicalThree, Record),
+    mnemonic!(b"nand\0\0", Nand, LogicalThree, Record),
+    mnemonic!(b"slw\0\0\0", Slw, LogicalThree, Record),
+    mnemonic!(b"srw\0\0\0", Srw, LogicalThree, Record),
+    mnemonic!(b"sraw\0\0", Sraw, LogicalThree, Record),
+    mnemonic!(b"srawi\0", Srawi, Shift, Record),
+    mnemonic!(b"cntlzw", Cntlzw, LogicalTwo, Record),
+    mnemonic!(b"extsb\0", Extsb, LogicalTwo, Record),
+    mnemonic!(b"extsh\0", Extsh, LogicalTwo, Record),
     mnemonic!(b"mfcr\0\0", Mfcr, One, Bare),
     mnemonic!(b"mtcrf\0", Mtcrf, Mask, Bare),
     mnemonic!(b"mcrxr\0", Mcrxr, Field, Bare),
-    mnemonic!(b"mfspr\0", Mfspr, FromSpecial, if SpecialRegister),
-    mnemonic!(b"mtspr\0", Mtspr, ToSpecial, if SpecialRegister),
+    mnemonic!(b"mfspr\0", Mfspr, FromSpecial, Bare),
+    mnemonic!(b"mtspr\0", Mtspr, ToSpecial, Bare),
     mnemonic!(b"lwzx\0\0", Lwzx, Three, Bare),
     mnemonic!(b"lbzx\0\0", Lbzx, Three, Bare),
     mnemonic!(b"lhzx\0\0", Lhzx, Three, Bare),
     mnemonic!(b"lhax\0\0", Lhax, Three, Bare),
-    mnemonic!(b"lwzux\0", Lwzux, Three, if LoadUpdate),
-    mnemonic!(b"lbzux\0", Lbzux, Three, if LoadUpdate),
-    mnemonic!(b"lhzux\0", Lhzux, Three, if LoadUpdate),
-    mnemonic!(b"lhaux\0", Lhaux, Three, if LoadUpdate),
+    mnemonic!(b"lwzux\0", Lwzux, Three, Bare),
+    mnemonic!(b"lbzux\0", Lbzux, Three, Bare),
+    mnemonic!(b"lhzux\0", Lhzux, Three, Bare),
+    mnemonic!(b"lhaux\0", Lhaux, Three, Bare),
     mnemonic!(b"stwx\0\0", Stwx, Three, Bare),
     mnemonic!(b"stbx\0\0", Stbx, Three, Bare),
     mnemonic!(b"sthx\0\0", Sthx, Three, Bare),
-    mnemonic!(b"stwux\0", Stwux, Three, if StoreUpdate),
-    mnemonic!(b"stbux\0", Stbux, Three, if StoreUpdate),
-    mnemonic!(b"sthux\0", Sthux, Three, if StoreUpdate),
+    mnemonic!(b"stwux\0", Stwux, Three, Bare),
+    mnemonic!(b"stbux\0", Stbux, Three, Bare),
+    mnemonic!(b"sthux\0", Sthux, Three, Bare),
     mnemonic!(b"lwbrx\0", Lwbrx, Three, Bare),
     mnemonic!(b"lhbrx\0", Lhbrx, Three, Bare),
     mnemonic!(b"stwbrx", Stwbrx, Three, Bare),
@@ -230,25 +240,12 @@ pub(crate) fn name_of(mnemonic: &Mnemonic) -> &[u8]
     &mnemonic.name[..name_len(&mnemonic.name)]
 }
 
-const NO_FLAGS: Flags = Flags {
-    first: 0,
-    second: 0,
-};
-
-const FIRST: Flags = Flags {
-    first: 1,
-    second: 0,
-};
-
-const SECOND: Flags = Flags {
-    first: 0,
-    second: 1,
-};
-
-const BOTH: Flags = Flags {
-    first: 1,
-    second: 1,
-};
+// The values of the field at an ending's place and of the field after it.
+fn flags_of(first: u32, second: u32) -> Flags
+    ensures { result ≡ record { first = first; second = second } }
+{
+    Flags { first, second }
+}
 
 // The fields that the bytes after a name set. None if the bytes aren't one of the name's endings.
 #[tactic(auto, unfolding(crate::specs::Mnemonics::ending_of))]
@@ -256,15 +253,15 @@ fn ending_of(endings: Endings, bytes: &[u8]) -> Option<Flags>
     ensures { result ≡ ending_of_lem endings bytes.now }
 {
     match (endings, bytes) {
-        (_, []) => Some(NO_FLAGS),
-        (Endings::Record(_), [b'.']) => Some(FIRST),
-        (Endings::Overflow(_), [b'o']) => Some(FIRST),
-        (Endings::Overflow(_), [b'.']) => Some(SECOND),
-        (Endings::Overflow(_), [b'o', b'.']) => Some(BOTH),
-        (Endings::Link(_), [b'l']) => Some(FIRST),
-        (Endings::LinkAbsolute(_), [b'a']) => Some(FIRST),
-        (Endings::LinkAbsolute(_), [b'l']) => Some(SECOND),
-        (Endings::LinkAbsolute(_), [b'l', b'a']) => Some(BOTH),
+        (_, []) => Some(flags_of(0, 0)),
+        (Endings::Record(_), [b'.']) => Some(flags_of(1, 0)),
+        (Endings::Overflow(_), [b'o']) => Some(flags_of(1, 0)),
+        (Endings::Overflow(_), [b'.']) => Some(flags_of(0, 1)),
+        (Endings::Overflow(_), [b'o', b'.']) => Some(flags_of(1, 1)),
+        (Endings::Link(_), [b'l']) => Some(flags_of(1, 0)),
+        (Endings::LinkAbsolute(_), [b'a']) => Some(flags_of(1, 0)),
+        (Endings::LinkAbsolute(_), [b'l']) => Some(flags_of(0, 1)),
+        (Endings::LinkAbsolute(_), [b'l', b'a']) => Some(flags_of(1, 1)),
         _ => None,
     }
 }

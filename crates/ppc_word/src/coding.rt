@@ -3,7 +3,7 @@
 ghost use Rattle.std.specs.Prelude.{◌≡◌, ◌<◌, ℕ, true, Some, IfSome, option_map};
 ghost use Rattle.ppc_word.specs.Rows.{row_of, fields_of};
 ghost use Rattle.ppc_word.specs.Words.{meets};
-ghost use Rattle.ppc_word.specs.Table.{form_at};
+ghost use Rattle.ppc_word.specs.Table.{form_at, form_of};
 ghost use Rattle.ppc_word.specs.Insn.{word_of};
 ghost use Rattle.ppc_word.specs.Opcodes.{is_decided_by};
 ghost use Rattle.ppc_word.specs.declared.insn.Insn.{Insn};
@@ -11,7 +11,15 @@ ghost use Rattle.ppc_word.specs.declared.insn.Insn.{Insn};
 use crate::index::{place_by_opcode, place_for, place_for_31};
 use crate::insn::Insn;
 use crate::row::{ROWS, Row};
+use crate::rule::Rule;
 use crate::{table, word};
+
+/// What the words of an instruction must meet besides the pieces of its form.
+pub fn rule_of(row: Row) -> Rule
+    ensures { result ≡ (form_of row).rule }
+{
+    table::pattern(table::place_of(row)).rule
+}
 
 /// The word of an instruction. `decode` gives the instruction back.
 pub fn encode(insn: &Insn) -> u32

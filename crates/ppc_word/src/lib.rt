@@ -15,7 +15,7 @@ mod rule;
 mod table;
 mod word;
 
-pub use coding::{decode, encode, row_for};
+pub use coding::{decode, encode, row_for, rule_of};
 pub use insn::Insn;
 pub use row::Row;
 pub use rule::Rule;

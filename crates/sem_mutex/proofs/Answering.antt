@@ -23,7 +23,7 @@ use Rattle.inheritance.specs.declared.mutex.Mutex.{Mutex}
 use Rattle.wind_core.specs.declared.took.Took.{Took}
 use Rattle.wind_core.specs.declared.took.Took.TheVariants.{Taken, Pended}
 use Rattle.inheritance.specs.Mutexes.{MutexState, LiveMutexes, both, is_id, holds, held_count, AreMutexes, mutex_place, owner_in}
-use Rattle.sem_mutex.specs.Calls.{raised_at_once, held_of, holding, guarded, eased, restored, less_held, dropped, letting_go, pass_on, passed_on, give_up, shallow, hand, deepen, await, handed, deepened, awaited, taken, take_alone, take, is_others, take_refusal, took, give_alone, give, give_refusal, given_up, given_once, owner_ended, its_owner_ended, delete_refusal, delete, live_mutex, pri_after, followed, priority_alone}
+use Rattle.sem_mutex.specs.Calls.{raised_at_once, held_of, holding, guarded, eased, restored, less_held, dropped, letting_go, pass_on, passed_on, give_up, shallow, hand, deepen, await, handed, deepened, awaited, taken, take_alone, take, is_others, take_refusal, took, give_alone, give, give_refusal, given_once, owner_ended, its_owner_ended, delete_refusal, delete, live_mutex, pri_after, followed, priority_alone}
 use Rattle.inheritance.specs.Laws.{OwnersUrgentBut}
 use Rattle.sem_mutex.specs.Kept.{TaskKept, KeepsMutexes, FewSafe, IsEarly}
 use Rattle.inheritance.proofs.Lookups.{live_is}
@@ -317,26 +317,22 @@ after_letting_go p k who m lives =
 pub let_go_after : (p : Profile) (k j : KernState) (who : ℕ) (m : Mutex) → j ≡ letting_go p k who m → Lives k who → AfterLettingGo k j who
 let_go_after p k j who m e lives = subst (λ r. AfterLettingGo k r who) (sym e) (after_letting_go p k who m lives)
 
--- the profile by which the giver gives up its ownership is that of the state before
+-- the owner's last give; the profile by which it gives up its ownership is that of the state before
 pub given_is : (s t : MutexState) (who id : ℕ) (m v w : Mutex) (j n : KernState) → object_of s.mutexes id ≡ Some m → t ≡ passed_on s id (object_of s.mutexes id) → t.profile ≡ s.profile → v.inversion_safe ≡ m.inversion_safe → w.delete_safe ≡ m.delete_safe
-    → j ≡ letting_go t.profile t.kern who v → n ≡ eased j who w 1 → record t { kern = n } ≡ given_up s who id (object_of s.mutexes id)
-given_is s t who id m v w j n e state rule lends guards goes eases =
+    → j ≡ letting_go t.profile t.kern who v → n ≡ eased j who w 1 → m.depth ≤ 1 → record t { kern = n } ≡ give_alone s who id (object_of s.mutexes id)
+given_is s t who id m v w j n e state rule lends guards goes eases last =
     let o : Option Task = first_waiter s.kern.tasks (mutex_place id) in
     let now : t ≡ pass_on s id m o = state ∙ ap (passed_on s id) e in
     ap (λ r. record t { kern = r }) (eases ∙ ap (λ b. cond b (lessen j who 1) j) guards
     ∙ ap (λ r. eased r who m 1) (goes ∙ ap (λ p. letting_go p t.kern who v) rule ∙ ap (λ b. cond b (dropped s.profile t.kern who) t.kern) lends))
     ∙ ap (λ (r : MutexState). record r { kern = eased (letting_go s.profile r.kern who m) who m 1 }) now
-    ∙ sym (ap (given_up s who id) e)
+    ∙ sym (ap (give_alone s who id) e ∙ ap (λ b. cond b (shallow s who id m) (give_up s who id m)) (le-ltb 1 m.depth last))
 
 -- ---- give
--- after a give of one of several takes, or of the last one
+-- after a give of one of several takes
 pub gives_once : (s : MutexState) (who id n : ℕ) (o : Option Mutex) → IsSome o → ((m : Mutex) → o ≡ Some m → n ≡ m.depth) → 1 < n → given_once s who id o ≡ give_alone s who id o
 gives_once s who id n None there deep more = absurd (cc)
 gives_once s who id n (Some m) there deep more = sym (ap (λ b. cond b (shallow s who id m) (give_up s who id m)) (lt-ltb 1 m.depth (omega (arith, deep m refl))))
-
-pub gives_up : (s : MutexState) (who id n : ℕ) (o : Option Mutex) → IsSome o → ((m : Mutex) → o ≡ Some m → n ≡ m.depth) → n ≤ 1 → given_up s who id o ≡ give_alone s who id o
-gives_up s who id n None there deep last = absurd (cc)
-gives_up s who id n (Some m) there deep last = sym (ap (λ b. cond b (shallow s who id m) (give_up s who id m)) (le-ltb 1 m.depth (omega (arith, deep m refl))))
 
 module _ (s : MutexState) (who id : ℕ) (is : IsKern s.kern) (are : AreMutexes s.mutexes) (lives : Lives s.kern who) (kept : KeepsMutexes s) where
   -- what the contract says about a give that was made

@@ -137,6 +137,19 @@ renormed k who p =
     (λ t at other h. (t, at, record { id = refl; pri = refl; held = refl; wait = refl; fifo = refl; own = λ same. absurd (other same); other = λ _. refl }))
     (λ i d hi. refl)
 
+-- under profile 2 its priority stays
+renormed_only : (who p q : ℕ) (t u : Task) → Renormed who p t u → Repriced Two who p q t u
+renormed_only who p q t u d = record {
+  id = d.id;
+  held = d.held;
+  wait = d.wait;
+  fifo = d.fifo;
+  pri = ⊎_elim
+      (λ (same : u.id ≡ who). inl (same, d.own same, λ first. absurd (not_one first)))
+      (λ (other : u.id ≡ who → ⊥). inr (other, d.other other, d.pri))
+      (cases_eq u.id who);
+}
+
 -- what the call does to each task, before owners inherit
 repriced : (profile : Profile) (k : KernState) (who p q : ℕ) → IsKern k → All (From (Repriced profile who p q) k.tasks) (followed profile (set_normal k who p) who q).tasks
 repriced One k who p q is =
@@ -146,21 +159,7 @@ repriced One k who p q is =
     (λ since t f. (f.0, f.1, record { id = f.2.id; held = f.2.held; wait = f.2.wait; fifo = f.2.fifo; pri = f.2.pri }))
     (renormed k who p)
 repriced Two k who p q is =
-    All-weaker (From (Renormed who p) k.tasks) (From (Repriced Two who p q) k.tasks)
-    (λ u f. (
-      f.0,
-      f.1,
-      record {
-        id = f.2.id;
-        held = f.2.held;
-        wait = f.2.wait;
-        fifo = f.2.fifo;
-        pri = ⊎_elim
-            (λ (same : u.id ≡ who). inl (same, f.2.own same, λ first. absurd (not_one first)))
-            (λ (other : u.id ≡ who → ⊥). inr (other, f.2.other other, f.2.pri))
-            (cases_eq u.id who);
-      },
-    )) (set_normal k who p).tasks (renormed k who p)
+    All-weaker (From (Renormed who p) k.tasks) (From (Repriced Two who p q) k.tasks) (λ u f. (f.0, f.1, renormed_only who p q f.0 u f.2)) (set_normal k who p).tasks (renormed k who p)
 
 -- under profile 1, after a task's normal priority is set, only that waiter can be more urgent than its owner
 pub priority_urgent : (s : MutexState) (who p : ℕ) → s.profile ≡ One → IsKern s.kern → KeepsMutexes s → OwnersUrgentBut who s.mutexes (priority_alone s who p).kern.tasks

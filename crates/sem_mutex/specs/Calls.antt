@@ -161,12 +161,7 @@ abbrev pub passed_on : MutexState → ℕ → Option Mutex → MutexState
 passed_on s id None = s
 passed_on s id (Some m) = pass_on s id m (first_waiter s.kern.tasks (mutex_place id))
 
--- the same for the last give, if the mutex is live
-abbrev pub given_up : MutexState → ℕ → ℕ → Option Mutex → MutexState
-given_up s who id None = s
-given_up s who id (Some m) = give_up s who id m
-
--- the same for another give, if the mutex is live
+-- another give by the owner, if the mutex is live
 abbrev pub given_once : MutexState → ℕ → ℕ → Option Mutex → MutexState
 given_once s who id None = s
 given_once s who id (Some m) = shallow s who id m

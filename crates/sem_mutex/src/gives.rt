@@ -6,7 +6,7 @@ ghost use Rattle.wind_core.specs.State.{Lives};
 ghost use Rattle.inheritance.specs.declared.mutex.Mutex.{Mutex as Mutex_lem};
 ghost use Rattle.inheritance.specs.Mutexes.{both};
 ghost use Rattle.sem_mutex.specs.Kept.{KeepsMutexes, FewSinces, FewSafe};
-ghost use Rattle.sem_mutex.specs.Calls.{passed_on, given_up, given_once, give, give_alone, give_refusal};
+ghost use Rattle.sem_mutex.specs.Calls.{passed_on, given_once, give, give_alone, give_refusal};
 
 use crate::mutexes::Mutexes;
 use crate::owners::{ease, free, let_go, take_depth};
@@ -43,21 +43,6 @@ impl Mutexes {
         k.end_wait(next, OK, None);
     }
 
-    // The owner's last give.
-    fn give_up(&mut self, k: &mut Kern, who: Ident, id: Ident)
-        requires live { Lives k.old who }
-        requires there { IsSome (object_of self.old.rows id) }
-        requires kept { KeepsMutexes (both k.old self.old) }
-        requires since { FewSinces k.old }
-        requires safe { FewSafe k.old }
-        ensures { both k.new self.new ≡ given_up (both k.old self.old) who id (object_of self.old.rows id) }
-    {
-        k.facts();
-        self.pass_on(k, id);
-        let_go(k, who, self.mutex(id), self.profile);
-        ease(k, who, self.mutex(id), 1);
-    }
-
     // A give after which the owner still owns it.
     fn give_once(&mut self, k: &mut Kern, who: Ident, id: Ident)
         requires live { Lives k.old who }
@@ -69,7 +54,7 @@ impl Mutexes {
         take_depth(self.table.object_mut(id));
     }
 
-    // A give by the owner.
+    // A give by the owner: the last one passes the mutex on.
     fn give_owned(&mut self, k: &mut Kern, who: Ident, id: Ident)
         requires live { Lives k.old who }
         requires there { IsSome (object_of self.old.rows id) }
@@ -80,9 +65,12 @@ impl Mutexes {
     {
         if self.depth(id) > 1 {
             self.give_once(k, who, id);
-        } else {
-            self.give_up(k, who, id);
+            return;
         }
+        k.facts();
+        self.pass_on(k, id);
+        let_go(k, who, self.mutex(id), self.profile);
+        ease(k, who, self.mutex(id), 1);
     }
 
     /// Gives the mutex once, on behalf of its owner (semGive). After the last give the first

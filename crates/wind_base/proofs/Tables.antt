@@ -1,12 +1,11 @@
 -- No name and no number occurs twice in the tables of gates and errors.
-use Rattle.std.proofs.Common.{◌≡◌, ℕ, ◌-◌, ◌<◌, ◌≤◌, List, [], ◌∷◌, length, Option, Some, None, Bool, true, false, ◌&&◌, refl, sym, ap, ◌∙◌, subst}
-use Rattle.std.proofs.lemmas.Bool.{false≢true}
+use Rattle.std.proofs.Common.{◌≡◌, ℕ, List, [], ◌∷◌, Option, Some, None, Bool, true, false, refl, sym, ap, ◌∙◌, subst}
 use Rattle.std.specs.Prelude.{bytes_eq, ◌==◌, ⊤, option_and_then}
 use Rattle.std.specs.List.{find, list_all}
 use Rattle.wind_base.specs.Gates.{gates, gate_of, gate_name, gate_number, rules_of}
 use Rattle.wind_base.specs.declared.gate.Gate.{Gate}
 use Rattle.wind_base.proofs.Gating.{only_place, all_gates}
-use Rattle.wind_base.proofs.Variants.{are_variants, true_of_each, is_found, found_is, each_found}
+use Rattle.wind_base.proofs.Variants.{true_of_each, is_found, found_is, each_found}
 use Rattle.wind_base.specs.Errno.{errno_number}
 use Rattle.wind_base.specs.Laws.{NamesLaw, NumbersLaw}
 use Rattle.wind_base.specs.declared.errno.Errno.{Errno}
@@ -72,16 +71,9 @@ all_errors = errors.ObjIdError ∷ errors.ObjUnavailable ∷ errors.ObjDeleted �
 error_of : ℕ → Option Errno
 error_of n = find (λ e. errno_number e == n) all_errors
 
-each_error : are_variants error_type tt all_errors ≡ true
-unfolding all_errors
-each_error = refl
-
-all_errors_found : list_all (λ e. is_found error_type tt e (error_of (errno_number e))) all_errors ≡ true
-unfolding all_errors error_of
-all_errors_found = refl
-
 error_found : (e : Errno) → error_of (errno_number e) ≡ Some e
-error_found = each_found error_type tt (λ e. error_of (errno_number e)) all_errors each_error all_errors_found
+unfolding all_errors error_of
+error_found = each_found error_type tt (λ e. error_of (errno_number e)) all_errors refl refl
 
 pub numbers_apart : NumbersLaw
 numbers_apart e f same = entry e f (sym (error_found e) ∙ ap error_of same ∙ error_found f)

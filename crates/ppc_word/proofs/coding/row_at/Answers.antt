@@ -1,5 +1,4 @@
-use Rattle.std.proofs.Common.{◌≡◌, ◌<◌, ◌^◌, ◌&&◌, true, false, Some, sym, ap, ◌∙◌, arith, nat_eq, bit_and}
-use Rattle.ppc_word.specs.Rules.{allowed}
+use Rattle.std.proofs.Common.{◌≡◌, true, false, Some, sym, ap, ◌∙◌, arith}
 use Rattle.ppc_word.specs.Table.{form_at}
 use Rattle.ppc_word.specs.Rows.{is_word_of}
 use Rattle.ppc_word.proofs.Found.{row_of-at, row_of-none, fits-word, word-meets}

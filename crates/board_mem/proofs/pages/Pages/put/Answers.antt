@@ -1,10 +1,9 @@
-use Rattle.std.proofs.Common.{ℕ, List, length, refl, ap, ap₂, ◌∙◌, arith}
+use Rattle.std.proofs.Common.{length, refl, ap, ◌∙◌, arith}
 use Rattle.std.specs.Prelude.{vec_capacity}
 use Rattle.std.specs.Vec.{with_items}
 use Rattle.std.proofs.lemmas.List.{with_items_is}
-use Rattle.board_mem.specs.Memory.{with_bytes}
 use Rattle.board_mem.specs.Pages.{PagesState}
-use Rattle.board_mem.proofs.Puts.{IsPut, IsStore-after, put_pages}
+use Rattle.board_mem.proofs.Puts.{IsPut, IsStore-after, put_made, put_pages}
 use Rattle.board_mem.proofs.Stores.{length-bytes_of}
 use Rattle.board_mem.proofs.Windows.{IsWindow, window_in}
 use Rattle.board_mem.proofs.pages.Pages.put.Goals as goal
@@ -20,14 +19,7 @@ window c = window_in c.args.self.now c.self.invariant c.self.view_is c.requires.
 
 -- the written bytes and their place
 put_is : (c : goal.After-self-2-1) → IsPut c.self.inside.size c.self.inside.index.items c.self.inside.store.items c.place_made-start.new.index c.place_made-start.new.store.items (with_items c.self.inside.index c.place_made-start.new.index).items (with_items c.place_made-start.new.store c.put_in.new.store).items (vec_capacity c.self.inside.store) (vec_capacity c.place_made-start.new.store) c.args.at c.args.src.now
-put_is c = record {
-  window = window c;
-  page = rw c.deref_mut.ensures.value at c.place_made-start.ensures.made;
-  size_same = omega arith;
-  index_same = with_items_is c.self.inside.index c.place_made-start.new.index (omega arith);
-  put = with_items_is c.place_made-start.new.store c.put_in.new.store (omega arith) ∙ c.put_in.ensures
-      ∙ ap₂ (λ (store : List ℕ) (start : ℕ). with_bytes store start c.args.src.now) c.deref_mut-2.ensures.value c.place_made-start.ensures.place;
-}
+put_is c = put_made (window c) (rw c.deref_mut.ensures.value at c.place_made-start.ensures.made) (omega arith) (with_items_is c.self.inside.index c.place_made-start.new.index (omega arith)) (with_items_is c.place_made-start.new.store c.put_in.new.store (omega arith) ∙ c.put_in.ensures) c.deref_mut-2.ensures.value c.place_made-start.ensures.place
 
 pub invariant_of-self : goal.invariant_of-self
 invariant_of-self c = IsStore-after (put_is c) _ refl

@@ -55,7 +55,7 @@ returns-in-Taken-clause-kept c =
 pub returns-in-Starved-clause-scene : goal.returns-in-Starved-clause-scene
 returns-in-Starved-clause-scene c =
     let s = scene c.args.kern.now c.args.self.now c.args.ram.now.bytes in
-    got_starved s c.args.id c.args.words c.in-Starved.ask c.in-Starved.fifo (c.in-Starved.ensures c.args.kern.now) c.wait_for.new.kern c.wait_for.new.self c.wait_for.ensures.asks c.wait_for.ensures.kern
+    got_starved s c.args.id c.args.words c.in-Starved.ask c.in-Starved.fifo (c.in-Starved.ensures c.args.kern.now) c.wait_for.new.kern c.wait_for.new.self (c.wait_for.ensures.asks, c.wait_for.ensures.kern)
 
 pub returns-in-Starved-clause-answer : goal.returns-in-Starved-clause-answer
 returns-in-Starved-clause-answer c =
@@ -65,4 +65,4 @@ returns-in-Starved-clause-answer c =
 pub returns-in-Starved-clause-kept : goal.returns-in-Starved-clause-kept
 returns-in-Starved-clause-kept c =
     let s = scene c.args.kern.now c.args.self.now c.args.ram.now.bytes in
-    subst IsKept (sym (got_starved s c.args.id c.args.words c.in-Starved.ask c.in-Starved.fifo (c.in-Starved.ensures c.args.kern.now) c.wait_for.new.kern c.wait_for.new.self c.wait_for.ensures.asks c.wait_for.ensures.kern)) (receive_keeps s c.args.id c.args.words c.requires.kept c.requires.caller)
+    subst IsKept (sym (got_starved s c.args.id c.args.words c.in-Starved.ask c.in-Starved.fifo (c.in-Starved.ensures c.args.kern.now) c.wait_for.new.kern c.wait_for.new.self (c.wait_for.ensures.asks, c.wait_for.ensures.kern))) (receive_keeps s c.args.id c.args.words c.requires.kept c.requires.caller)

@@ -73,7 +73,7 @@ returns-in-Queued c =
 pub returns-in-Blocked : goal.returns-in-Blocked
 returns-in-Blocked c =
     let s = scene c.args.kern.now c.args.self.now c.args.ram.now.bytes in
-    let sent = sent_blocked s c.args.id c.args.words c.in-Blocked.ask c.in-Blocked.fifo c.in-Blocked.ensures c.wait_for.new.kern c.wait_for.new.self c.wait_for.ensures.asks c.wait_for.ensures.kern in
+    let sent = sent_blocked s c.args.id c.args.words c.in-Blocked.ask c.in-Blocked.fifo c.in-Blocked.ensures c.wait_for.new.kern c.wait_for.new.self (c.wait_for.ensures.asks, c.wait_for.ensures.kern) in
     record {
       scene = sent;
       answer = answer_blocked s c.args.id c.args.words c.in-Blocked.ask c.in-Blocked.fifo c.in-Blocked.ensures;
