@@ -1,5 +1,5 @@
 -- Moving a range piece by piece moves it as a whole, even if it overlaps its destination.
-use Rattle.std.proofs.Common.{◌≡◌, ℕ, ◌+◌, ◌≤◌, List, length, drop, sym, ap, ap₂, ◌∙◌, arith}
+use Rattle.std.proofs.Common.{◌≡◌, ℕ, ◌+◌, ◌-◌, ◌≤◌, List, length, drop, sym, ap, ap₂, ◌∙◌, arith}
 use Rattle.std.proofs.lemmas.List.{length-drop, length-take-le}
 use Rattle.board_mem.specs.Memory.{bytes_at}
 use Rattle.board_mem.specs.Pages.{PagesState, written_at}
@@ -38,3 +38,19 @@ moved_up s from to n m up there =
     let kept : bytes_at (moved s (from + n) (to + n) m).bytes from n ≡ first = bytes_at-with_below s.bytes (to + n) second from n (omega arith) (omega arith) in
     ap (written_at (moved s (from + n) (to + n) m) to) kept ∙ ap (λ k. written_at (written_at s (to + k) second) to first) (sym size)
     ∙ written_at-prepend s to first second (omega (arith, size)) ∙ ap (written_at s to) (bytes_at-append s.bytes from n m)
+
+-- a piece is moved to a lower address: the number of bytes stays, and moving the rest moves the whole
+pub piece-down : (s after : PagesState) (from to n left : ℕ) → after ≡ moved s from to n → n ≤ left → to ≤ from → from + left ≤ length s.bytes → (length after.bytes ≡ length s.bytes) × (moved after (from + n) (to + n) (left - n) ≡ moved s from to left)
+piece-down s after from to n left is most down there =
+    let whole : n + (left - n) ≡ left = omega arith in (
+      ap (λ (p : PagesState). length p.bytes) is ∙ length-moved s from to n (omega arith) (omega arith),
+      ap (λ (p : PagesState). moved p (from + n) (to + n) (left - n)) is ∙ moved_down s from to n (left - n) down (omega arith) ∙ ap (moved s from to) whole,
+    )
+
+-- a piece is moved to a higher address: the number of bytes stays, and moving the rest moves the whole
+pub piece-up : (s after : PagesState) (from to n left : ℕ) → after ≡ moved s (from + (left - n)) (to + (left - n)) n → n ≤ left → from ≤ to → to + left ≤ length s.bytes → (length after.bytes ≡ length s.bytes) × (moved after from to (left - n) ≡ moved s from to left)
+piece-up s after from to n left is most up there =
+    let whole : left - n + n ≡ left = omega arith in (
+      ap (λ (p : PagesState). length p.bytes) is ∙ length-moved s (from + (left - n)) (to + (left - n)) n (omega arith) (omega arith),
+      ap (λ (p : PagesState). moved p from to (left - n)) is ∙ moved_up s from to (left - n) n up (omega arith) ∙ ap (moved s from to) whole,
+    )
