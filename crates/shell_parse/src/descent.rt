@@ -48,8 +48,11 @@ impl<T: Drop> From<AllocFailed<T>> for ReadErr {
     }
 }
 
-// What is read from the first tokens, and the tokens after it.
-pub(crate) type Reads<'a, X> = Result<(X, &'a [Token<'a>]), ReadErr>;
+/// The tokens that are still to be read.
+pub(crate) type Tokens<'a> = &'a [Token<'a>];
+
+/// What was read, and the tokens after it.
+pub(crate) type Reads<'a, X> = Result<(X, Tokens<'a>), ReadErr>;
 
 pub(crate) fn name_of(alloc: Global, word: &Word) -> Result<Name, ReadErr>
     ensures { Gives (λ name. name) result (Some word.now) }
@@ -161,7 +164,7 @@ pub(crate) enum Mark {
 }
 
 // The tokens after a mark, if the first token is that mark.
-fn after_mark<'a>(mark: Mark, tokens: &'a [Token<'a>]) -> Option<&'a [Token<'a>]>
+fn after_mark<'a>(mark: Mark, tokens: Tokens<'a>) -> Option<Tokens<'a>>
     ensures { option_map (λ rest. rest.now) result ≡ after_mark_lem mark tokens.now }
 {
     match (mark, tokens) {
@@ -175,7 +178,7 @@ fn after_mark<'a>(mark: Mark, tokens: &'a [Token<'a>]) -> Option<&'a [Token<'a>]
 
 // A name, an assignment, or both, and the tokens after them.
 
-fn named<'a>(tokens: &'a [Token<'a>]) -> Option<(&'a Word<'a>, &'a [Token<'a>])>
+fn named<'a>(tokens: Tokens<'a>) -> Option<(&'a Word<'a>, Tokens<'a>)>
     ensures { option_map (λ x. (x.0.now, x.1.now)) result ≡ named_lem tokens.now }
 {
     let [first, rest @ ..] = tokens else {
@@ -187,7 +190,7 @@ fn named<'a>(tokens: &'a [Token<'a>]) -> Option<(&'a Word<'a>, &'a [Token<'a>])>
     }
 }
 
-fn assigned<'a>(tokens: &'a [Token<'a>]) -> Option<(Option<BinOp>, &'a [Token<'a>])>
+fn assigned<'a>(tokens: Tokens<'a>) -> Option<(Option<BinOp>, Tokens<'a>)>
     ensures { option_map (λ x. (x.0, x.1.now)) result ≡ assigned_lem tokens.now }
 {
     let [first, rest @ ..] = tokens else {
@@ -199,9 +202,7 @@ fn assigned<'a>(tokens: &'a [Token<'a>]) -> Option<(Option<BinOp>, &'a [Token<'a
     }
 }
 
-fn name_assigned<'a>(
-    tokens: &'a [Token<'a>],
-) -> Option<(&'a Word<'a>, Option<BinOp>, &'a [Token<'a>])>
+fn name_assigned<'a>(tokens: Tokens<'a>) -> Option<(&'a Word<'a>, Option<BinOp>, Tokens<'a>)>
     ensures { option_map (λ x. (x.0.now, x.1, x.2.now)) result ≡ name_assigned_lem tokens.now }
 {
     let (word, rest) = named(tokens)?;
@@ -210,7 +211,7 @@ fn name_assigned<'a>(
 }
 
 // The first token, if it is an operator of this level.
-fn first_operator<'a>(at: u32, tokens: &'a [Token<'a>]) -> Option<(BinOp, &'a [Token<'a>])>
+fn first_operator<'a>(at: u32, tokens: Tokens<'a>) -> Option<(BinOp, Tokens<'a>)>
     ensures { option_map (λ x. (x.0, x.1.now)) result ≡ operator_at at tokens.now }
 {
     let [first, rest @ ..] = tokens else {
@@ -223,7 +224,7 @@ fn first_operator<'a>(at: u32, tokens: &'a [Token<'a>]) -> Option<(BinOp, &'a [T
 }
 
 // The address of the name that comes first.
-fn address<'a>(alloc: Global, tokens: &'a [Token<'a>]) -> Reads<'a, Tree>
+fn address<'a>(alloc: Global, tokens: Tokens<'a>) -> Reads<'a, Tree>
     ensures { Gives (λ x. (plain_tree x.0, x.1.now)) result (mapped trees.Address (named_lem tokens.now)) }
 {
     match named(tokens) {
@@ -233,7 +234,7 @@ fn address<'a>(alloc: Global, tokens: &'a [Token<'a>]) -> Reads<'a, Tree>
 }
 
 // The tokens after a closing parenthesis, which must come first.
-fn after_close<'a>(tokens: &'a [Token<'a>]) -> Result<&'a [Token<'a>], ReadErr>
+fn after_close<'a>(tokens: Tokens<'a>) -> Result<Tokens<'a>, ReadErr>
     ensures { Gives (λ rest. rest.now) result (closed tokens.now) }
 {
     match after_mark(Mark::Close, tokens) {
@@ -245,7 +246,7 @@ fn after_close<'a>(tokens: &'a [Token<'a>]) -> Result<&'a [Token<'a>], ReadErr>
 /// An expression.
 #[cycle(trees)]
 #[tactic(auto, unfolding(crate::specs::Descent::whole_at))]
-pub(crate) fn whole<'a>(alloc: Global, depth: u32, tokens: &'a [Token<'a>]) -> Reads<'a, Tree>
+pub(crate) fn whole<'a>(alloc: Global, depth: u32, tokens: Tokens<'a>) -> Reads<'a, Tree>
     ensures { Gives (λ x. (plain_tree x.0, x.1.now)) result (whole_at depth tokens.now) }
 {
     if depth == 0 {
@@ -264,7 +265,7 @@ pub(crate) fn whole<'a>(alloc: Global, depth: u32, tokens: &'a [Token<'a>]) -> R
 // After a star.
 #[cycle(trees)]
 #[tactic(auto, unfolding(crate::specs::Descent::star_at))]
-fn star<'a>(alloc: Global, depth: u32, tokens: &'a [Token<'a>]) -> Reads<'a, Tree>
+fn star<'a>(alloc: Global, depth: u32, tokens: Tokens<'a>) -> Reads<'a, Tree>
     ensures { Gives (λ x. (plain_tree x.0, x.1.now)) result (star_at depth tokens.now) }
 {
     if depth == 0 {
@@ -286,30 +287,24 @@ fn climb<'a>(
     alloc: Global,
     depth: u32,
     count: u32,
-    operand: Tree,
-    tokens: &'a [Token<'a>],
+    first: Tree,
+    tokens: Tokens<'a>,
 ) -> Reads<'a, Tree>
-    ensures { Gives (λ x. (plain_tree x.0, x.1.now)) result (climb_at depth count (plain_tree operand) tokens.now) }
+    ensures { Gives (λ x. (plain_tree x.0, x.1.now)) result (climb_at depth count (plain_tree first) tokens.now) }
 {
     if depth == 0 {
         return Err(ReadErr::NoTree);
     }
     if count == 0 {
-        return Ok((operand, tokens));
+        return Ok((first, tokens));
     }
-    let (left, rest) = climb(alloc, depth - 1, count - 1, operand, tokens)?;
+    let (left, rest) = climb(alloc, depth - 1, count - 1, first, tokens)?;
     more(alloc, depth - 1, count - 1, left, rest)
 }
 
 #[cycle(trees)]
 #[tactic(auto, unfolding(crate::specs::Descent::more_at))]
-fn more<'a>(
-    alloc: Global,
-    depth: u32,
-    at: u32,
-    left: Tree,
-    tokens: &'a [Token<'a>],
-) -> Reads<'a, Tree>
+fn more<'a>(alloc: Global, depth: u32, at: u32, left: Tree, tokens: Tokens<'a>) -> Reads<'a, Tree>
     ensures { Gives (λ x. (plain_tree x.0, x.1.now)) result (more_at depth at (plain_tree left) tokens.now) }
 {
     if depth == 0 {
@@ -327,7 +322,7 @@ fn more<'a>(
 
 #[cycle(trees)]
 #[tactic(auto, unfolding(crate::specs::Descent::level_at))]
-fn operands<'a>(alloc: Global, depth: u32, count: u32, tokens: &'a [Token<'a>]) -> Reads<'a, Tree>
+fn operands<'a>(alloc: Global, depth: u32, count: u32, tokens: Tokens<'a>) -> Reads<'a, Tree>
     ensures { Gives (λ x. (plain_tree x.0, x.1.now)) result (level_at depth count tokens.now) }
 {
     if depth == 0 {
@@ -339,7 +334,7 @@ fn operands<'a>(alloc: Global, depth: u32, count: u32, tokens: &'a [Token<'a>]) 
 
 #[cycle(trees)]
 #[tactic(auto, unfolding(crate::specs::Descent::unary_at))]
-fn unary<'a>(alloc: Global, depth: u32, tokens: &'a [Token<'a>]) -> Reads<'a, Tree>
+fn unary<'a>(alloc: Global, depth: u32, tokens: Tokens<'a>) -> Reads<'a, Tree>
     ensures { Gives (λ x. (plain_tree x.0, x.1.now)) result (unary_at depth tokens.now) }
 {
     if depth == 0 {
@@ -380,7 +375,7 @@ fn unary<'a>(alloc: Global, depth: u32, tokens: &'a [Token<'a>]) -> Reads<'a, Tr
 
 #[cycle(trees)]
 #[tactic(auto, unfolding(crate::specs::Descent::calls_at))]
-fn calls<'a>(alloc: Global, depth: u32, callee: Tree, tokens: &'a [Token<'a>]) -> Reads<'a, Tree>
+fn calls<'a>(alloc: Global, depth: u32, callee: Tree, tokens: Tokens<'a>) -> Reads<'a, Tree>
     ensures { Gives (λ x. (plain_tree x.0, x.1.now)) result (calls_at depth (plain_tree callee) tokens.now) }
 {
     if depth == 0 {
@@ -398,7 +393,7 @@ fn calls<'a>(alloc: Global, depth: u32, callee: Tree, tokens: &'a [Token<'a>]) -
 
 #[cycle(trees)]
 #[tactic(auto, unfolding(crate::specs::Descent::args_at))]
-fn args<'a>(alloc: Global, depth: u32, tokens: &'a [Token<'a>]) -> Reads<'a, Vec<Tree>>
+fn args<'a>(alloc: Global, depth: u32, tokens: Tokens<'a>) -> Reads<'a, Vec<Tree>>
     ensures { Gives (λ x. (plain_arguments x.0.items, x.1.now)) result (args_at depth tokens.now) }
 {
     if depth == 0 {
@@ -420,7 +415,7 @@ pub(crate) fn listed<'a>(
     alloc: Global,
     depth: u32,
     most: u32,
-    tokens: &'a [Token<'a>],
+    tokens: Tokens<'a>,
 ) -> Reads<'a, Vec<Tree>>
     ensures { Gives (λ x. (plain_arguments x.0.items, x.1.now)) result (listed_at depth most tokens.now) }
 {

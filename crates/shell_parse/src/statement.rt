@@ -8,7 +8,7 @@ ghost use Rattle.shell_parse.specs.Gives.{Gives};
 ghost use Rattle.shell_parse.specs.Grammar.{most_arguments, is_ld as is_ld_lem};
 ghost use Rattle.shell_parse.specs.Descent.{whole_at, listed_at, file_by, mapped, named_by, stmt_at, line_at, stmts_of};
 
-use crate::descent::{ARGUMENTS, ReadErr, Reads, listed, name_of, whole};
+use crate::descent::{ARGUMENTS, ReadErr, Reads, Tokens, listed, name_of, whole};
 use crate::token::{Token, Word};
 use crate::tree::Stmt;
 use std::alloc::Global;
@@ -20,7 +20,7 @@ pub(crate) fn is_ld(name: &Word) -> bool
     name.bytes() == b"ld".as_slice()
 }
 
-fn expression<'a>(alloc: Global, depth: u32, tokens: &'a [Token<'a>]) -> Reads<'a, Stmt>
+fn expression<'a>(alloc: Global, depth: u32, tokens: Tokens<'a>) -> Reads<'a, Stmt>
     ensures { Gives (λ x. (plain_stmt x.0, x.1.now)) result (mapped trees.Expr (whole_at depth tokens.now)) }
 {
     let (tree, rest) = whole(alloc, depth, tokens)?;
@@ -28,7 +28,7 @@ fn expression<'a>(alloc: Global, depth: u32, tokens: &'a [Token<'a>]) -> Reads<'
 }
 
 // A call without parentheses, from its arguments on.
-fn command<'a>(alloc: Global, depth: u32, callee: &Word, tokens: &'a [Token<'a>]) -> Reads<'a, Stmt>
+fn command<'a>(alloc: Global, depth: u32, callee: &Word, tokens: Tokens<'a>) -> Reads<'a, Stmt>
     ensures { Gives (λ x. (plain_stmt x.0, x.1.now)) result
         (mapped (trees.Command callee.now) (listed_at depth most_arguments tokens.now)) }
 {
@@ -37,7 +37,7 @@ fn command<'a>(alloc: Global, depth: u32, callee: &Word, tokens: &'a [Token<'a>]
 }
 
 // The file of a load, after `ld <`.
-fn file<'a>(alloc: Global, tokens: &'a [Token<'a>]) -> Reads<'a, Stmt>
+fn file<'a>(alloc: Global, tokens: Tokens<'a>) -> Reads<'a, Stmt>
     ensures { Gives (λ x. (plain_stmt x.0, x.1.now)) result (file_by tokens.now) }
 {
     let [first, rest @ ..] = tokens else {
@@ -49,7 +49,7 @@ fn file<'a>(alloc: Global, tokens: &'a [Token<'a>]) -> Reads<'a, Stmt>
     }
 }
 
-fn load<'a>(alloc: Global, name: &Word, tokens: &'a [Token<'a>]) -> Reads<'a, Stmt>
+fn load<'a>(alloc: Global, name: &Word, tokens: Tokens<'a>) -> Reads<'a, Stmt>
     ensures { Gives (λ x. (plain_stmt x.0, x.1.now)) result (if is_ld_lem name.now then file_by tokens.now else None) }
 {
     if is_ld(name) {
@@ -60,7 +60,7 @@ fn load<'a>(alloc: Global, name: &Word, tokens: &'a [Token<'a>]) -> Reads<'a, St
 }
 
 #[tactic(auto, unfolding(crate::specs::Descent::stmt_at))]
-fn statement<'a>(alloc: Global, depth: u32, tokens: &'a [Token<'a>]) -> Reads<'a, Stmt>
+fn statement<'a>(alloc: Global, depth: u32, tokens: Tokens<'a>) -> Reads<'a, Stmt>
     ensures { Gives (λ x. (plain_stmt x.0, x.1.now)) result (stmt_at depth tokens.now) }
 {
     let [first, rest @ ..] = tokens else {
@@ -86,7 +86,7 @@ fn line<'a>(
     alloc: Global,
     most: usize,
     depth: u32,
-    tokens: &'a [Token<'a>],
+    tokens: Tokens<'a>,
 ) -> Result<Vec<Stmt>, ReadErr>
     ensures { Gives (λ list. plain_stmts list.items) result (line_at most depth tokens.now) }
 {
@@ -110,7 +110,7 @@ fn line<'a>(
 }
 
 /// The statements of the tokens of a line.
-pub(crate) fn statements<'a>(alloc: Global, tokens: &'a [Token<'a>]) -> Result<Vec<Stmt>, ReadErr>
+pub(crate) fn statements<'a>(alloc: Global, tokens: Tokens<'a>) -> Result<Vec<Stmt>, ReadErr>
     requires { length tokens.now ≤ longest_line }
     ensures { Gives (λ list. plain_stmts list.items) result (stmts_of tokens.now) }
 {
