@@ -3,6 +3,8 @@ use Rattle.std.specs.Prelude.{◌≡◌, ℕ, ◌+◌, ◌-◌, ◌/◌, ◌%◌
 use Rattle.wind_base.specs.Limits.{most_section_headers, most_symbol_entries, most_relocations, most_section_bytes}
 use Rattle.elf_read.specs.declared.error.ElfErr.{ElfErr}
 use Rattle.elf_read.specs.declared.error.ElfErr.TheVariants.{Short, NotElf, NotPpc, NotRel, BadSection, BadSymbol, BadReloc, TooMany}
+use Rattle.elf_read.specs.declared.section_rules.SectionRule.{SectionRule}
+use Rattle.elf_read.specs.declared.section_rules.SectionRule.TheVariants.{Content, Name, Load}
 use Rattle.elf_read.specs.declared.entries.SectionHeader.{SectionHeader}
 use Rattle.elf_read.specs.declared.entries.SymbolEntry.{SymbolEntry}
 use Rattle.elf_read.specs.declared.entries.RelaEntry.{RelaEntry}
@@ -87,6 +89,12 @@ is_loadable h =
 -- section number i can be loaded, if it is to be loaded
 abbrev pub load_rule : List ℕ → ℕ → Rule
 load_rule bytes i = when (is_loaded bytes i) (unless (is_loadable (header bytes i)) (BadSection (header_place bytes i)))
+
+-- section number i obeys this rule
+abbrev pub section_rule : SectionRule → List ℕ → ℕ → Rule
+section_rule Content = content_rule
+section_rule Name = name_rule
+section_rule Load = load_rule
 
 -- ---- symbols
 -- section number i is the first symbol table, and valid

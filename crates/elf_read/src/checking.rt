@@ -6,7 +6,7 @@ ghost use Rattle.elf_read.specs.Rules.{checked};
 use crate::error::ElfErr;
 use crate::header_rules::{check_headers, check_ident, check_length, check_machine, check_type};
 use crate::relocation_rules::{check_relocations, check_tables};
-use crate::section_rules::{check_contents, check_loads, check_names};
+use crate::section_rules::{SectionRule, check_sections, check_strings};
 use crate::symbol_rules::{check_symbols, check_symtabs};
 use crate::tables::symtab;
 
@@ -21,9 +21,10 @@ pub fn check(bytes: &[u8]) -> Result<(), ElfErr>
     check_machine(bytes)?;
     check_type(bytes)?;
     check_headers(bytes)?;
-    check_contents(bytes)?;
-    check_names(bytes)?;
-    check_loads(bytes)?;
+    check_sections(bytes, SectionRule::Content)?;
+    check_strings(bytes)?;
+    check_sections(bytes, SectionRule::Name)?;
+    check_sections(bytes, SectionRule::Load)?;
     let table = symtab(bytes);
     check_symtabs(bytes, table)?;
     check_symbols(bytes, table)?;

@@ -2,8 +2,8 @@
 
 ghost use Rattle.std.specs.Prelude.{◌≡◌, ◌<◌, ◌^◌};
 ghost use Rattle.elf_read.specs.Rule.{each};
-ghost use Rattle.elf_read.specs.Rules.{has_content as has_content_of, content_rule, strings_rule, name_rule, names_rule, is_alignment as is_alignment_of, is_loadable as is_loadable_of, load_rule};
-ghost use Rattle.elf_read.specs.Tables.{header_count as header_count_of, section_names as section_names_of};
+ghost use Rattle.elf_read.specs.Rules.{has_content as has_content_of, content_rule, strings_rule, name_rule, is_alignment as is_alignment_of, is_loadable as is_loadable_of, load_rule, section_rule};
+ghost use Rattle.elf_read.specs.Tables.{header_count as header_count_of};
 
 use crate::entries::SectionHeader;
 use crate::error::ElfErr;
@@ -35,20 +35,8 @@ fn check_content(bytes: &[u8], i: usize) -> Result<(), ElfErr>
     Ok(())
 }
 
-/// The content of each section is in the file.
-#[tactic(auto, using(crate::proofs::Each::each_more, crate::proofs::Each::each_none))]
-pub(crate) fn check_contents(bytes: &[u8]) -> Result<(), ElfErr>
-    ensures { result ≡ each 0 (header_count_of bytes.now) (content_rule bytes.now) }
-{
-    let count = header_count(bytes);
-    for i in 0..count {
-        check_content(bytes, i)?;
-    }
-    Ok(())
-}
-
-// The section names are in a string table.
-fn check_strings(bytes: &[u8]) -> Result<(), ElfErr>
+/// The section names are in a string table.
+pub(crate) fn check_strings(bytes: &[u8]) -> Result<(), ElfErr>
     ensures { result ≡ strings_rule bytes.now }
 {
     let i = half(bytes, E_SHSTRNDX) as usize;
@@ -58,35 +46,14 @@ fn check_strings(bytes: &[u8]) -> Result<(), ElfErr>
     Ok(())
 }
 
-fn check_name(bytes: &[u8], names: &[u8], i: usize) -> Result<(), ElfErr>
-    requires table { names.now ≡ section_names_of bytes.now }
-    requires low { i < 2 ^ 16 }
+fn check_name(bytes: &[u8], i: usize) -> Result<(), ElfErr>
+    requires { i < 2 ^ 16 }
     ensures { result ≡ name_rule bytes.now i }
 {
-    if !has_name(names, header(bytes, i).name as usize) {
+    if !has_name(section_names(bytes), header(bytes, i).name as usize) {
         return Err(ElfErr::BadSection(header_place(bytes, i) as u64));
     }
     Ok(())
-}
-
-#[tactic(auto, using(crate::proofs::Each::each_more, crate::proofs::Each::each_none))]
-fn check_each_name(bytes: &[u8]) -> Result<(), ElfErr>
-    ensures { result ≡ each 0 (header_count_of bytes.now) (name_rule bytes.now) }
-{
-    let count = header_count(bytes);
-    let names = section_names(bytes);
-    for i in 0..count {
-        check_name(bytes, names, i)?;
-    }
-    Ok(())
-}
-
-/// Each section has a name.
-pub(crate) fn check_names(bytes: &[u8]) -> Result<(), ElfErr>
-    ensures { result ≡ names_rule bytes.now }
-{
-    check_strings(bytes)?;
-    check_each_name(bytes)
 }
 
 /// Whether a number is an alignment: a power of two up to 65,536.
@@ -122,14 +89,36 @@ fn check_load(bytes: &[u8], i: usize) -> Result<(), ElfErr>
     Ok(())
 }
 
-/// Each section that is to be loaded can be loaded.
+/// A rule that each section obeys.
+#[derive(Clone, Copy, Drop)]
+pub(crate) enum SectionRule {
+    /// Its content is in the file.
+    Content,
+    /// It has a valid name.
+    Name,
+    /// It can be loaded, if it is to be loaded.
+    Load,
+}
+
+fn check_section(bytes: &[u8], rule: SectionRule, i: usize) -> Result<(), ElfErr>
+    requires { i < 2 ^ 16 }
+    ensures { result ≡ section_rule rule bytes.now i }
+{
+    match rule {
+        SectionRule::Content => check_content(bytes, i),
+        SectionRule::Name => check_name(bytes, i),
+        SectionRule::Load => check_load(bytes, i),
+    }
+}
+
+/// Each section obeys a rule.
 #[tactic(auto, using(crate::proofs::Each::each_more, crate::proofs::Each::each_none))]
-pub(crate) fn check_loads(bytes: &[u8]) -> Result<(), ElfErr>
-    ensures { result ≡ each 0 (header_count_of bytes.now) (load_rule bytes.now) }
+pub(crate) fn check_sections(bytes: &[u8], rule: SectionRule) -> Result<(), ElfErr>
+    ensures { result ≡ each 0 (header_count_of bytes.now) (section_rule rule bytes.now) }
 {
     let count = header_count(bytes);
     for i in 0..count {
-        check_load(bytes, i)?;
+        check_section(bytes, rule, i)?;
     }
     Ok(())
 }

@@ -1,8 +1,0 @@
-use Rattle.std.proofs.Common.{◌≡◌, ◌-◌}
-use Rattle.elf_read.specs.Tables.{header_count}
-use Rattle.elf_read.specs.Rule.{each}
-use Rattle.elf_read.specs.Rules.{content_rule}
-use Rattle.elf_read.proofs.section_rules.check_contents.Given as goal
-
-abbrev pub invariant-loop-i : goal.invariant-loop-i
-invariant-loop-i l = each l.i (l.count - l.i) (content_rule l.bytes) ≡ each 0 (header_count l.bytes) (content_rule l.bytes)
