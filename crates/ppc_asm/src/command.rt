@@ -77,61 +77,20 @@ fn bytes_of<F: Folder>(alloc: Global, file: &str, folder: &mut F) -> Result<Vec<
     }
 }
 
-fn assemble_file<F: Folder, O: Sink>(
-    alloc: Global,
-    file: &str,
-    folder: &mut F,
-    out: &mut O,
-) -> AsmStatus
-    ensures { AssemblesFile (F.files folder.old) file.now (Rose (F.faults folder.old) (F.faults folder.new))
-        (O.bytes out.old) (O.bytes out.new) (Rose (O.faults out.old) (O.faults out.new)) result }
-{
-    match bytes_of(alloc, file, folder) {
-        Ok(text) => assemble_to(alloc, &text, out),
-        Err(end) => end,
-    }
-}
-
-fn list_file<F: Folder, O: Sink>(
-    alloc: Global,
-    file: &str,
-    folder: &mut F,
-    out: &mut O,
-) -> AsmStatus
-    ensures { ListsFile (F.files folder.old) file.now (Rose (F.faults folder.old) (F.faults folder.new))
-        (O.bytes out.old) (O.bytes out.new) (Rose (O.faults out.old) (O.faults out.new)) result }
-{
-    match bytes_of(alloc, file, folder) {
-        Ok(bytes) => list_to(alloc, &bytes, out),
-        Err(end) => end,
-    }
-}
-
-fn run<F: Folder, O: Sink>(alloc: Global, words: &[&str], folder: &mut F, out: &mut O) -> AsmStatus
-    ensures assembles { IfSome (to_assemble (map (λ w. w.now) words.now)) (λ file.
-        AssemblesFile (F.files folder.old) file (Rose (F.faults folder.old) (F.faults folder.new))
-        (O.bytes out.old) (O.bytes out.new) (Rose (O.faults out.old) (O.faults out.new)) result) }
-    ensures lists { IfSome (to_list (map (λ w. w.now) words.now)) (λ file.
-        ListsFile (F.files folder.old) file (Rose (F.faults folder.old) (F.faults folder.new))
-        (O.bytes out.old) (O.bytes out.new) (Rose (O.faults out.old) (O.faults out.new)) result) }
-    ensures usage { (result ≡ ends.Usage) ↔ ((to_assemble (map (λ w. w.now) words.now) ≡ None) × (to_list (map (λ w. w.now) words.now) ≡ None)) }
-    ensures untouched { result ≡ ends.Usage → O.bytes out.new ≡ O.bytes out.old }
-{
-    match words {
-        [_, file] if is_file(file) => assemble_file(alloc, file, folder, out),
-        [_, option, file] if is_list(option) && is_file(file) => {
-            list_file(alloc, file, folder, out)
-        }
-        _ => AsmStatus::Usage,
-    }
-}
-
 // The last argument, which names the file.
 fn last<'a>(words: &[&'a str]) -> &'a str {
     match words {
         [.., file] => *file,
         [] => "",
     }
+}
+
+// The status of a call whose last argument names this file. The message is on `err`.
+fn ended<E: Sink>(err: &mut E, file: &str, status: AsmStatus) -> AsmStatus
+    ensures { result ≡ status }
+{
+    tell(err, file, status);
+    status
 }
 
 /// Does what the arguments ask for; the first is the program's name. `FILE` assembles the file and writes the module to
@@ -153,7 +112,17 @@ pub fn ppcasm<F: Folder, O: Sink, E: Sink>(
     ensures usage { (result ≡ ends.Usage) ↔ ((to_assemble (map (λ w. w.now) words.now) ≡ None) × (to_list (map (λ w. w.now) words.now) ≡ None)) }
     ensures untouched { result ≡ ends.Usage → O.bytes out.new ≡ O.bytes out.old }
 {
-    let status = run(alloc, words, folder, out);
-    tell(err, last(words), status);
-    status
+    match words {
+        [_, file] if is_file(file) => match bytes_of(alloc, file, folder) {
+            Ok(text) => ended(err, file, assemble_to(alloc, &text, out)),
+            Err(status) => ended(err, file, status),
+        },
+        [_, option, file] if is_list(option) && is_file(file) => {
+            match bytes_of(alloc, file, folder) {
+                Ok(bytes) => ended(err, file, list_to(alloc, &bytes, out)),
+                Err(status) => ended(err, file, status),
+            }
+        }
+        _ => ended(err, last(words), AsmStatus::Usage),
+    }
 }
