@@ -1,4 +1,4 @@
-use Rattle.std.proofs.Common.{◌≡◌, ℕ, List, ◌+◌, ◌++◌, take, drop, ap, ◌∙◌, arith}
+use Rattle.std.proofs.Common.{ℕ, List, ◌+◌, ◌++◌, take, drop, ap, ◌∙◌, arith}
 use Rattle.std.specs.List.{flat_map}
 use Rattle.wind_outside.specs.declared.sink.Put.TheVariants.{Done, Failed}
 use Rattle.ppc_asm.specs.Listing.{section_lines, listing}
