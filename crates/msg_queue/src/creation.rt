@@ -35,32 +35,6 @@ fn refusal(live: usize, max_msgs: u32, max_len: u32, options: u32) -> Option<Err
 }
 
 impl Queues {
-    // Makes a queue.
-    fn make(
-        &mut self,
-        alloc: Global,
-        kern: &mut Kern,
-        max_msgs: u32,
-        max_len: u32,
-        options: u32,
-    ) -> Result<Ident, MakeErr>
-        requires ids { kern.old.lent ≡ false }
-        requires below { IdsBelow kern.old.next_id self.old.queues }
-        ensures ok { IfOk result (IsMade kern.old kern.new self.old self.new max_msgs max_len options) }
-        ensures err { IfErr result (IsNotMade kern.old kern.new self.old self.new max_msgs max_len options) }
-    {
-        if let Some(e) = refusal(self.queues.len(), max_msgs, max_len, options) {
-            return Err(MakeErr::Refused(e));
-        }
-        let Ok(queue) = Queue::reserved(alloc, max_msgs, max_len, options == MSG_Q_PRIORITY) else {
-            return Err(MakeErr::NoMemory);
-        };
-        match kern.add_to(&mut self.queues, queue) {
-            Ok(id) => Ok(id),
-            Err(_) => Err(MakeErr::Refused(Errno::IdsSpent)),
-        }
-    }
-
     /// Makes an empty queue with room for all its messages (VxWorks 5.4 Reference Manual,
     /// msgQCreate). Tasks wait there by priority with the option `MSG_Q_PRIORITY`, and in order of
     /// arrival with `MSG_Q_FIFO`.
@@ -85,6 +59,15 @@ impl Queues {
         ensures err { IfErr result (IsNotMade kern.old kern.new self.old self.new max_msgs max_len options) }
         ensures kept { (ram : List ℕ) → IsKept (scene kern.old self.old ram) → IsKept (scene kern.new self.new ram) }
     {
-        self.make(alloc, kern, max_msgs, max_len, options)
+        if let Some(e) = refusal(self.queues.len(), max_msgs, max_len, options) {
+            return Err(MakeErr::Refused(e));
+        }
+        let Ok(queue) = Queue::reserved(alloc, max_msgs, max_len, options == MSG_Q_PRIORITY) else {
+            return Err(MakeErr::NoMemory);
+        };
+        match kern.add_to(&mut self.queues, queue) {
+            Ok(id) => Ok(id),
+            Err(_) => Err(MakeErr::Refused(Errno::IdsSpent)),
+        }
     }
 }
