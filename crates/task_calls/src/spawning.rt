@@ -241,6 +241,27 @@ fn spawn(
     Reply::Answer(id.get())
 }
 
+// Makes the task in the world, unless the request was refused. If it is refused, nothing changes.
+fn spawn_in(w: &mut World, wanted: Result<Wanted, Errno>) -> Reply
+    requires home { w.old.kern.lent ≡ false }
+    requires since { w.old.kern.next_since + 1 < 2 ^ 64 }
+    requires names { w.old.names + 1 < 2 ^ 64 }
+    requires end { w.old.part.end < 2 ^ 32 }
+    ensures world { world_seen ⟦<dyn Device as Device>⟧ w.new ≡ after_spawn (world_seen ⟦<dyn Device as Device>⟧ w.old)
+        (spawned_if (spawn_state (world_seen ⟦<dyn Device as Device>⟧ w.old)) wanted).after }
+    ensures reply { result ≡ (spawned_if (spawn_state (world_seen ⟦<dyn Device as Device>⟧ w.old)) wanted).reply }
+    ensures out { w.new.out ≡ w.old.out }
+{
+    spawn(
+        &mut w.kern,
+        &mut w.part,
+        &mut w.bus.ram,
+        &mut w.names,
+        wanted,
+        w.board,
+    )
+}
+
 // Adds the line that reports a spawn.
 #[tactic(auto, unfolding(crate::specs::Spawning::spawn_text))]
 fn add_spawn(out: &mut OutBuf, id: u32, name: &[u8])
@@ -289,14 +310,7 @@ pub fn spawn_task(
     ensures out { w.new.out ≡ w.old.out }
 {
     let wanted = task_wanted(&w.bus.ram, name, priority, stack, entry, arguments);
-    spawn(
-        &mut w.kern,
-        &mut w.part,
-        &mut w.bus.ram,
-        &mut w.names,
-        wanted,
-        w.board,
-    )
+    spawn_in(w, wanted)
 }
 
 /// sp: makes a task without a name, of priority 100, with a stack of 20,000 bytes and an entry with
@@ -315,14 +329,7 @@ pub fn spawn_quickly(w: &mut World, entry: u32, arguments: Option<[u32; 10]>) ->
 {
     let number = w.names;
     let wanted = quick_wanted(entry, arguments);
-    let reply = spawn(
-        &mut w.kern,
-        &mut w.part,
-        &mut w.bus.ram,
-        &mut w.names,
-        wanted,
-        w.board,
-    );
+    let reply = spawn_in(w, wanted);
     tell_spawn(&mut w.out, number, reply);
     reply
 }
