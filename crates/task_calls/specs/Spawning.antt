@@ -1,5 +1,5 @@
 -- taskSpawn and sp.
-use Rattle.std.specs.Prelude.{ℕ, ◌+◌, ◌-◌, max, List, [], ◌∷◌, ◌++◌, Option, None, Some, Result, Ok, Err, false, ◌==◌, nat_le, if◌then◌else◌, take, codes}
+use Rattle.std.specs.Prelude.{ℕ, ◌+◌, ◌-◌, max, List, [], ◌++◌, Option, None, Some, Result, Ok, Err, false, ◌==◌, nat_le, if◌then◌else◌, take, codes}
 use Rattle.std.specs.Option.{option_map}
 use Rattle.std.specs.Fmt.{decimal, digits}
 use Rattle.wind_base.specs.Limits.{least_urgent, longest_short_name, frame_bytes}
