@@ -4,7 +4,7 @@ ghost use Rattle.std.specs.Prelude.{◌≡◌, ◌<◌, [], None, length, IfOk, 
 ghost use Rattle.ready_queue.specs.Order.{Order, pri_of, with_task, without_task, rotated, first_id};
 
 use crate::map::{PRIORITIES, PriorityMap, WORDS, first, mark};
-use linked_lists::{Ident, IdLists};
+use linked_lists::{IdLists, Ident};
 use std::alloc::Global;
 use std::marker::Model;
 use wind_base::{NoMemory, Pri};
