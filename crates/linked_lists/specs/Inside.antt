@@ -4,6 +4,8 @@ use Rattle.std.specs.Bool.{⊤}
 use Rattle.slab.specs.Slab.{Slab, get, slab_len, with_value}
 use Rattle.linked_lists.specs.declared.node.Node.{Node}
 use Rattle.linked_lists.specs.declared.node.Ends.{Ends}
+use Rattle.linked_lists.specs.declared.node.Side.{Side}
+use Rattle.linked_lists.specs.declared.node.Side.TheVariants.{After, Before}
 use Rattle.linked_lists.specs.Chains.{all_cells, chain_at, Apart}
 
 -- the ends of an empty list
@@ -55,6 +57,11 @@ module _ {T : Type 0} where
   abbrev pub goes_back : Option ℕ → Node T → Node T
   goes_back to node = record node { before = to }
 
+  -- a node with another link to this side
+  abbrev pub goes : Side → Option ℕ → Node T → Node T
+  goes After = goes_on
+  goes Before = goes_back
+
   -- a node with another value
   abbrev pub holds : T → Node T → Node T
   holds value node = record node { value = value }
@@ -92,3 +99,8 @@ aim_first ends list None to = slice_set ends list (record (slice_index_or ends l
 abbrev pub aim_last : List Ends → ℕ → Option ℕ → Option ℕ → List Ends
 aim_last ends list (Some key) to = ends
 aim_last ends list None to = slice_set ends list (record (slice_index_or ends list no_ends) { last = to })
+
+-- the ends after the first or the last node is replaced
+abbrev pub aim : Side → List Ends → ℕ → Option ℕ → Option ℕ → List Ends
+aim After = aim_first
+aim Before = aim_last

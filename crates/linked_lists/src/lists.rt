@@ -4,7 +4,8 @@ ghost use Rattle.std.specs.Option.{ForSome};
 ghost use Rattle.std.specs.Prelude.{◌≡◌, ◌<◌, ◌≤◌, ◌+◌, [], None, Some, length, map, replicate, IfOk, IsSome, slice_set};
 ghost use Rattle.linked_lists.specs.Chains.{Chains, all_cells, chain_at, first_key, value_in, value_of, with_cell, without_cell, with_value, AreChains, IsOnlyIn, ValueIs, NextIs};
 
-use crate::node::{Ends, Node, link_after, link_before, node_before};
+use crate::node::Side::{After, Before};
+use crate::node::{Ends, Node, link, node_before};
 use id_table::NoMemory;
 use slab::Slab;
 use std::alloc::Global;
@@ -116,8 +117,9 @@ impl<T> Lists<T> {
             after: next,
             value,
         });
-        link_after(&mut self.nodes, &mut self.ends, list, before, Some(key));
-        link_before(&mut self.nodes, &mut self.ends, list, next, Some(key));
+        let new = Some(key);
+        link(&mut self.nodes, &mut self.ends, list, After, before, new);
+        link(&mut self.nodes, &mut self.ends, list, Before, next, new);
         key
     }
 
@@ -144,8 +146,8 @@ impl<T> Lists<T> {
             after,
             value,
         } = self.nodes.remove(key);
-        link_after(&mut self.nodes, &mut self.ends, list, before, after);
-        link_before(&mut self.nodes, &mut self.ends, list, after, before);
+        link(&mut self.nodes, &mut self.ends, list, After, before, after);
+        link(&mut self.nodes, &mut self.ends, list, Before, after, before);
         value
     }
 }

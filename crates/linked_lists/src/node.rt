@@ -3,7 +3,7 @@
 ghost use Rattle.std.specs.Option.{ForSome};
 ghost use Rattle.std.specs.Prelude.{◌≡◌, ◌<◌, length};
 ghost use Rattle.slab.specs.Slab.{ContainsKey};
-ghost use Rattle.linked_lists.specs.Inside.{aimed, key_before, goes_on, goes_back, aim_first, aim_last};
+ghost use Rattle.linked_lists.specs.Inside.{aimed, key_before, goes, aim};
 
 use slab::Slab;
 
@@ -41,42 +41,33 @@ pub(crate) fn node_before<T>(
     }
 }
 
-// Sets the forward link of the node `before` to `to`. If `before` is none, `to` becomes the first
-// node of the list.
-pub(crate) fn link_after<T>(
-    nodes: &mut Slab<Node<T>>,
-    ends: &mut Vec<Ends>,
-    list: usize,
-    before: Option<usize>,
-    to: Option<usize>,
-)
-    requires list { list < length ends.old.items }
-    requires before { ForSome before (λ key. ContainsKey nodes.old key) }
-    ensures nodes { nodes.new ≡ aimed nodes.old before (goes_on to) }
-    ensures ends { ends.new.items ≡ aim_first ends.old.items list before to }
-{
-    match before {
-        Some(key) => nodes[key].after = to,
-        None => ends[list].first = to,
-    }
+// Which link of a node: to the node after it, or to the one before it.
+#[derive(Clone, Copy)]
+pub(crate) enum Side {
+    After,
+    Before,
 }
 
-// Sets the backward link of the node `after` to `to`. If `after` is none, `to` becomes the last
-// node of the list.
-pub(crate) fn link_before<T>(
+// Sets a link of the node `from` to `to`. If `from` is none, `to` becomes an end of the list: its
+// first node by the link `After`, its last by `Before`.
+#[inline(always)]
+pub(crate) fn link<T>(
     nodes: &mut Slab<Node<T>>,
     ends: &mut Vec<Ends>,
     list: usize,
-    after: Option<usize>,
+    side: Side,
+    from: Option<usize>,
     to: Option<usize>,
 )
     requires list { list < length ends.old.items }
-    requires after { ForSome after (λ key. ContainsKey nodes.old key) }
-    ensures nodes { nodes.new ≡ aimed nodes.old after (goes_back to) }
-    ensures ends { ends.new.items ≡ aim_last ends.old.items list after to }
+    requires from { ForSome from (λ key. ContainsKey nodes.old key) }
+    ensures nodes { nodes.new ≡ aimed nodes.old from (goes side to) }
+    ensures ends { ends.new.items ≡ aim side ends.old.items list from to }
 {
-    match after {
-        Some(key) => nodes[key].before = to,
-        None => ends[list].last = to,
+    match (side, from) {
+        (Side::After, Some(key)) => nodes[key].after = to,
+        (Side::After, None) => ends[list].first = to,
+        (Side::Before, Some(key)) => nodes[key].before = to,
+        (Side::Before, None) => ends[list].last = to,
     }
 }

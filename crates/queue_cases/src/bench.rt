@@ -1,5 +1,6 @@
 //! The steps of a queue, played on the queue and on a plain vector.
 
+use crate::numbers::Numbers;
 use crate::plain::Plain;
 use crate::tally::{Answer, Tally};
 use std::alloc::Global;
@@ -37,6 +38,9 @@ pub trait Both<S> {
 
     /// The vector's answer to the step.
     fn plain_answer(&mut self, step: S) -> Result<Answer, NoMemory>;
+
+    /// The step of a generated round, and the one that looks at its outcome.
+    fn generated(&self, numbers: &mut Numbers, round: u32) -> (S, S);
 }
 
 /// A queue with its vector, and the tally of their answers.
@@ -49,8 +53,8 @@ pub struct Bench<B> {
 }
 
 impl<B> Bench<B> {
-    /// Plays these steps first.
-    pub fn begun<S: Copy>(both: B, steps: &[S]) -> Result<Bench<B>, NoMemory>
+    /// Plays these steps first, and these looks after each of them.
+    pub fn begun<S: Copy>(both: B, steps: &[S], looks: &[S]) -> Result<Bench<B>, NoMemory>
     where
         B: Both<S> + Drop,
     {
@@ -58,7 +62,7 @@ impl<B> Bench<B> {
             both,
             tally: Tally::new(),
         };
-        bench.all(steps)?;
+        bench.each(steps, looks)?;
         Ok(bench)
     }
 
@@ -72,8 +76,8 @@ impl<B> Bench<B> {
         Ok(())
     }
 
-    /// Plays steps in their order.
-    pub fn all<S: Copy>(&mut self, steps: &[S]) -> Result<(), NoMemory>
+    // Plays steps in their order.
+    fn all<S: Copy>(&mut self, steps: &[S]) -> Result<(), NoMemory>
     where
         B: Both<S>,
     {
@@ -81,5 +85,31 @@ impl<B> Bench<B> {
             self.step(*step)?;
         }
         Ok(())
+    }
+
+    /// Plays steps in their order, and all looks after each of them.
+    pub fn each<S: Copy>(&mut self, steps: &[S], looks: &[S]) -> Result<(), NoMemory>
+    where
+        B: Both<S>,
+    {
+        for step in steps {
+            self.step(*step)?;
+            self.all(looks)?;
+        }
+        Ok(())
+    }
+
+    /// Plays generated rounds last. Returns the tally of all steps.
+    pub fn ended<S: Copy>(mut self, rounds: u32) -> Result<Tally, NoMemory>
+    where
+        B: Both<S> + Drop,
+    {
+        let mut numbers = Numbers::new();
+        for round in 0..rounds {
+            let (step, look) = self.both.generated(&mut numbers, round);
+            self.step(step)?;
+            self.step(look)?;
+        }
+        Ok(self.tally)
     }
 }

@@ -81,15 +81,27 @@ impl Both<Step> for Queues {
             Step::Due { tick } => Ok(Answer::Task(due(plain, tick))),
         }
     }
+
+    fn generated(&self, numbers: &mut Numbers, round: u32) -> (Step, Step) {
+        let tick = round as u64;
+        let who = numbers.below(TASKS) + 1;
+        let step = match numbers.below(5) {
+            0 => Step::Take { who },
+            _ => Step::Put {
+                who,
+                wake: tick + numbers.below(60) as u64,
+            },
+        };
+        (step, Step::Due { tick })
+    }
 }
 
 /// Plays all steps on both queues.
 pub fn play(alloc: Global) -> Result<Tally, NoMemory> {
     let queues = Pair::new(alloc, Delays::reserved(alloc, ROOM)?);
-    let mut bench = Bench::begun(queues, &EDGES)?;
+    let mut bench = Bench::begun(queues, &EDGES, &[])?;
     one_tick(&mut bench)?;
-    generated(&mut bench)?;
-    Ok(bench.tally)
+    bench.ended(GENERATED)
 }
 
 // Fills the queue with tasks of one wake, adds one more, and then takes each as it is due.
@@ -104,32 +116,10 @@ fn one_tick(bench: &mut Bench<Queues>) -> Result<(), NoMemory> {
     Ok(())
 }
 
-fn generated(bench: &mut Bench<Queues>) -> Result<(), NoMemory> {
-    let mut numbers = Numbers::new();
-    for now in 0..GENERATED {
-        let tick = now as u64;
-        let who = numbers.below(TASKS) + 1;
-        bench.step(match numbers.below(5) {
-            0 => Step::Take { who },
-            _ => Step::Put {
-                who,
-                wake: tick + numbers.below(60) as u64,
-            },
-        })?;
-        bench.step(Step::Due { tick })?;
-    }
-    Ok(())
-}
-
 // Adds a task; removes it first if it is there.
 #[tactic(auto, using(delay_queue::proofs::Waiting::taken_absent))]
 fn put(delays: &mut Delays, who: Ident, wake: u64) -> Answer {
-    let again = delays.take(who);
-    let room = delays.len() < delays.room();
-    if room {
-        delays.put(who, wake);
-    }
-    Answer::Put { again, room }
+    put_again!(delays, who, (who, wake))
 }
 
 // Removes the first task that is due at a tick and returns its number.

@@ -2,6 +2,19 @@
 //! answers.
 #![tactic(auto)]
 
+// Puts a task into a queue if there is room; removes it first if it is there. The words in
+// parentheses are those of the queue's `put`.
+macro_rules! put_again {
+    ($queue:expr, $who:expr, ($($word:expr),*)) => {{
+        let again = $queue.take($who);
+        let room = $queue.len() < $queue.room();
+        if room {
+            $queue.put($($word),*);
+        }
+        crate::tally::Answer::Put { again, room }
+    }};
+}
+
 mod bench;
 mod delays;
 mod numbers;

@@ -24,50 +24,37 @@ enum Step {
     First { side: u8, object: u32 },
 }
 
-// No task waits at a place; equal keys; another order number; another priority; the last waiter is
-// removed.
-const EDGES: [Step; 19] = [
-    Step::First { side: 1, object: 8 },
-    Step::Take { who: 1 },
-    Step::Put(1, 8, 2, 100, 5),
+// A place, the place before it by side, and the place after it by object.
+const LOOKS: [Step; 3] = [
     Step::First { side: 1, object: 8 },
     Step::First { side: 0, object: 9 },
     Step::First { side: 1, object: 9 },
-    Step::Put(1, 8, 1, 100, 5),
-    Step::First { side: 1, object: 8 },
-    Step::Put(1, 8, 3, 100, 4),
-    Step::First { side: 1, object: 8 },
-    Step::Put(1, 8, 3, 99, 9),
-    Step::First { side: 1, object: 8 },
-    Step::Take { who: 3 },
-    Step::First { side: 1, object: 8 },
-    Step::Take { who: 1 },
-    Step::First { side: 1, object: 8 },
-    Step::Take { who: 2 },
-    Step::Take { who: 2 },
-    Step::First { side: 1, object: 8 },
 ];
 
-// The place again, with a place before it by side and one after it by object.
-const BESIDE: [Step; 18] = [
+// No task waits at a place; equal keys; another order number; another priority; the last waiter is
+// removed.
+const EDGES: [Step; 9] = [
+    Step::Take { who: 1 },
+    Step::Put(1, 8, 2, 100, 5),
+    Step::Put(1, 8, 1, 100, 5),
+    Step::Put(1, 8, 3, 100, 4),
+    Step::Put(1, 8, 3, 99, 9),
+    Step::Take { who: 3 },
+    Step::Take { who: 1 },
+    Step::Take { who: 2 },
+    Step::Take { who: 2 },
+];
+
+// The place again, while tasks wait at the other two.
+const BESIDE: [Step; 8] = [
     Step::Put(0, 9, 1, 200, 1),
     Step::Put(1, 9, 2, 0, 2),
     Step::Put(1, 8, 3, 50, 3),
-    Step::First { side: 1, object: 8 },
-    Step::First { side: 0, object: 9 },
-    Step::First { side: 1, object: 9 },
     Step::Put(1, 8, 1, 50, 2),
-    Step::First { side: 1, object: 8 },
-    Step::First { side: 0, object: 9 },
     Step::Put(1, 8, 2, u32::MAX, u64::MAX),
-    Step::First { side: 1, object: 8 },
-    Step::First { side: 1, object: 9 },
     Step::Take { who: 1 },
-    Step::First { side: 1, object: 8 },
     Step::Take { who: 3 },
-    Step::First { side: 1, object: 8 },
     Step::Take { who: 2 },
-    Step::First { side: 1, object: 8 },
 ];
 
 // The place of a waiter, and what decides when it is first there.
@@ -111,16 +98,25 @@ impl Both<Step> for Queues {
             Step::First { side, object } => Ok(Answer::Task(first(plain.entries(), side, object))),
         }
     }
+
+    fn generated(&self, numbers: &mut Numbers, _round: u32) -> (Step, Step) {
+        let who = numbers.below(TASKS) + 1;
+        let (side, object) = (numbers.below(3) as u8, numbers.below(OBJECTS) + 1);
+        let step = match numbers.below(3) {
+            0 => Step::Take { who },
+            _ => Step::Put(side, object, who, numbers.below(4), numbers.below(6) as u64),
+        };
+        (step, Step::First { side, object })
+    }
 }
 
 /// Plays all steps on both queues.
 pub fn play(alloc: Global) -> Result<Tally, NoMemory> {
     let queues = Pair::new(alloc, Waits::reserved(alloc, ROOM)?);
-    let mut bench = Bench::begun(queues, &EDGES)?;
-    bench.all(&BESIDE)?;
+    let mut bench = Bench::begun(queues, &EDGES, &LOOKS)?;
+    bench.each(&BESIDE, &LOOKS)?;
     one_place(&mut bench)?;
-    generated(&mut bench)?;
-    Ok(bench.tally)
+    bench.ended(GENERATED)
 }
 
 // Fills one place, last waiter first, adds one more, and then takes each as the first.
@@ -137,20 +133,6 @@ fn one_place(bench: &mut Bench<Queues>) -> Result<(), NoMemory> {
     Ok(())
 }
 
-fn generated(bench: &mut Bench<Queues>) -> Result<(), NoMemory> {
-    let mut numbers = Numbers::new();
-    for _ in 0..GENERATED {
-        let who = numbers.below(TASKS) + 1;
-        let (side, object) = (numbers.below(3) as u8, numbers.below(OBJECTS) + 1);
-        bench.step(match numbers.below(3) {
-            0 => Step::Take { who },
-            _ => Step::Put(side, object, who, numbers.below(4), numbers.below(6) as u64),
-        })?;
-        bench.step(Step::First { side, object })?;
-    }
-    Ok(())
-}
-
 // A side of an object, as a place. None if the object's id is invalid.
 fn at(side: u8, object: u32) -> Option<Place> {
     let id = Ident::new(object)?;
@@ -160,12 +142,7 @@ fn at(side: u8, object: u32) -> Option<Place> {
 // Adds a task; removes it first if it is there.
 #[tactic(auto, using(wait_order::proofs::LineOrder::taken_absent))]
 fn put(waits: &mut Waits, place: Place, who: Ident, pri: u32, since: u64) -> Answer {
-    let again = waits.take(who);
-    let room = waits.len() < waits.room();
-    if room {
-        waits.put(place, who, pri, since);
-    }
-    Answer::Put { again, room }
+    put_again!(waits, who, (place, who, pri, since))
 }
 
 // The first task that waits at a side of an object: by priority, then by order number, then by id.

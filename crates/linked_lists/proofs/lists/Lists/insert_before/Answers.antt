@@ -18,8 +18,8 @@ node_before-before-requires g c =
       next = λ x e. value_node k.nodes k.ends.items cs k.room c.args.list x c.self.invariant within (subst (λ t. IsSome (value_in (chain_at t.chains c.args.list) x)) (sym c.self.view_is) (c.requires.next x e));
     }
 
-pub link_after-requires-clause-before : goal.link_after-requires-clause-before
-link_after-requires-clause-before g c x e =
+pub link-requires-clause-from : goal.link-requires-clause-from
+link-requires-clause-from g c x e =
     let k = c.self.inside in
     let cs = chains_in k.nodes k.ends.items in
     let within = subst (λ t. c.args.list < length t.chains) (sym c.self.view_is) c.requires.list in
@@ -28,22 +28,22 @@ link_after-requires-clause-before g c x e =
     some_updated k.nodes c.insert_reserved-key.new.self c.insert_reserved-key.result _ x c.insert_reserved-key.ensures.updates
     (before_there k.nodes k.ends.items cs k.room c.args.list c.args.next (c.insert_reserved-key.result, c.args.value) x c.self.invariant within split before_that)
 
-pub link_before-requires-clause-after : goal.link_before-requires-clause-after
-link_before-requires-clause-after g c x e =
+pub link-requires-2-clause-from : goal.link-requires-2-clause-from
+link-requires-2-clause-from g c x e =
     let k = c.self.inside in
     let cs = chains_in k.nodes k.ends.items in
     let within = subst (λ t. c.args.list < length t.chains) (sym c.self.view_is) c.requires.list in
     let there = value_node k.nodes k.ends.items cs k.room c.args.list x c.self.invariant within (subst (λ t. IsSome (value_in (chain_at t.chains c.args.list) x)) (sym c.self.view_is) (c.requires.next x e)) in
-    subst (λ n. IsSome (slabs.get n x)) (sym c.link_after.ensures.nodes)
+    subst (λ n. IsSome (slabs.get n x)) (sym c.link.ensures.nodes)
     (some_aimed c.insert_reserved-key.new.self c.node_before-before.result (goes_on (Some c.insert_reserved-key.result)) x
     (some_updated k.nodes c.insert_reserved-key.new.self c.insert_reserved-key.result _ x c.insert_reserved-key.ensures.updates there))
 
 pub invariant_of-self : goal.invariant_of-self
 invariant_of-self g c =
     let k = c.self.inside in
-    (inserted_in k.nodes c.insert_reserved-key.new.self c.link_before.new.nodes k.ends.items c.link_before.new.ends.items k.room c.args.list c.insert_reserved-key.result c.args.next c.node_before-before.result c.args.value c.args.self.now
+    (inserted_in k.nodes c.insert_reserved-key.new.self c.link-2.new.nodes k.ends.items c.link-2.new.ends.items k.room c.args.list c.insert_reserved-key.result c.args.next c.node_before-before.result c.args.value c.args.self.now
     c.self.invariant c.self.view_is c.requires.list c.requires.next c.requires.room (c.node_before-before.ensures ∙ ap (λ es. key_before k.nodes es c.args.list c.args.next) c.deref.ensures.value) c.insert_reserved-key.ensures.was_vacant c.insert_reserved-key.ensures.updates
-    c.insert_reserved-key.ensures.len c.insert_reserved-key.ensures.capacity (rw (c.link_before.ensures.nodes, c.link_after.ensures.nodes) refl) (rw (c.link_before.ensures.ends, c.link_after.ensures.ends) refl)).0
+    c.insert_reserved-key.ensures.len c.insert_reserved-key.ensures.capacity (rw (c.link-2.ensures.nodes, c.link.ensures.nodes) refl) (rw (c.link-2.ensures.ends, c.link.ensures.ends) refl)).0
 
 pub returns-clause-fresh : goal.returns-clause-fresh
 returns-clause-fresh g c =
@@ -54,6 +54,6 @@ returns-clause-fresh g c =
 pub returns-clause-chains : goal.returns-clause-chains
 returns-clause-chains g c =
     let k = c.self.inside in
-    (inserted_in k.nodes c.insert_reserved-key.new.self c.link_before.new.nodes k.ends.items c.link_before.new.ends.items k.room c.args.list c.insert_reserved-key.result c.args.next c.node_before-before.result c.args.value c.args.self.now
+    (inserted_in k.nodes c.insert_reserved-key.new.self c.link-2.new.nodes k.ends.items c.link-2.new.ends.items k.room c.args.list c.insert_reserved-key.result c.args.next c.node_before-before.result c.args.value c.args.self.now
     c.self.invariant c.self.view_is c.requires.list c.requires.next c.requires.room (c.node_before-before.ensures ∙ ap (λ es. key_before k.nodes es c.args.list c.args.next) c.deref.ensures.value) c.insert_reserved-key.ensures.was_vacant c.insert_reserved-key.ensures.updates
-    c.insert_reserved-key.ensures.len c.insert_reserved-key.ensures.capacity (rw (c.link_before.ensures.nodes, c.link_after.ensures.nodes) refl) (rw (c.link_before.ensures.ends, c.link_after.ensures.ends) refl)).1
+    c.insert_reserved-key.ensures.len c.insert_reserved-key.ensures.capacity (rw (c.link-2.ensures.nodes, c.link.ensures.nodes) refl) (rw (c.link-2.ensures.ends, c.link.ensures.ends) refl)).1
