@@ -1,11 +1,11 @@
 //! A folder that logs its fetches.
 
-ghost use Rattle.std.specs.Prelude.{◌≡◌, [], ◌∷◌, Some, IfOk};
-ghost use Rattle.std.specs.Option.{option_map};
+ghost use Rattle.std.specs.Prelude.{◌≡◌, IfOk};
 ghost use Rattle.wind_outside.specs.Requests.{request_of, outcome_of as outcome_of_lem};
-ghost use Rattle.outside_log.specs.Fetches.{request_seen, requests_seen};
+ghost use Rattle.outside_log.specs.Fetches.{request_seen};
 
 use crate::entries::with_entry;
+use crate::logged::Logged;
 use std::alloc::{AllocError, Global};
 use wind_outside::{FetchOutcome, Fetched, Folder};
 
@@ -18,34 +18,6 @@ pub struct LoggedFetch {
     pub limit: u32,
     /// How it ended.
     pub outcome: FetchOutcome,
-}
-
-/// A folder that passes each fetch on to another, and logs it, in order, as long as there is memory
-/// for the log.
-#[derive(Drop)]
-pub struct LoggedFolder<F: Folder + Drop> {
-    folder: F,
-    log: Option<Vec<LoggedFetch>>,
-}
-
-impl<F: Folder + Drop> LoggedFolder<F> {
-    /// A log of this folder, without fetches.
-    pub fn new(alloc: Global, folder: F) -> LoggedFolder<F>
-        ensures folder { result.folder ≡ folder }
-        ensures log { requests_seen result.log ≡ Some [] }
-    {
-        LoggedFolder {
-            folder,
-            log: Some(Vec::new(alloc)),
-        }
-    }
-
-    /// The fetches so far. None if memory ran out for the log.
-    pub fn fetches(&self) -> Option<&[LoggedFetch]>
-        ensures { option_map (λ fetches. fetches.now) result ≡ option_map (λ fetches. fetches.items) self.now.log }
-    {
-        self.log.as_deref()
-    }
 }
 
 // How a fetch with this result ended.
@@ -79,17 +51,17 @@ fn entry_of(
     })
 }
 
-impl<F: Folder + Drop> Folder for LoggedFolder<F> {
+impl<F: Folder + Drop> Folder for Logged<F, LoggedFetch> {
     ghost use Rattle.outside_log.specs.Fetches.{requests_seen};
 
-    ghost files = { λ f. F.files f.folder };
+    ghost files = { λ f. F.files f.inner };
 
     ghost requests = { λ f. requests_seen f.log };
 
-    ghost faults = { λ f. F.faults f.folder };
+    ghost faults = { λ f. F.faults f.inner };
 
     fn fetch(&mut self, alloc: Global, name: &str, limit: u32) -> Fetched {
-        let answer = self.folder.fetch(alloc, name, limit);
+        let answer = self.inner.fetch(alloc, name, limit);
         let entry = entry_of(alloc, name, limit, &answer);
         self.log = with_entry(self.log.take(), entry);
         answer

@@ -3,8 +3,10 @@
 
 mod entries;
 mod folder;
+mod logged;
 mod sink;
 
-pub use folder::{LoggedFetch, LoggedFolder};
-pub use sink::{LoggedPut, LoggedSink};
+pub use folder::LoggedFetch;
+pub use logged::{Logged, LoggedFolder, LoggedSink};
+pub use sink::LoggedPut;
 pub use wind_outside::FetchOutcome;

@@ -4,27 +4,17 @@
 ghost use Rattle.std.specs.Prelude.{◌≡◌, ◌≤◌, vec_len, IfOk, IfSome};
 ghost use Rattle.wind_outside.specs.Host.{IsWhole, answer_of as answer_of_lem};
 
-use crate::{Fetched, Folder, Put, Sink};
+use crate::{Counted, Fetched, Folder, Put, Sink};
 use std::alloc::Global;
 use std::io::{ErrorKind, Print, Read};
 use std::rt::Files;
 use std::{fs, io};
 
 /// The program's current directory, and the files below it.
-#[derive(Drop)]
-pub struct HostFolder<R: Files + Drop> {
-    rt: R,
-    faults: u64,
-}
+pub type HostFolder<R> = Counted<R>;
 
-impl<R: Files + Drop> HostFolder<R> {
-    /// The directory, before any read failed.
-    pub fn new(rt: R) -> HostFolder<R>
-        ensures { result.faults ≡ 0 }
-    {
-        HostFolder { rt, faults: 0 }
-    }
-}
+/// A standard stream.
+pub type HostSink<P> = Counted<P>;
 
 // All that is left of a file, or None if that is longer than the limit. Memory is taken as the
 // bytes are read, and at most one byte above the limit is read.
@@ -56,7 +46,7 @@ fn answer_of(read: io::Result<Option<Vec<u8>>>) -> Fetched
     }
 }
 
-impl<R: Files + Drop> Folder for HostFolder<R> {
+impl<R: Files + Drop> Folder for Counted<R> {
     ghost use Rattle.std.specs.Prelude.{None};
 
     ghost files = { λ _. None };
@@ -66,35 +56,19 @@ impl<R: Files + Drop> Folder for HostFolder<R> {
     ghost faults = { λ f. f.faults };
 
     fn fetch(&mut self, alloc: Global, name: &str, limit: u32) -> Fetched {
-        let read = match fs::open(&self.rt, name) {
+        let read = match fs::open(&self.handle, name) {
             Ok(file) => read_within(alloc, file, limit),
             Err(error) => Err(error),
         };
         let answer = answer_of(read);
         if let Fetched::Failed = answer {
-            self.faults = self.faults.saturating_add(1);
+            self.count_fault();
         }
         answer
     }
 }
 
-/// A standard stream.
-#[derive(Drop)]
-pub struct HostSink<P: Print + Drop> {
-    to: P,
-    faults: u64,
-}
-
-impl<P: Print + Drop> HostSink<P> {
-    /// The stream, before any write failed.
-    pub fn new(to: P) -> HostSink<P>
-        ensures { result.faults ≡ 0 }
-    {
-        HostSink { to, faults: 0 }
-    }
-}
-
-impl<P: Print + Drop> Sink for HostSink<P> {
+impl<P: Print + Drop> Sink for Counted<P> {
     ghost use Rattle.std.specs.Prelude.{None};
 
     ghost bytes = { λ _. None };
@@ -104,8 +78,8 @@ impl<P: Print + Drop> Sink for HostSink<P> {
     ghost faults = { λ s. s.faults };
 
     fn put(&mut self, piece: &[u8]) -> Put {
-        if self.to.write_all(piece).is_err() {
-            self.faults = self.faults.saturating_add(1);
+        if self.handle.write_all(piece).is_err() {
+            self.count_fault();
             return Put::Failed;
         }
         Put::Done
@@ -122,14 +96,20 @@ mod tests {
     use std::io::Write;
     use std::test::Fail;
 
+    // The path of a file in the directory for temporary files.
+    fn temporary(rt: &HostRuntime, name: &str) -> Result<String, Fail> {
+        let directory = env::temp_dir(rt)?;
+        let directory = directory.as_path().to_str().ok_or("no text")?;
+        Ok(format!(in rt.alloc(); "{directory}/{name}")?)
+    }
+
     // The results for a real directory: a file at its limit and one above it, a missing file, and a
     // directory.
     #[test]
     fn fetches_real_files(rt: HostRuntime) -> Result<(), Fail> {
         let alloc = rt.alloc();
-        let directory = env::temp_dir(&rt)?;
-        let directory = directory.as_path().to_str().ok_or("no text")?;
-        let file = format!(in alloc; "{directory}/windplay_fetches_real_files")?;
+        let directory = temporary(&rt, "")?;
+        let file = temporary(&rt, "windplay_fetches_real_files")?;
         fs::write(&rt, file.as_str(), b"hello".as_slice())?;
         let mut folder = HostFolder::new(rt);
         match folder.fetch(alloc, &file, 5) {
@@ -137,7 +117,7 @@ mod tests {
             _ => assert!(rt; false, "not found"),
         }
         assert!(rt; matches!(folder.fetch(alloc, &file, 4), Fetched::TooLong));
-        assert!(rt; matches!(folder.fetch(alloc, directory, 5), Fetched::Failed));
+        assert!(rt; matches!(folder.fetch(alloc, &directory, 5), Fetched::Failed));
         fs::remove_file(&rt, file.as_str())?;
         assert!(rt; matches!(folder.fetch(alloc, &file, 5), Fetched::Missing));
         Ok(())
@@ -236,10 +216,7 @@ mod tests {
     // The stream's bytes are all pieces in order. A stream that can't be written is a fault.
     #[test]
     fn puts_pieces_into_a_real_stream(rt: HostRuntime) -> Result<(), Fail> {
-        let alloc = rt.alloc();
-        let directory = env::temp_dir(&rt)?;
-        let directory = directory.as_path().to_str().ok_or("no text")?;
-        let file = format!(in alloc; "{directory}/windplay_puts_pieces")?;
+        let file = temporary(&rt, "windplay_puts_pieces")?;
         fs::write(&rt, file.as_str(), b"".as_slice())?;
         let mut sink = HostSink::new(Kept { rt, name: &file });
         assert_eq!(rt; sink.put(b"-> "), Put::Done);
@@ -249,9 +226,10 @@ mod tests {
             b"-> i\n".as_slice()
         );
         fs::remove_file(&rt, file.as_str())?;
+        let directory = temporary(&rt, "")?;
         let mut sink = HostSink::new(Kept {
             rt,
-            name: directory,
+            name: &directory,
         });
         assert_eq!(rt; sink.put(b"-> "), Put::Failed);
         assert_eq!(rt; sink.faults, 1);

@@ -4,6 +4,7 @@
 
 mod byte_fifo;
 mod calls;
+mod counted;
 mod device;
 mod event_counter;
 mod folder;
@@ -14,6 +15,7 @@ mod mem_sink;
 mod sink;
 
 pub use byte_fifo::ByteFifo;
+pub use counted::Counted;
 pub use device::{Device, DeviceKind, Slots};
 pub use event_counter::EventCounter;
 pub use folder::{FetchOutcome, Fetched, Folder};
