@@ -10,8 +10,8 @@ use crate::entries::{RelaEntry, SectionHeader};
 use crate::error::ElfErr;
 use crate::standard::{RELA_BYTES, SHT_NOBITS, SHT_REL, SHT_RELA};
 use crate::tables::{
-    header, header_count, header_place, is_elsewhere, is_loaded, rela_count, rela_place,
-    relocation, symbol, symbol_count, width,
+    header, header_count, header_place, holds_entries, is_elsewhere, is_loaded, rela_count,
+    rela_place, relocation, symbol, symbol_count, width,
 };
 use wind_base::limits::RELOCATIONS;
 
@@ -24,8 +24,7 @@ fn is_right_table(bytes: &[u8], symtab: usize, i: usize) -> bool
 {
     let h = header(bytes, i);
     h.kind == SHT_RELA
-        && h.entry_size as usize == RELA_BYTES
-        && h.size as usize % RELA_BYTES == 0
+        && holds_entries(h, RELA_BYTES)
         && symtab < header_count(bytes)
         && h.link as usize == symtab
 }

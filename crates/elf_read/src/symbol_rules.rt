@@ -1,9 +1,10 @@
 //! The rules of the symbol table and of its symbols.
 
-ghost use Rattle.std.specs.Prelude.{◌≡◌, ◌-◌, ◌<◌, ◌^◌};
+ghost use Rattle.std.specs.Prelude.{◌≡◌, ◌-◌, ◌<◌, ◌^◌, ◌&&◌, ◌==◌, nat_lt};
+ghost use Rattle.elf_read.specs.Standard.{sht_strtab};
 ghost use Rattle.elf_read.specs.Rule.{each};
 ghost use Rattle.elf_read.specs.Rules.{is_right_symtab as is_right_symtab_at, symtab_rule, has_place as has_place_of, lies_inside as lies_inside_of, is_right_common as is_right_common_of, is_right_symbol as is_right_symbol_of, symbol_rule};
-ghost use Rattle.elf_read.specs.Tables.{header_count as header_count_of, symtab as symtab_of, symbol_count as symbol_count_of, symbol_names as symbol_names_of};
+ghost use Rattle.elf_read.specs.Tables.{header_count as header_count_of, header as header_at, symtab as symtab_of, symbol_count as symbol_count_of, symbol_names as symbol_names_of};
 
 use crate::entries::SymbolEntry;
 use crate::error::ElfErr;
@@ -12,10 +13,18 @@ use crate::standard::{
     SHN_ABS, SHN_COMMON, SHN_UNDEF, SHT_STRTAB, STB_WEAK, STT_COMMON, SYM_BYTES,
 };
 use crate::tables::{
-    has_name, header, header_count, header_place, is_loaded, is_symtab, symbol, symbol_count,
-    symbol_names, symbol_place,
+    has_name, header, header_count, header_place, holds_entries, is_loaded, is_symtab, symbol,
+    symbol_count, symbol_names, symbol_place,
 };
 use wind_base::limits::{SECTION_BYTES, SYMBOL_ENTRIES};
+
+// Whether section number `i` exists and is a string table.
+fn is_string_table(bytes: &[u8], i: usize) -> bool
+    requires { i < 2 ^ 32 }
+    ensures { result ≡ (nat_lt i (header_count_of bytes.now) && (header_at bytes.now i).kind == sht_strtab) }
+{
+    i < header_count(bytes) && header(bytes, i).kind == SHT_STRTAB
+}
 
 // Whether section number `i` is the first symbol table, and valid.
 #[tactic(auto, unfolding(crate::specs::Rules::is_right_symtab))]
@@ -24,12 +33,9 @@ fn is_right_symtab(bytes: &[u8], symtab: usize, i: usize) -> bool
     requires low { i < 2 ^ 16 }
     ensures { result ≡ is_right_symtab_at bytes.now i }
 {
-    let h = header(bytes, i);
     i == symtab
-        && h.entry_size as usize == SYM_BYTES
-        && h.size as usize % SYM_BYTES == 0
-        && (h.link as usize) < header_count(bytes)
-        && header(bytes, h.link as usize).kind == SHT_STRTAB
+        && holds_entries(header(bytes, i), SYM_BYTES)
+        && is_string_table(bytes, header(bytes, i).link as usize)
 }
 
 fn check_symtab(bytes: &[u8], symtab: usize, i: usize) -> Result<(), ElfErr>

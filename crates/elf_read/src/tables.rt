@@ -1,6 +1,6 @@
 //! The tables of a file.
 
-ghost use Rattle.std.specs.Prelude.{◌≡◌, ◌+◌, ◌*◌, ◌≤◌, ◌<◌, ◌^◌, length};
+ghost use Rattle.std.specs.Prelude.{◌≡◌, ◌+◌, ◌*◌, ◌%◌, ◌≤◌, ◌<◌, ◌^◌, ◌&&◌, ◌==◌, length};
 ghost use Rattle.elf_read.specs.Standard.{half_types, word_types};
 ghost use Rattle.elf_read.specs.Tables.{header_count as header_count_of, header_place as header_place_of, header as header_at, content as content_at, is_loaded as is_loaded_at, is_elsewhere as is_elsewhere_at, has_name as has_name_at, has_number as has_number_of, section_names as section_names_of, is_symtab as is_symtab_at, symtab as symtab_of, symbol_count as symbol_count_of, symbol_place as symbol_place_of, symbol as symbol_at, symbol_names as symbol_names_of, is_applied as is_applied_at, rela_count as rela_count_at, rela_place as rela_place_of, relocation as relocation_at, width as width_of};
 
@@ -79,6 +79,14 @@ pub(crate) fn section_names(bytes: &[u8]) -> &[u8]
     ensures { result.now ≡ section_names_of bytes.now }
 {
     content(bytes, half(bytes, E_SHSTRNDX) as usize)
+}
+
+/// Whether a section with this header holds whole entries of this size, in bytes.
+pub(crate) fn holds_entries(h: SectionHeader, bytes: usize) -> bool
+    requires { 0 < bytes }
+    ensures { result ≡ (h.entry_size == bytes && h.size % bytes == 0) }
+{
+    h.entry_size as usize == bytes && h.size as usize % bytes == 0
 }
 
 /// Whether header number `i` is that of a symbol table.

@@ -2,6 +2,8 @@
 use Rattle.std.specs.Prelude.{ℕ, zero, suc, ◌+◌, ◌-◌, ◌*◌, ◌%◌, Bool, false, ◌==◌, if◌then◌else◌, Option, Some, None}
 use Rattle.wind_base.specs.declared.regs.Regs.{Regs}
 use Rattle.ppc_core.specs.declared.trap.Trap.TheVariants as trap
+use Rattle.ppc_core.specs.declared.multiple.Direction.{Direction}
+use Rattle.ppc_core.specs.declared.multiple.Direction.TheVariants as direction
 use Rattle.ppc_core.specs.Words.{bit}
 use Rattle.ppc_core.specs.Fields.{rt}
 use Rattle.ppc_core.specs.Registers.{gpr, in_rs, so, with_gpr, with_cr_field, next}
@@ -42,6 +44,11 @@ module _ {B : Type 0} (m : Meaning B) where
   -- the registers RS to 31 are stored to the words from an address on
   unfoldable pub store_multiple_of : Regs → ℕ → B → ℕ → Outcome B
   store_multiple_of r w b at = let n = 32 - rt w in in_ram b at (4 * n) (Done (next r) (words_stored r b (rt w) at n))
+
+  -- the registers RT to 31 are loaded or stored
+  abbrev pub multiple_of : Direction → Regs → ℕ → B → ℕ → Outcome B
+  multiple_of direction.Load = load_multiple_of
+  multiple_of direction.Store = store_multiple_of
 
   -- the word at an address is loaded into RT, and the address is reserved
   unfoldable pub load_and_reserve_of : Regs → ℕ → B → ℕ → Outcome B

@@ -10,6 +10,7 @@ use crate::bus::Bus;
 use crate::condition::{in_ba, in_bb, invert, is_trapped};
 use crate::fields::{bd, bf, bfa, high_ui, li, ra, rb, rt, si, spr, ui};
 use crate::logic::{mask_of, rotate};
+use crate::multiple::{Direction, transfer};
 use crate::registers::{ca, in_ra, in_ra_or_0, in_rb, in_rs, set_ra};
 use crate::storage::{Address, Load, Store, indexed, load_rt, offset, store_rs};
 use crate::trap::Trap;
@@ -104,8 +105,8 @@ fn run<B: Bus>(row: Row, regs: &mut Regs, word: u32, bus: &mut B) -> Result<(), 
         Row::Lwbrx => return load_rt(Load::WordReversed, Address::Indexed, regs, word, bus),
         Row::Sthbrx => return store_rs(Store::HalfReversed, Address::Indexed, regs, word, bus),
         Row::Stwbrx => return store_rs(Store::WordReversed, Address::Indexed, regs, word, bus),
-        Row::Lmw => return multiple::load_multiple(offset(regs, word), regs, word, bus),
-        Row::Stmw => return multiple::store_multiple(offset(regs, word), regs, word, bus),
+        Row::Lmw => return transfer(Direction::Load, offset(regs, word), regs, word, bus),
+        Row::Stmw => return transfer(Direction::Store, offset(regs, word), regs, word, bus),
         // Sums.
         Row::Addi => {
             let value = arithmetic::sum_of(in_ra_or_0(regs, word), si(word), 0);

@@ -6,9 +6,18 @@ ghost use Rattle.ppc_core.specs.Outcomes.{Leaves, Outcome, Trapped};
 ghost use Rattle.ppc_core.specs.Multiples as multiple;
 
 use crate::bus::Bus;
-use crate::trap::Trap;
+use crate::trap::{Ending, Trap};
 use crate::{fields, registers};
 use wind_base::Regs;
+
+/// Which way the words of several registers go.
+#[derive(Clone, Copy, Debug)]
+pub enum Direction {
+    /// From memory to the registers.
+    Load,
+    /// From the registers to memory.
+    Store,
+}
 
 /// Loads `count` words into the registers from `target` on.
 fn load_words<B: Bus>(target: u32, at: u32, count: u32, regs: &mut Regs, bus: &mut B)
@@ -60,40 +69,27 @@ fn check_ram<B: Bus>(at: u32, n: u32, bus: &B) -> Result<(), Trap>
     Ok(())
 }
 
-/// Loads the registers RT to 31 from the words at `at` and after it.
-#[tactic(auto, unfolding(crate::specs::Multiples::load_multiple_of))]
-pub fn load_multiple<B: Bus>(at: u32, regs: &mut Regs, word: u32, bus: &mut B) -> Result<(), Trap>
-    ensures { Leaves (multiple.load_multiple_of B.meaning regs.old word (B.held bus.old) at)
+/// Loads or stores the registers RT to 31 from or to the words at `at` and after it.
+#[tactic(auto, unfolding(crate::specs::Multiples::load_multiple_of, crate::specs::Multiples::store_multiple_of))]
+#[inline(always)]
+pub fn transfer<B: Bus>(what: Direction, at: u32, regs: &mut Regs, word: u32, bus: &mut B) -> Ending
+    ensures { Leaves (multiple.multiple_of B.meaning what regs.old word (B.held bus.old) at)
         regs.old (B.held bus.old) regs.new (B.held bus.new) result }
 {
-    let target = fields::rt(word);
-    check_ram(at, 4 * (32 - target), bus)?;
-    load_words(target, at, 32 - target, regs, bus);
-    registers::step(regs);
-    Ok(())
-}
-
-/// Stores the registers RS to 31 to the words at `at` and after it.
-#[tactic(auto, unfolding(crate::specs::Multiples::store_multiple_of))]
-pub fn store_multiple<B: Bus>(at: u32, regs: &mut Regs, word: u32, bus: &mut B) -> Result<(), Trap>
-    ensures { Leaves (multiple.store_multiple_of B.meaning regs.old word (B.held bus.old) at)
-        regs.old (B.held bus.old) regs.new (B.held bus.new) result }
-{
-    let source = fields::rt(word);
-    check_ram(at, 4 * (32 - source), bus)?;
-    store_words(source, at, 32 - source, regs, bus);
+    let first = fields::rt(word);
+    let count = 32 - first;
+    check_ram(at, 4 * count, bus)?;
+    match what {
+        Direction::Load => load_words(first, at, count, regs, bus),
+        Direction::Store => store_words(first, at, count, regs, bus),
+    }
     registers::step(regs);
     Ok(())
 }
 
 /// Loads the word at `at` into RT, and reserves its address.
 #[tactic(auto, unfolding(crate::specs::Multiples::load_and_reserve_of))]
-pub fn load_and_reserve<B: Bus>(
-    at: u32,
-    regs: &mut Regs,
-    word: u32,
-    bus: &mut B,
-) -> Result<(), Trap>
+pub fn load_and_reserve<B: Bus>(at: u32, regs: &mut Regs, word: u32, bus: &mut B) -> Ending
     ensures { Leaves (multiple.load_and_reserve_of B.meaning regs.old word (B.held bus.old) at)
         regs.old (B.held bus.old) regs.new (B.held bus.new) result }
 {
@@ -119,12 +115,7 @@ fn reserves(reserve: Option<u32>, at: u32) -> bool
 
 /// Stores (RS) at `at` if that address is reserved. Afterwards no address is reserved.
 #[tactic(auto, unfolding(crate::specs::Multiples::store_conditional_of))]
-pub fn store_conditional<B: Bus>(
-    at: u32,
-    regs: &mut Regs,
-    word: u32,
-    bus: &mut B,
-) -> Result<(), Trap>
+pub fn store_conditional<B: Bus>(at: u32, regs: &mut Regs, word: u32, bus: &mut B) -> Ending
     ensures { Leaves (multiple.store_conditional_of B.meaning regs.old word (B.held bus.old) at)
         regs.old (B.held bus.old) regs.new (B.held bus.new) result }
 {

@@ -21,3 +21,6 @@ pub enum Trap {
     #[error("system call")]
     Sysc,
 }
+
+/// How the execution of an instruction ends: it is done, or it traps.
+pub(crate) type Ending = Result<(), Trap>;

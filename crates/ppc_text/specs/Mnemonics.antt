@@ -1,10 +1,12 @@
 -- The mnemonics: one line for each instruction and each short form, by their names in the Power ISA, Book I.
-use Rattle.std.specs.Prelude.{ℕ, ◌+◌, Bool, false, not, ◌==◌, nat_eq, if◌then◌else◌, List, [], ◌∷◌, ◌++◌, length, drop, slice_index_or, replicate, slice_set, Option, Some, None, codes}
-use Rattle.std.specs.List.{starts_with, take_while}
+use Rattle.std.specs.Prelude.{ℕ, ◌+◌, Bool, true, false, not, ◌==◌, nat_eq, if◌then◌else◌, List, [], ◌∷◌, ◌++◌, length, drop, slice_index_or, replicate, slice_set, Option, Some, None, codes}
+use Rattle.std.specs.List.{filter, starts_with, take_while}
 use Prim.Native.Char.{code}
 use Rattle.ppc_word.specs.Table.{number}
 use Rattle.ppc_word.specs.declared.row.Row.{Row}
 use Rattle.ppc_word.specs.declared.row.Row.TheVariants.{Twi, Mulli, Subfic, Cmpli, Cmpi, Addic, AddicDot, Addi, Addis, Bc, Sc, B, Rlwimi, Rlwinm, Rlwnm, Ori, Oris, Xori, Xoris, Andi, Andis, Lwz, Lwzu, Lbz, Lbzu, Stw, Stwu, Stb, Stbu, Lhz, Lhzu, Lha, Lhau, Sth, Sthu, Lmw, Stmw, Mcrf, Bclr, Bcctr, Crnor, Crandc, Crxor, Crnand, Crand, Creqv, Crorc, Cror, Isync, Cmp, Cmpl, Tw, Subfc, Subf, Addc, Add, Subfe, Adde, Subfze, Addze, Subfme, Addme, Neg, Mulhwu, Mulhw, Mullw, Divwu, Divw, And, Andc, Or, Orc, Xor, Eqv, Nor, Nand, Slw, Srw, Sraw, Srawi, Cntlzw, Extsb, Extsh, Mfcr, Mtcrf, Mcrxr, Mfspr, Mtspr, Lwzx, Lbzx, Lhzx, Lhax, Lwzux, Lbzux, Lhzux, Lhaux, Stwx, Stbx, Sthx, Stwux, Stbux, Sthux, Lwbrx, Lhbrx, Stwbrx, Sthbrx, Lwarx, Stwcx, Sync, Eieio}
+use Rattle.ppc_text.specs.declared.part.Part.{Part}
+use Rattle.ppc_text.specs.declared.part.Part.TheVariants.{Comma, Open, Close}
 use Rattle.ppc_text.specs.declared.part.Shape.{Shape}
 use Rattle.ppc_text.specs.declared.part.Shape.TheVariants.{Immediate, Shifted, LogicalImmediate, CompareImmediate, CompareUnsigned, Compare, TrapImmediate, Trap, Memory, Three, Two, LogicalThree, LogicalTwo, Shift, Rotate, RotateBy, Branch, BranchConditional, BranchRegister, Bits, Fields, Field, One, Mask, FromSpecial, ToSpecial, Nothing, LoadImmediate, LoadShifted, Move, Always, FromLink, ToLink}
 use Rattle.ppc_text.specs.declared.mnemonic.Endings.{Endings}
@@ -12,6 +14,7 @@ use Rattle.ppc_text.specs.declared.mnemonic.Endings.TheVariants.{Bare, Record, O
 use Rattle.ppc_text.specs.declared.mnemonic.Flags.{Flags}
 use Rattle.ppc_text.specs.declared.mnemonic.Spelling.{Spelling}
 use Rattle.ppc_text.specs.declared.mnemonic.Mnemonic.{Mnemonic}
+use Rattle.ppc_text.specs.Shapes.{parts_of}
 
 -- how an instruction is spelled: its name, its operands, and what may follow the name
 pub record Named : Type 0 where
@@ -71,15 +74,16 @@ abbrev pub spelling_in : List Named → List ℕ → Option Spelling
 spelling_in [] word = None
 spelling_in (m ∷ ms) word = spelled_or m (named m word) (spelling_in ms word)
 
--- the place of the first field after those of the operands, for the shapes with an ending
+-- the part fills a field of the form; the others are marks between the operands
+abbrev pub is_field : Part → Bool
+is_field Comma = false
+is_field Open = false
+is_field Close = false
+is_field part = true
+
+-- the place of the first field after those of the operands
 abbrev pub place_after : Shape → ℕ
-place_after Branch = 1
-place_after Two = 2
-place_after LogicalTwo = 2
-place_after BranchRegister = 2
-place_after Rotate = 5
-place_after RotateBy = 5
-place_after shape = 3
+place_after shape = length (filter is_field (parts_of shape))
 
 -- no letters may follow the name
 abbrev pub bare : ℕ → Endings

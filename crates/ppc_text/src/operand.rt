@@ -52,11 +52,8 @@ pub(crate) struct Operands<'a> {
 fn first_number(tokens: &[Token]) -> Option<u32>
     ensures { result ≡ first_number_lem tokens.now }
 {
-    let [first, ..] = tokens else {
-        return None;
-    };
-    match first {
-        Token::Number(number) => Some(*number),
+    match tokens.first() {
+        Some(Token::Number(number)) => Some(*number),
         _ => None,
     }
 }
@@ -189,11 +186,8 @@ pub(crate) fn tokens_after<'b, 'a>(tokens: &'b [Token<'a>], n: usize) -> &'b [To
 fn first_half(tokens: &[Token]) -> Option<Half>
     ensures { result ≡ first_half_lem tokens.now }
 {
-    let [first, ..] = tokens else {
-        return None;
-    };
-    match first {
-        Token::Part(half) => Some(*half),
+    match tokens.first() {
+        Some(Token::Part(half)) => Some(*half),
         _ => None,
     }
 }

@@ -46,6 +46,7 @@ operator_first {ts = ts} op u (up {n = n} {b = c} k m) h a =
     ]
 
 pub below_ten : (op : BinOp) → level_of op < 10
+unfolding level_of
 below_ten OrElse = lit< tt
 below_ten AndAlso = lit< tt
 below_ten Or = lit< tt

@@ -1,6 +1,7 @@
 //! The trees of tokens, by recursive descent.
 
-ghost use Rattle.std.specs.Prelude.{◌≡◌, ◌<◌, ◌≤◌, ◌∷◌, ◌==◌, Some, None, length, option_map};
+ghost use Rattle.std.specs.Prelude.{◌≡◌, ◌<◌, ◌≤◌, ◌∷◌, ◌==◌, suc, Some, None, IfOk, IfErr, length, option_map};
+ghost use Rattle.shell_parse.specs.declared.descent.ReadErr.TheVariants.{NoTree};
 ghost use Rattle.shell_parse.specs.Levels.{level_of, levels};
 ghost use Rattle.shell_parse.specs.Trees.{plain_tree, plain_arguments};
 ghost use Rattle.shell_parse.specs.Trees as trees;
@@ -133,6 +134,7 @@ fn with_first(first: Tree, mut rest: Vec<Tree>) -> Result<Vec<Tree>, ReadErr>
 }
 
 // The level of an operator: 0 binds most tightly.
+#[tactic(auto, unfolding(crate::specs::Levels::level_of))]
 fn level(op: BinOp) -> u32
     ensures { result ≡ level_of op }
 {
@@ -243,22 +245,28 @@ fn after_close<'a>(tokens: Tokens<'a>) -> Result<Tokens<'a>, ReadErr>
     }
 }
 
+// The depth of the parts of what has this depth; at depth 0 nothing is read.
+fn inner(depth: u32) -> Result<u32, ReadErr>
+    ensures some { IfOk result (λ n. depth ≡ suc n) }
+    ensures none { IfErr result (λ e. (e ≡ NoTree) × (depth ≡ 0)) }
+{
+    depth.checked_sub(1).ok_or(ReadErr::NoTree)
+}
+
 /// An expression.
 #[cycle(trees)]
 #[tactic(auto, unfolding(crate::specs::Descent::whole_at))]
 pub(crate) fn whole<'a>(alloc: Global, depth: u32, tokens: Tokens<'a>) -> Reads<'a, Tree>
     ensures { Gives (λ x. (plain_tree x.0, x.1.now)) result (whole_at depth tokens.now) }
 {
-    if depth == 0 {
-        return Err(ReadErr::NoTree);
-    }
+    let depth = inner(depth)?;
     if let Some((word, op, rest)) = name_assigned(tokens) {
-        let (right, rest) = whole(alloc, depth - 1, rest)?;
+        let (right, rest) = whole(alloc, depth, rest)?;
         return Ok((set_name(alloc, op, word, right)?, rest));
     }
     match after_mark(Mark::Star, tokens) {
-        Some(rest) => star(alloc, depth - 1, rest),
-        None => operands(alloc, depth - 1, LEVELS, tokens),
+        Some(rest) => star(alloc, depth, rest),
+        None => operands(alloc, depth, LEVELS, tokens),
     }
 }
 
@@ -268,16 +276,14 @@ pub(crate) fn whole<'a>(alloc: Global, depth: u32, tokens: Tokens<'a>) -> Reads<
 fn star<'a>(alloc: Global, depth: u32, tokens: Tokens<'a>) -> Reads<'a, Tree>
     ensures { Gives (λ x. (plain_tree x.0, x.1.now)) result (star_at depth tokens.now) }
 {
-    if depth == 0 {
-        return Err(ReadErr::NoTree);
-    }
-    let (operand, rest) = unary(alloc, depth - 1, tokens)?;
+    let depth = inner(depth)?;
+    let (operand, rest) = unary(alloc, depth, tokens)?;
     match assigned(rest) {
         Some((op, rest)) => {
-            let (right, rest) = whole(alloc, depth - 1, rest)?;
+            let (right, rest) = whole(alloc, depth, rest)?;
             Ok((set_word(alloc, op, operand, right)?, rest))
         }
-        None => climb(alloc, depth - 1, LEVELS, word_tree(alloc, operand)?, rest),
+        None => climb(alloc, depth, LEVELS, word_tree(alloc, operand)?, rest),
     }
 }
 
@@ -292,14 +298,12 @@ fn climb<'a>(
 ) -> Reads<'a, Tree>
     ensures { Gives (λ x. (plain_tree x.0, x.1.now)) result (climb_at depth count (plain_tree first) tokens.now) }
 {
-    if depth == 0 {
-        return Err(ReadErr::NoTree);
-    }
+    let depth = inner(depth)?;
     if count == 0 {
         return Ok((first, tokens));
     }
-    let (left, rest) = climb(alloc, depth - 1, count - 1, first, tokens)?;
-    more(alloc, depth - 1, count - 1, left, rest)
+    let (left, rest) = climb(alloc, depth, count - 1, first, tokens)?;
+    more(alloc, depth, count - 1, left, rest)
 }
 
 #[cycle(trees)]
@@ -307,14 +311,12 @@ fn climb<'a>(
 fn more<'a>(alloc: Global, depth: u32, at: u32, left: Tree, tokens: Tokens<'a>) -> Reads<'a, Tree>
     ensures { Gives (λ x. (plain_tree x.0, x.1.now)) result (more_at depth at (plain_tree left) tokens.now) }
 {
-    if depth == 0 {
-        return Err(ReadErr::NoTree);
-    }
+    let depth = inner(depth)?;
     match first_operator(at, tokens) {
         Some((op, rest)) => {
-            let (right, rest) = operands(alloc, depth - 1, at, rest)?;
+            let (right, rest) = operands(alloc, depth, at, rest)?;
             let left = join(alloc, op, left, right)?;
-            more(alloc, depth - 1, at, left, rest)
+            more(alloc, depth, at, left, rest)
         }
         None => Ok((left, tokens)),
     }
@@ -325,11 +327,9 @@ fn more<'a>(alloc: Global, depth: u32, at: u32, left: Tree, tokens: Tokens<'a>) 
 fn operands<'a>(alloc: Global, depth: u32, count: u32, tokens: Tokens<'a>) -> Reads<'a, Tree>
     ensures { Gives (λ x. (plain_tree x.0, x.1.now)) result (level_at depth count tokens.now) }
 {
-    if depth == 0 {
-        return Err(ReadErr::NoTree);
-    }
-    let (operand, rest) = unary(alloc, depth - 1, tokens)?;
-    climb(alloc, depth - 1, count, operand, rest)
+    let depth = inner(depth)?;
+    let (operand, rest) = unary(alloc, depth, tokens)?;
+    climb(alloc, depth, count, operand, rest)
 }
 
 #[cycle(trees)]
@@ -337,37 +337,35 @@ fn operands<'a>(alloc: Global, depth: u32, count: u32, tokens: Tokens<'a>) -> Re
 fn unary<'a>(alloc: Global, depth: u32, tokens: Tokens<'a>) -> Reads<'a, Tree>
     ensures { Gives (λ x. (plain_tree x.0, x.1.now)) result (unary_at depth tokens.now) }
 {
-    if depth == 0 {
-        return Err(ReadErr::NoTree);
-    }
+    let depth = inner(depth)?;
     let [first, rest @ ..] = tokens else {
         return Err(ReadErr::NoTree);
     };
     match first {
         Token::Operator(BinOp::Minus) => {
-            let (operand, rest) = unary(alloc, depth - 1, rest)?;
+            let (operand, rest) = unary(alloc, depth, rest)?;
             Ok((prefix(alloc, UnOp::Neg, operand)?, rest))
         }
         Token::Not => {
-            let (operand, rest) = unary(alloc, depth - 1, rest)?;
+            let (operand, rest) = unary(alloc, depth, rest)?;
             Ok((prefix(alloc, UnOp::Not, operand)?, rest))
         }
         Token::Com => {
-            let (operand, rest) = unary(alloc, depth - 1, rest)?;
+            let (operand, rest) = unary(alloc, depth, rest)?;
             Ok((prefix(alloc, UnOp::Com, operand)?, rest))
         }
         Token::Operator(BinOp::Times) => {
-            let (operand, rest) = unary(alloc, depth - 1, rest)?;
+            let (operand, rest) = unary(alloc, depth, rest)?;
             Ok((word_tree(alloc, operand)?, rest))
         }
         Token::Operator(BinOp::And) => address(alloc, rest),
         Token::Number(n) => Ok((Tree::Number(*n), rest)),
         Token::Str(text) => Ok((string_of(alloc, text)?, rest)),
-        Token::Name(word) => calls(alloc, depth - 1, named_tree(alloc, word)?, rest),
+        Token::Name(word) => calls(alloc, depth, named_tree(alloc, word)?, rest),
         Token::Open => {
-            let (callee, rest) = whole(alloc, depth - 1, rest)?;
+            let (callee, rest) = whole(alloc, depth, rest)?;
             let rest = after_close(rest)?;
-            calls(alloc, depth - 1, callee, rest)
+            calls(alloc, depth, callee, rest)
         }
         _ => Err(ReadErr::NoTree),
     }
@@ -378,14 +376,12 @@ fn unary<'a>(alloc: Global, depth: u32, tokens: Tokens<'a>) -> Reads<'a, Tree>
 fn calls<'a>(alloc: Global, depth: u32, callee: Tree, tokens: Tokens<'a>) -> Reads<'a, Tree>
     ensures { Gives (λ x. (plain_tree x.0, x.1.now)) result (calls_at depth (plain_tree callee) tokens.now) }
 {
-    if depth == 0 {
-        return Err(ReadErr::NoTree);
-    }
+    let depth = inner(depth)?;
     match after_mark(Mark::Open, tokens) {
         Some(rest) => {
-            let (arguments, rest) = args(alloc, depth - 1, rest)?;
+            let (arguments, rest) = args(alloc, depth, rest)?;
             let callee = call(alloc, callee, arguments)?;
-            calls(alloc, depth - 1, callee, rest)
+            calls(alloc, depth, callee, rest)
         }
         None => Ok((callee, tokens)),
     }
@@ -396,13 +392,11 @@ fn calls<'a>(alloc: Global, depth: u32, callee: Tree, tokens: Tokens<'a>) -> Rea
 fn args<'a>(alloc: Global, depth: u32, tokens: Tokens<'a>) -> Reads<'a, Vec<Tree>>
     ensures { Gives (λ x. (plain_arguments x.0.items, x.1.now)) result (args_at depth tokens.now) }
 {
-    if depth == 0 {
-        return Err(ReadErr::NoTree);
-    }
+    let depth = inner(depth)?;
     match after_mark(Mark::Close, tokens) {
         Some(rest) => Ok((Vec::new(alloc), rest)),
         None => {
-            let (arguments, rest) = listed(alloc, depth - 1, ARGUMENTS, tokens)?;
+            let (arguments, rest) = listed(alloc, depth, ARGUMENTS, tokens)?;
             let rest = after_close(rest)?;
             Ok((arguments, rest))
         }
@@ -419,13 +413,12 @@ pub(crate) fn listed<'a>(
 ) -> Reads<'a, Vec<Tree>>
     ensures { Gives (λ x. (plain_arguments x.0.items, x.1.now)) result (listed_at depth most tokens.now) }
 {
-    if depth == 0 || most == 0 {
-        return Err(ReadErr::NoTree);
-    }
-    let (argument, rest) = whole(alloc, depth - 1, tokens)?;
+    let depth = inner(depth)?;
+    let most = inner(most)?;
+    let (argument, rest) = whole(alloc, depth, tokens)?;
     match after_mark(Mark::Comma, rest) {
         Some(after) => {
-            let (arguments, after) = listed(alloc, depth - 1, most - 1, after)?;
+            let (arguments, after) = listed(alloc, depth, most, after)?;
             Ok((with_first(argument, arguments)?, after))
         }
         None => Ok((one_argument(alloc, argument)?, rest)),

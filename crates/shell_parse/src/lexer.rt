@@ -3,9 +3,8 @@
 ghost use Rattle.std.specs.Prelude.{◌≡◌, ◌<◌, ◌≤◌, ◌+◌, ◌∷◌, IfOk, length, drop, map};
 ghost use Rattle.std.specs.List.{prefix_len};
 ghost use Rattle.wind_base.specs.Limits.{longest_line};
-ghost use Rattle.source_literals.specs.Numbers.{number_of as number_of_lem};
 ghost use Rattle.shell_parse.specs.Ascii.{is_file_byte as is_file_byte_lem};
-ghost use Rattle.shell_parse.specs.Tokens.{number_token as number_token_lem, word_token as word_token_lem, word_at, file_at, any_at, redirected as redirected_lem, token_at, after_name as after_name_lem, spot_after as spot_after_lem, tokens_of, bare, columns};
+ghost use Rattle.shell_parse.specs.Tokens.{word_token as word_token_lem, word_at, file_at, any_at, redirected as redirected_lem, token_at, after_name as after_name_lem, spot_after as spot_after_lem, tokens_of, bare, columns};
 
 use crate::literal::{character, string_token};
 use crate::sign::sign;
@@ -37,24 +36,17 @@ fn file_len(bytes: &[u8]) -> usize
     bytes.iter().take_while(|byte| is_file_byte(**byte)).count()
 }
 
-fn number_token<'a>(word: &[u8]) -> Token<'a>
-    ensures { result ≡ number_token_lem (number_of_lem word.now) }
-{
-    match number_of(word) {
-        Some(n) => Token::Number(n),
-        None => Token::Unknown,
-    }
-}
-
 // The token of a word with this first byte.
 fn word_token<'a>(first: u8, word: &'a [u8]) -> Token<'a>
     requires { length word.now ≤ longest_line }
     ensures { result ≡ word_token_lem first word.now }
 {
-    if first.is_ascii_digit() {
-        number_token(word)
-    } else {
-        Token::Name(Word { kept: word })
+    if !first.is_ascii_digit() {
+        return Token::Name(Word { kept: word });
+    }
+    match number_of(word) {
+        Some(n) => Token::Number(n),
+        None => Token::Unknown,
     }
 }
 
