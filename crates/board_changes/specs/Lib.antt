@@ -1,4 +1,5 @@
 pub mod Views
+pub mod Listed
 pub mod Tasks
 pub mod Watchdogs
 pub mod Modules

@@ -1,12 +1,13 @@
 //! The changes of tasks.
 
 ghost use Rattle.std.specs.Prelude.{◌≡◌, ◌++◌, OnOk, option_copied};
+ghost use Rattle.board_changes.specs.Listed.{listed};
 ghost use Rattle.board_changes.specs.Tasks.{found as found_lem, suspension_changes, priority_changes, kept_changes, changes_of, live_changes, deletion, deletions, task_changes};
 
 use crate::change::Change;
-use crate::list::add;
-use crate::view::TaskView;
-use crate::waits::add_wait_change;
+use crate::list::{add, add_if};
+use crate::view::{TaskView, Views};
+use crate::waits::wait_change;
 use id_table::Ident;
 use wind_base::NoMemory;
 
@@ -17,40 +18,30 @@ fn found(views: &[TaskView], id: Ident) -> Option<&TaskView>
     views.iter().find(|view| view.id == id)
 }
 
-// Adds the beginning or the end of a suspension.
-fn add_suspension_change(
-    list: &mut Vec<Change>,
-    who: Ident,
-    before: bool,
-    after: bool,
-) -> Result<(), NoMemory>
-    ensures { OnOk result (list.new.items ≡ list.old.items ++ suspension_changes who before after) }
+// The beginning or the end of a suspension.
+fn suspension_change(who: Ident, before: bool, after: bool) -> Option<Change>
+    ensures { listed result ≡ suspension_changes who before after }
 {
     match (before, after) {
-        (false, true) => add(list, Change::Suspended { who }),
-        (true, false) => add(list, Change::Resumed { who }),
-        (false, false) | (true, true) => Ok(()),
+        (false, true) => Some(Change::Suspended { who }),
+        (true, false) => Some(Change::Resumed { who }),
+        (false, false) | (true, true) => None,
     }
 }
 
-// Adds the change of a task's priority. It is by inheritance if the normal priority is the same.
-fn add_priority_change(
-    list: &mut Vec<Change>,
-    before: &TaskView,
-    after: &TaskView,
-) -> Result<(), NoMemory>
-    ensures { OnOk result (list.new.items ≡ list.old.items ++ priority_changes before.now after.now) }
+// The change of a task's priority. It is by inheritance if the normal priority is the same.
+fn priority_change(before: &TaskView, after: &TaskView) -> Option<Change>
+    ensures { listed result ≡ priority_changes before.now after.now }
 {
     if before.pri == after.pri {
-        return Ok(());
+        return None;
     }
-    let change = Change::Priority {
+    Some(Change::Priority {
         who: after.id,
         from: before.pri,
         to: after.pri,
         inherited: before.normal == after.normal,
-    };
-    add(list, change)
+    })
 }
 
 // Adds the changes of a task that lives before and after.
@@ -62,9 +53,10 @@ fn add_kept_changes(
 ) -> Result<(), NoMemory>
     ensures { OnOk result (list.new.items ≡ list.old.items ++ kept_changes results before.now after.now) }
 {
-    add_wait_change(list, results, before, after)?;
-    add_suspension_change(list, after.id, before.suspended, after.suspended)?;
-    add_priority_change(list, before, after)
+    add_if(list, wait_change(results, before, after))?;
+    let suspension = suspension_change(after.id, before.suspended, after.suspended);
+    add_if(list, suspension)?;
+    add_if(list, priority_change(before, after))
 }
 
 // Adds the changes of a task that lives after a step.
@@ -90,44 +82,33 @@ fn add_changes_of(
 }
 
 // Adds the changes of the tasks that live after a step.
-fn add_live_changes(
-    list: &mut Vec<Change>,
-    results: bool,
-    before: &[TaskView],
-    after: &[TaskView],
-) -> Result<(), NoMemory>
-    ensures { OnOk result (list.new.items ≡ list.old.items ++ live_changes results before.now after.now) }
+fn add_live(list: &mut Vec<Change>, results: bool, views: &Views<TaskView>) -> Result<(), NoMemory>
+    ensures { OnOk result (list.new.items
+        ≡ list.old.items ++ live_changes results views.now.before.now views.now.after.now) }
 {
-    for view in after {
-        add_changes_of(list, results, found(before, view.id), view)?;
+    for view in views.after {
+        add_changes_of(list, results, found(views.before, view.id), view)?;
     }
     Ok(())
 }
 
-// Adds that a task is gone, if it isn't found.
-fn add_deletion(
-    list: &mut Vec<Change>,
-    who: Ident,
-    after: Option<&TaskView>,
-) -> Result<(), NoMemory>
-    ensures { OnOk result (list.new.items ≡ list.old.items ++ deletion who (option_copied after.entry)) }
+// That a task is gone, if it isn't found.
+fn deletion_change(who: Ident, after: Option<&TaskView>) -> Option<Change>
+    ensures { listed result ≡ deletion who (option_copied after.entry) }
 {
     match after {
-        Some(_) => Ok(()),
-        None => add(list, Change::Deleted { who }),
+        Some(_) => None,
+        None => Some(Change::Deleted { who }),
     }
 }
 
 // Adds the tasks that are gone.
-fn add_deletions(
-    list: &mut Vec<Change>,
-    before: &[TaskView],
-    after: &[TaskView],
-) -> Result<(), NoMemory>
-    ensures { OnOk result (list.new.items ≡ list.old.items ++ deletions after.now before.now) }
+fn add_deletions(list: &mut Vec<Change>, views: &Views<TaskView>) -> Result<(), NoMemory>
+    ensures { OnOk result (list.new.items
+        ≡ list.old.items ++ deletions views.now.after.now views.now.before.now) }
 {
-    for view in before {
-        add_deletion(list, view.id, found(after, view.id))?;
+    for view in views.before {
+        add_if(list, deletion_change(view.id, found(views.after, view.id)))?;
     }
     Ok(())
 }
@@ -142,6 +123,7 @@ pub fn add_task_changes(
 ) -> Result<(), NoMemory>
     ensures { OnOk result (list.new.items ≡ list.old.items ++ task_changes results before.now after.now) }
 {
-    add_live_changes(list, results, before, after)?;
-    add_deletions(list, before, after)
+    let views = Views { before, after };
+    add_live(list, results, &views)?;
+    add_deletions(list, &views)
 }

@@ -32,6 +32,15 @@ pub struct TaskView {
     pub errno: u32,
 }
 
+/// Views before a step, and after it.
+#[derive(Drop)]
+pub(crate) struct Views<'a, V> {
+    /// Those before it.
+    pub(crate) before: &'a [V],
+    /// Those after it.
+    pub(crate) after: &'a [V],
+}
+
 /// What a trace sees of a watchdog.
 #[derive(Clone, Copy)]
 pub struct WatchdogView {

@@ -1,14 +1,13 @@
 //! How a task's wait or sleep begins and ends.
 
-ghost use Rattle.std.specs.Prelude.{◌≡◌, ◌++◌, OnOk};
+ghost use Rattle.std.specs.Prelude.{◌≡◌};
+ghost use Rattle.board_changes.specs.Listed.{listed};
 ghost use Rattle.board_changes.specs.Tasks.{begins as begins_lem, ends as ends_lem, has_result as has_result_lem, sleep_changes, wait_changes};
 
 use crate::awaited::Awaited;
 use crate::change::Change;
-use crate::list::add;
 use crate::view::TaskView;
 use id_table::Ident;
-use wind_base::NoMemory;
 use wind_base::words::ERROR;
 
 // The task begins to wait for something.
@@ -55,41 +54,31 @@ fn ends(results: bool, after: &TaskView, object: Awaited) -> Change
     }
 }
 
-// Adds the beginning or the end of a sleep.
-fn add_sleep_change(
-    list: &mut Vec<Change>,
-    who: Ident,
-    before: Option<u64>,
-    after: Option<u64>,
-) -> Result<(), NoMemory>
-    ensures { OnOk result (list.new.items ≡ list.old.items ++ sleep_changes who before after) }
+// The beginning or the end of a sleep.
+fn sleep_change(who: Ident, before: Option<u64>, after: Option<u64>) -> Option<Change>
+    ensures { listed result ≡ sleep_changes who before after }
 {
     match (before, after) {
-        (None, None) => Ok(()),
-        (None, Some(until)) => add(list, Change::Sleeps { who, until }),
-        (Some(_), None) => add(list, Change::Wakes { who }),
+        (None, None) => None,
+        (None, Some(until)) => Some(Change::Sleeps { who, until }),
+        (Some(_), None) => Some(Change::Wakes { who }),
         (Some(old), Some(until)) => {
             if old == until {
-                return Ok(());
+                return None;
             }
-            add(list, Change::Sleeps { who, until })
+            Some(Change::Sleeps { who, until })
         }
     }
 }
 
-/// Adds the beginning or the end of a task's wait or sleep.
-pub(crate) fn add_wait_change(
-    list: &mut Vec<Change>,
-    results: bool,
-    before: &TaskView,
-    after: &TaskView,
-) -> Result<(), NoMemory>
-    ensures { OnOk result (list.new.items ≡ list.old.items ++ wait_changes results before.now after.now) }
+/// The beginning or the end of a task's wait or sleep.
+pub(crate) fn wait_change(results: bool, before: &TaskView, after: &TaskView) -> Option<Change>
+    ensures { listed result ≡ wait_changes results before.now after.now }
 {
     match (before.wait, after.wait) {
-        (None, None) => add_sleep_change(list, after.id, before.wake, after.wake),
-        (None, Some(object)) => add(list, begins(after, object)),
-        (Some(object), None) => add(list, ends(results, after, object)),
-        (Some(_), Some(_)) => Ok(()),
+        (None, None) => sleep_change(after.id, before.wake, after.wake),
+        (None, Some(object)) => Some(begins(after, object)),
+        (Some(object), None) => Some(ends(results, after, object)),
+        (Some(_), Some(_)) => None,
     }
 }

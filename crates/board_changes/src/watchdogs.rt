@@ -1,11 +1,12 @@
 //! The changes of watchdogs.
 
 ghost use Rattle.std.specs.Prelude.{◌≡◌, ◌++◌, OnOk, option_copied};
+ghost use Rattle.board_changes.specs.Listed.{listed};
 ghost use Rattle.board_changes.specs.Watchdogs.{found as found_lem, timer_in as timer_in_lem, timer_changes, live_changes, gone_change, gone_changes, watchdog_changes, stopped as stopped_lem};
 
 use crate::change::Change;
-use crate::list::add;
-use crate::view::WatchdogView;
+use crate::list::add_if;
+use crate::view::{Views, WatchdogView};
 use id_table::Ident;
 use isr_watch::Timer;
 use wind_base::NoMemory;
@@ -38,82 +39,63 @@ fn stopped(tick: u64, watchdog: Ident, timer: Timer) -> Change
     }
 }
 
-// Adds the start or the end of a watchdog's timer.
-fn add_timer_change(
-    list: &mut Vec<Change>,
+// The start or the end of a watchdog's timer.
+fn timer_change(
     tick: u64,
     watchdog: Ident,
     before: Option<Timer>,
     after: Option<Timer>,
-) -> Result<(), NoMemory>
-    ensures { OnOk result (list.new.items ≡ list.old.items ++ timer_changes tick watchdog before after) }
+) -> Option<Change>
+    ensures { listed result ≡ timer_changes tick watchdog before after }
 {
     match (before, after) {
-        (None, None) => Ok(()),
-        (None, Some(timer)) => add(
-            list,
-            Change::Started {
-                watchdog,
-                due: timer.due,
-            },
-        ),
-        (Some(timer), None) => add(list, stopped(tick, watchdog, timer)),
+        (None, None) => None,
+        (None, Some(timer)) => Some(Change::Started {
+            watchdog,
+            due: timer.due,
+        }),
+        (Some(timer), None) => Some(stopped(tick, watchdog, timer)),
         (Some(old), Some(timer)) => {
             if old.start == timer.start {
-                return Ok(());
+                return None;
             }
-            add(
-                list,
-                Change::Started {
-                    watchdog,
-                    due: timer.due,
-                },
-            )
+            Some(Change::Started {
+                watchdog,
+                due: timer.due,
+            })
         }
     }
 }
 
 // Adds the changes of the watchdogs that are there after a step.
-fn add_live_changes(
-    list: &mut Vec<Change>,
-    tick: u64,
-    before: &[WatchdogView],
-    after: &[WatchdogView],
-) -> Result<(), NoMemory>
-    ensures { OnOk result (list.new.items ≡ list.old.items ++ live_changes tick before.now after.now) }
+fn add_live(list: &mut Vec<Change>, tick: u64, views: &Views<WatchdogView>) -> Result<(), NoMemory>
+    ensures { OnOk result (list.new.items
+        ≡ list.old.items ++ live_changes tick views.now.before.now views.now.after.now) }
 {
-    for view in after {
-        add_timer_change(list, tick, view.id, timer_in(before, view.id), view.timer)?;
+    for view in views.after {
+        let before = timer_in(views.before, view.id);
+        add_if(list, timer_change(tick, view.id, before, view.timer))?;
     }
     Ok(())
 }
 
-// Adds the end of the timer of a watchdog, if it isn't found.
-fn add_gone_change(
-    list: &mut Vec<Change>,
-    tick: u64,
-    before: WatchdogView,
-    after: Option<&WatchdogView>,
-) -> Result<(), NoMemory>
-    ensures { OnOk result (list.new.items ≡ list.old.items ++ gone_change tick before (option_copied after.entry)) }
+// The end of the timer of a watchdog, if it isn't found.
+fn end_change(tick: u64, before: WatchdogView, after: Option<&WatchdogView>) -> Option<Change>
+    ensures { listed result ≡ gone_change tick before (option_copied after.entry) }
 {
     match after {
-        Some(_) => Ok(()),
-        None => add_timer_change(list, tick, before.id, before.timer, None),
+        Some(_) => None,
+        None => timer_change(tick, before.id, before.timer, None),
     }
 }
 
 // Adds the ends of the timers of watchdogs that are gone.
-fn add_gone_changes(
-    list: &mut Vec<Change>,
-    tick: u64,
-    before: &[WatchdogView],
-    after: &[WatchdogView],
-) -> Result<(), NoMemory>
-    ensures { OnOk result (list.new.items ≡ list.old.items ++ gone_changes tick after.now before.now) }
+fn add_ends(list: &mut Vec<Change>, tick: u64, views: &Views<WatchdogView>) -> Result<(), NoMemory>
+    ensures { OnOk result (list.new.items
+        ≡ list.old.items ++ gone_changes tick views.now.after.now views.now.before.now) }
 {
-    for view in before {
-        add_gone_change(list, tick, *view, found(after, view.id))?;
+    for view in views.before {
+        add_if(list, end_change(tick, *view, found(views.after, view.id)))?;
     }
     Ok(())
 }
@@ -128,6 +110,7 @@ pub fn add_watchdog_changes(
 ) -> Result<(), NoMemory>
     ensures { OnOk result (list.new.items ≡ list.old.items ++ watchdog_changes tick before.now after.now) }
 {
-    add_live_changes(list, tick, before, after)?;
-    add_gone_changes(list, tick, before, after)
+    let views = Views { before, after };
+    add_live(list, tick, &views)?;
+    add_ends(list, tick, &views)
 }

@@ -1,17 +1,11 @@
 -- What a task does at a moment.
 use Rattle.std.specs.Prelude.{ℕ, Bool, true, false, not, ◌==◌, ◌&&◌, Option, None, Some, is_some, if◌then◌else◌}
+use denote.Enum.Declared.{tag_of}
 use Rattle.board_changes.specs.declared.view.TaskView.{TaskView}
+use Rattle.task_spans.specs.contracts.look.Standing.{the_type}
 use Rattle.task_spans.specs.declared.look.Look.{Look}
 use Rattle.task_spans.specs.declared.look.Standing.{Standing}
 use Rattle.task_spans.specs.declared.look.Standing.TheVariants.{Running, Ready, Waiting, Sleeping, Suspended}
-
--- a number for each standing
-abbrev pub standing_number : Standing → ℕ
-standing_number Running = 0
-standing_number Ready = 1
-standing_number Waiting = 2
-standing_number Sleeping = 3
-standing_number Suspended = 4
 
 -- what a task does: it is suspended; else it waits, or sleeps; else it runs, or is ready
 abbrev pub standing_of : Bool → TaskView → Standing
@@ -36,6 +30,10 @@ abbrev pub same_flag : Bool → Bool → Bool
 same_flag true b = b
 same_flag false b = not b
 
+-- two standings are the same
+abbrev pub same_standing : Standing → Standing → Bool
+same_standing s t = tag_of the_type s == tag_of the_type t
+
 -- two looks of a task are the same
 abbrev pub is_same : Look → Look → Bool
-is_same a b = standing_number a.standing == standing_number b.standing && same_flag a.inherits b.inherits
+is_same a b = same_standing a.standing b.standing && same_flag a.inherits b.inherits

@@ -1,5 +1,5 @@
 -- The spans of a run: for each task the times from and to which it has the same look.
-use Rattle.std.specs.Prelude.{ℕ, ◌==◌, ◌<◌, nat_lt, if◌then◌else◌, List, [], ◌∷◌, ◌++◌, map, Option, None, Some, find}
+use Rattle.std.specs.Prelude.{ℕ, ◌==◌, nat_lt, if◌then◌else◌, List, [], ◌∷◌, ◌++◌, map, Option, None, Some, find}
 use Rattle.board_changes.specs.declared.view.TaskView.{TaskView}
 use Rattle.task_spans.specs.Looks.{look_of, is_same}
 use Rattle.task_spans.specs.declared.look.Look.{Look}

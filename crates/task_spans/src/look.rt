@@ -1,7 +1,7 @@
 //! What a task does at a moment.
 
 ghost use Rattle.std.specs.Prelude.{◌≡◌};
-ghost use Rattle.task_spans.specs.Looks.{is_same as is_same_lem, look_of as look_of_lem, standing_number, standing_of as standing_of_lem};
+ghost use Rattle.task_spans.specs.Looks.{is_same as is_same_lem, look_of as look_of_lem, standing_of as standing_of_lem};
 
 use board_changes::{Awaited, TaskView};
 use id_table::Ident;
@@ -30,21 +30,6 @@ pub struct Look {
     pub object: Option<Awaited>,
     /// Whether its priority differs from its normal one.
     pub inherits: bool,
-}
-
-impl Standing {
-    // A number for each.
-    fn number(self) -> u8
-        ensures { result ≡ standing_number self }
-    {
-        match self {
-            Standing::Running => 0,
-            Standing::Ready => 1,
-            Standing::Waiting => 2,
-            Standing::Sleeping => 3,
-            Standing::Suspended => 4,
-        }
-    }
 }
 
 // What a task does, given whether it is the one that runs.
@@ -87,5 +72,5 @@ pub fn look_of(runner: Option<Ident>, view: &TaskView) -> Look
 pub(crate) fn is_same(one: Look, other: Look) -> bool
     ensures { result ≡ is_same_lem one other }
 {
-    one.standing.number() == other.standing.number() && one.inherits == other.inherits
+    one.standing as u8 == other.standing as u8 && one.inherits == other.inherits
 }

@@ -51,10 +51,11 @@ impl Model for Spans {
     ghost view = { λ s. record { going = s.going.items; done = s.done.items } };
 }
 
-// A moment of the run: board time, and the task that runs, if one does.
+// A moment of the run: board time, the live tasks, and the task that runs, if one does.
 #[derive(Clone, Copy)]
-struct Moment {
+struct Moment<'a> {
     time: u128,
+    views: &'a [TaskView],
     runner: Option<Ident>,
 }
 
@@ -95,17 +96,12 @@ fn going_after(going: &[Open], moment: &Moment, view: &TaskView) -> Open
 }
 
 // Collects the spans of the tasks after a moment.
-fn collect_going(
-    next: &mut Vec<Open>,
-    going: &[Open],
-    moment: &Moment,
-    views: &[TaskView],
-) -> Result<(), NoMemory>
+fn collect_going(next: &mut Vec<Open>, going: &[Open], moment: &Moment) -> Result<(), NoMemory>
     requires { next.old.items ≡ [] }
-    ensures { OnOk result
-        (next.new.items ≡ map (going_after_lem going.now moment.now.time moment.now.runner) views.now) }
+    ensures { OnOk result (next.new.items
+        ≡ map (going_after_lem going.now moment.now.time moment.now.runner) moment.now.views.now) }
 {
-    for view in views {
+    for view in moment.views {
         if next.push(going_after(going, moment, view)).is_err() {
             return Err(NoMemory);
         }
@@ -149,17 +145,12 @@ fn add_end(
 }
 
 // Adds the spans that end at a moment.
-fn add_ends(
-    done: &mut Vec<Span>,
-    views: &[TaskView],
-    moment: &Moment,
-    going: &[Open],
-) -> Result<(), NoMemory>
+fn add_ends(done: &mut Vec<Span>, moment: &Moment, going: &[Open]) -> Result<(), NoMemory>
     ensures { OnOk result (done.new.items
-        ≡ done.old.items ++ all_ends views.now moment.now.runner moment.now.time going.now) }
+        ≡ done.old.items ++ all_ends moment.now.views.now moment.now.runner moment.now.time going.now) }
 {
     for span in going {
-        add_end(done, view_of(views, span.who), moment, span)?;
+        add_end(done, view_of(moment.views, span.who), moment, span)?;
     }
     Ok(())
 }
@@ -195,10 +186,14 @@ impl Spans {
     ) -> Result<(), NoMemory>
         ensures { OnOk result (self.new ≡ observed self.old time views.now runner) }
     {
-        let moment = Moment { time, runner };
+        let moment = Moment {
+            time,
+            views,
+            runner,
+        };
         self.next.clear();
-        collect_going(&mut self.next, &self.going, &moment, views)?;
-        add_ends(&mut self.done, views, &moment, &self.going)?;
+        collect_going(&mut self.next, &self.going, &moment)?;
+        add_ends(&mut self.done, &moment, &self.going)?;
         mem::swap(&mut self.going, &mut self.next);
         Ok(())
     }

@@ -212,27 +212,17 @@ fn keep(bucket: &mut Bucket, span: &Span) {
     bucket.to = span.to;
 }
 
-// Adds the bar of the spans that were kept, if the next one begins on another pixel.
-fn flush_before(
-    text: &mut Vec<u8>,
-    row: &Row<'_>,
-    bucket: &mut Bucket,
-    span: &Span,
-) -> Result<(), NoMemory> {
-    if is_near(row.scale, bucket, span) {
-        return Ok(());
-    }
-    flush(text, row, bucket)
-}
-
-// Adds a span of the row, or keeps it if it is less than a pixel.
+// Adds a span of the row, or keeps it if it is less than a pixel. If it begins on another pixel than
+// the spans that were kept, their bar comes first.
 fn add_span(
     text: &mut Vec<u8>,
     row: &Row<'_>,
     bucket: &mut Bucket,
     span: &Span,
 ) -> Result<(), NoMemory> {
-    flush_before(text, row, bucket, span)?;
+    if !is_near(row.scale, bucket, span) {
+        flush(text, row, bucket)?;
+    }
     if row.scale.place(span.to) >= row.scale.place(span.from) + 100 {
         flush(text, row, bucket)?;
         return add_bar(text, row, span);

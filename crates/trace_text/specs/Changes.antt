@@ -1,5 +1,5 @@
 -- The texts of changes. They are this project's own.
-use Rattle.std.specs.Prelude.{ℕ, Bool, true, false, if◌then◌else◌, List, [], ◌++◌, Option, None, Some, codes}
+use Rattle.std.specs.Prelude.{ℕ, Bool, true, false, List, [], ◌++◌, Option, None, Some, codes}
 use Rattle.std.specs.Fmt.{decimal}
 use Rattle.wind_base.specs.Errno.{errno_name}
 use Rattle.wind_base.specs.Limits.{error_word}

@@ -1,5 +1,5 @@
 -- The last line: how the run ended, and why nothing runs.
-use Rattle.std.specs.Prelude.{ℕ, Bool, true, false, if◌then◌else◌, List, [], ◌∷◌, ◌++◌, Option, None, Some, codes}
+use Rattle.std.specs.Prelude.{ℕ, Bool, true, false, List, [], ◌∷◌, ◌++◌, Option, None, Some, codes}
 use Rattle.std.specs.Fmt.{decimal}
 use Rattle.board_changes.specs.declared.awaited.Awaited.{Awaited}
 use Rattle.board_changes.specs.declared.view.TaskView.{TaskView}

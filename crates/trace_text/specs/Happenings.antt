@@ -1,5 +1,5 @@
 -- The texts of happenings. They are this project's own.
-use Rattle.std.specs.Prelude.{ℕ, ◌==◌, if◌then◌else◌, List, [], ◌++◌, Option, None, Some, codes}
+use Rattle.std.specs.Prelude.{ℕ, ◌==◌, if◌then◌else◌, List, ◌++◌, Option, None, Some, codes}
 use Rattle.std.specs.Fmt.{decimal}
 use Rattle.kernel_world.specs.CallWords.{gate_of}
 use Rattle.kernel_world.specs.declared.call.Call.{Call}

@@ -3,23 +3,12 @@ use Rattle.std.specs.Prelude.{ℕ, ◌-◌, List, [], ◌∷◌, ◌++◌, take,
 use Rattle.std.specs.Fmt.{decimal}
 use Rattle.board_trace.specs.Runs.{Line}
 use Rattle.board_trace.specs.Subjects.{subject_of}
-use Rattle.board_trace.specs.declared.happening.Happening.{Happening}
 use Rattle.board_trace.specs.declared.who.Subject.{Subject}
 use Rattle.board_trace.specs.declared.who.Subject.TheVariants as subjects
 use Rattle.trace_text.specs.Happenings.{happening_text}
 use Rattle.trace_text.specs.Pieces.{escaped}
 
 -- ---- the columns
--- the widths of the columns in bytes
-abbrev pub time_bytes : ℕ
-time_bytes = 10
-
-abbrev pub step_bytes : ℕ
-step_bytes = 9
-
-abbrev pub who_bytes : ℕ
-who_bytes = 16
-
 abbrev pub blanks : ℕ → List ℕ
 blanks n = replicate n 32
 
@@ -37,8 +26,9 @@ subject_text subjects.Board name = codes "board"
 subject_text subjects.Interrupt name = codes "interrupt"
 subject_text (subjects.Task id) name = decimal id ++ (codes " " ++ escaped name)
 
+-- the columns before a happening: board time in 10 bytes, the step in 9, and who it is told of in 16
 abbrev pub columns : ℕ → ℕ → Subject → List ℕ → List ℕ
-columns time step who name = right time_bytes time ++ (right step_bytes step ++ (blanks 1 ++ left who_bytes (subject_text who name)))
+columns time step who name = right 10 time ++ (right 9 step ++ (blanks 1 ++ left 16 (subject_text who name)))
 
 -- the text of a line
 abbrev pub line_text : Line → List ℕ

@@ -4,4 +4,4 @@ use Rattle.board_changes.proofs.tasks.add_deletions.Given as goal
 
 abbrev pub invariant-loop-view : goal.invariant-loop-view
 invariant-loop-view l =
-    l.list.items ++ deletions l.after (drop l.view-index l.before) ≡ l.initial.list.items ++ deletions l.after l.before
+    l.list.items ++ deletions l.views.after.now (drop l.view-index l.views.before.now) ≡ l.initial.list.items ++ deletions l.views.after.now l.views.before.now

@@ -1,7 +1,0 @@
-use Rattle.std.proofs.Common.{◌≡◌, ◌++◌, drop}
-use Rattle.board_changes.specs.Tasks.{live_changes}
-use Rattle.board_changes.proofs.tasks.add_live_changes.Given as goal
-
-abbrev pub invariant-loop-view : goal.invariant-loop-view
-invariant-loop-view l =
-    l.list.items ++ live_changes l.results l.before (drop l.view-index l.after) ≡ l.initial.list.items ++ live_changes l.results l.before l.after

@@ -1,7 +1,0 @@
-use Rattle.std.proofs.Common.{◌≡◌, ◌++◌, drop}
-use Rattle.board_changes.specs.Watchdogs.{live_changes}
-use Rattle.board_changes.proofs.watchdogs.add_live_changes.Given as goal
-
-abbrev pub invariant-loop-view : goal.invariant-loop-view
-invariant-loop-view l =
-    l.list.items ++ live_changes l.tick l.before (drop l.view-index l.after) ≡ l.initial.list.items ++ live_changes l.tick l.before l.after
