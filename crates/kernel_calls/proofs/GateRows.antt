@@ -6,9 +6,11 @@ use Rattle.task_block.specs.declared.task.Task.{Task as TaskRecord}
 use Rattle.board_mem.specs.Memory.{string_at}
 use Rattle.wind_core.specs.State.{KernState, task_named}
 use Rattle.msg_queue.specs.State.{scene}
+use Rattle.isr_watch.specs.State.{WatchState}
 use Rattle.kernel_world.specs.State.{WorldState}
 use Rattle.object_calls.specs.QueueRows.{QueueRow, row_of as queue_row, create_row}
-use Rattle.kernel_calls.specs.Calls.{with_reply, of_kern, of_queues, row}
+use Rattle.object_calls.specs.WatchRows.{WatchRow, row_of as watch_row}
+use Rattle.kernel_calls.specs.Calls.{with_reply, of_kern, of_queues, of_watch, row}
 use Rattle.task_calls.specs.TaskRows.{name_row, found_row}
 use Rattle.kernel_world.specs.declared.objects.Objects.{Objects}
 use Rattle.kernel_world.specs.declared.actor.Actor.{Actor}
@@ -34,3 +36,8 @@ named c w a name reply is same = ap (λ t. with_reply w t) same ∙ still (strin
     still None = refl
     still (Some text) =
         elim (task_named w.kern.tasks text) as (λ (o : Option TaskRecord). with_reply w (found_row w.kern o).reply ≡ of_kern w (found_row w.kern o)) [ None ↦ refl | Some t ↦ refl ]
+
+-- ---- wdCancel and wdDelete: only the watchdogs change
+pub watched : (c d : Call) (w : WorldState) (a : Actor) (s : WatchState) (reply : Reply) (x : WatchRow) → c ≡ d → watch_row w.kern s reply ≡ x → of_watch w x ≡ row d w a
+    → with_reply (record w { watch = s }) reply ≡ row c w a
+watched c d w a s reply x is same makes = ap (λ (y : WatchRow). of_watch w y) same ∙ makes ∙ ap (λ e. row e w a) (sym is)

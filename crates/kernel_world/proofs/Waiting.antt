@@ -13,13 +13,13 @@ use Rattle.wind_core.specs.State.{KernState, IsKern, task_id, task_of}
 use Rattle.wind_core.specs.Orders.{same_place, waiters}
 use Rattle.wind_core.specs.Moves.{renewed, change_task, renew_task, move_task, new_task, remove, wake_at, pended, pend, delayed, released, release, answered, end_wait, end_waits, suspended, resumed, is_suspended, unmarked, with_pri, has_pri, change_pri, set_safe, past_gate, with_answer, with_refusal, unreserved}
 use Rattle.wind_core.specs.Releases.{releases, release_all}
-use Rattle.wind_core.specs.Move.{Move, Spawn, Remove, Pend, Delay, Release, ReleaseAll, EndWait, WakeAll, Tick, Suspend, Resume, ChangePri, Reset, SetLocks, SetNormal, SetSafe, SetHeld, SetErrno, SetIntLocked, SetAgain, SetRegs, Unreserve, LeaveGate, Answer, Refuse, SetLast, SetSlice, DrawIds, Lend, apply}
+use Rattle.wind_core.specs.Move.{Move, Spawn, Remove, Pend, Delay, Release, ReleaseAll, EndWait, WakeAll, Tick, Suspend, Resume, ChangePri, Reset, SetLocks, SetNormal, SetSafe, SetHeld, SetErrno, SetIntLocked, SetAgain, SetRegs, Unreserve, LeaveGate, Answer, Refuse, SetLast, SetSlice, DrawIds, Lend, IsRising, apply}
 use Rattle.wind_core.proofs.Stable.{All-change, renew_task-stable, move_task-stable, tick-stable}
 use Rattle.wind_core.proofs.Becoming.{All-change_at}
 use Rattle.wind_core.proofs.Moving.{move_keeps}
 use Rattle.sem_plain.specs.State.{both}
 use Rattle.sem_plain.specs.Kept.{BeginsOnly}
-use Rattle.sem_plain.specs.Laws.{nowhere, MayBegin}
+use Rattle.sem_plain.specs.Laws.{nowhere, begun_by, MayBegin}
 use Rattle.sem_plain.proofs.Beginning.{then}
 use Rattle.sem_plain.proofs.Moving.{moves}
 use Rattle.sem_plain.proofs.Keeping.{beside, place_is}
@@ -39,6 +39,16 @@ right_renews since t h = record { console = h.console; repeats = h.repeats }
 
 right_answers : {board : BoardKind} (a : ℕ) (e : Option Errno) (t : Task) → WaitsRight board t → WaitsRight board (answered a e t)
 right_answers a e t h = record { console = tt; repeats = tt }
+
+-- what the rules of waits read of a task
+abbrev seen_wait : Task → Option Place × ℕ × ℕ
+seen_wait t = (t.wait, t.id, t.regs.pc)
+
+same_wait : {board : BoardKind} (f : Task → Task) → ((t : Task) → seen_wait (f t) ≡ seen_wait t) → (t : Task) → WaitsRight board t → WaitsRight board (f t)
+same_wait {board} f same t h = record {
+  console = subst (λ (s : Option Place × ℕ × ℕ). IfSome s.0 (λ p. p.side ≡ console_side → s.1 ≡ 1)) (sym (same t)) h.console;
+  repeats = subst (λ (s : Option Place × ℕ × ℕ). IfSome s.0 (λ p. p.side ≡ deletion_side → s.2 ≡ deletion_gate board)) (sym (same t)) h.repeats;
+}
 
 -- a task that waits for nothing satisfies the rules of waits
 pub right_idle : {board : BoardKind} (t : Task) → t.wait ≡ None → WaitsRight board t
@@ -96,12 +106,13 @@ SparesWaits k o (DrawIds next) = k.next_id ≤ next
 SparesWaits k o m = Unit {0}
 
 module _ {board : BoardKind} (k : KernState) (o : Objects) (is : IsKern k) (kept : KeepsWaits board k o) where
-  calmly : (m : Move) → BeginsOnly nowhere k (apply k m) → KeepsDeleters (apply k m) → All (WaitsRight board) (apply k m).tasks → KeepsWaits board (apply k m) o
-  calmly m begins goes right = waits_calm k (apply k m) o begins goes right kept
+  -- a move that begins no wait
+  calmly : (m : Move) → begun_by m ≡ nowhere → IsRising k m → KeepsDeleters (apply k m) → All (WaitsRight board) (apply k m).tasks → KeepsWaits board (apply k m) o
+  calmly m none rising goes right = waits_calm k (apply k m) o (subst (λ (begins : Place → Bool). BeginsOnly begins k (apply k m)) none (moves k m rising)) goes right kept
 
   -- the task's wait, its id and its program counter are the same
-  right_change : (who : ℕ) (f : Task → Task) → ((t : Task) → WaitsRight board t → WaitsRight board (f t)) → All (WaitsRight board) (change_task k who f).tasks
-  right_change who f keeps = All-change (WaitsRight board) k.tasks who f keeps kept.right
+  right_change : (who : ℕ) (f : Task → Task) → ((t : Task) → seen_wait (f t) ≡ seen_wait t) → All (WaitsRight board) (change_task k who f).tasks
+  right_change who f same = All-change (WaitsRight board) k.tasks who f (same_wait f same) kept.right
 
   right_renew : (who : ℕ) (f : Task → Task) → ((t : Task) → WaitsRight board t → WaitsRight board (f t)) → All (WaitsRight board) (renew_task k who f).tasks
   right_renew who f keeps = renew_task-stable (WaitsRight board) right_renews k who f keeps kept.right
@@ -121,10 +132,9 @@ module _ {board : BoardKind} (k : KernState) (o : Objects) (is : IsKern k) (kept
 
   -- each is for what lives, after such a move
   pub waits-move : (m : Move) → SparesWaits k o m → KeepsWaits board (apply k m) o
-  waits-move (Spawn n) spares = calmly (Spawn n) (moves k (Spawn n) tt) (moves_keep k (Spawn n) is kept.deleters tt)
+  waits-move (Spawn n) spares = calmly (Spawn n) refl tt (moves_keep k (Spawn n) is kept.deleters tt)
       (All-push (WaitsRight board) k.tasks (new_task k.next_id k.next_since n) kept.right (record { console = tt; repeats = tt }))
-  waits-move (Remove who) spares = calmly (Remove who) (moves k (Remove who) tt) spares
-      (All-filter (λ t. not (eqb t.id who)) (WaitsRight board) k.tasks kept.right)
+  waits-move (Remove who) spares = calmly (Remove who) refl tt spares (All-filter (λ t. not (eqb t.id who)) (WaitsRight board) k.tasks kept.right)
   waits-move (Pend who place fifo n) spares =
       waits_keep k (pend k who place fifo n) o (same_place place) (moves k (Pend who place fifo n) tt)
       (λ p here. subst (λ q. MayBegin (both k o.semaphores) q × (is_live o q ≡ true)) (place_is place p here) (spares.may, spares.lives))
@@ -134,64 +144,48 @@ module _ {board : BoardKind} (k : KernState) (o : Objects) (is : IsKern k) (kept
       (λ t at own h. h)
       kept.right)
       kept
-  waits-move (Delay who n) spares = calmly (Delay who n) (moves k (Delay who n) tt) (moves_keep k (Delay who n) is kept.deleters tt)
+  waits-move (Delay who n) spares = calmly (Delay who n) refl tt (moves_keep k (Delay who n) is kept.deleters tt)
       (right_renew who (delayed k.tick n) (λ t h.
       elim (eqb n 0) as (λ b. WaitsRight board (cond b t (record t { wake = Some (k.tick + n); turns = 0 }))) [
         | true ↦ h
         | false ↦ record { console = h.console; repeats = h.repeats }
       ]))
-  waits-move (Release who) spares = calmly (Release who) (moves k (Release who) tt) (moves_keep k (Release who) is kept.deleters tt)
-      (right_move who released (λ t h. record { console = tt; repeats = tt }))
-  waits-move (ReleaseAll place) spares = calmly (ReleaseAll place) (moves k (ReleaseAll place) tt) (moves_keep k (ReleaseAll place) is kept.deleters tt)
-      (right_releases k (waiters k.tasks place) kept.right)
-  waits-move (EndWait who value errno) spares = calmly (EndWait who value errno) (moves k (EndWait who value errno) tt) (moves_keep k (EndWait who value errno) is kept.deleters tt)
+  waits-move (Release who) spares = calmly (Release who) refl tt (moves_keep k (Release who) is kept.deleters tt) (right_move who released (λ t h. record { console = tt; repeats = tt }))
+  waits-move (ReleaseAll place) spares = calmly (ReleaseAll place) refl tt (moves_keep k (ReleaseAll place) is kept.deleters tt) (right_releases k (waiters k.tasks place) kept.right)
+  waits-move (EndWait who value errno) spares = calmly (EndWait who value errno) refl tt (moves_keep k (EndWait who value errno) is kept.deleters tt)
       (right_move who (answered value errno) (right_answers value errno))
-  waits-move (WakeAll place value errno) spares = calmly (WakeAll place value errno) (moves k (WakeAll place value errno) tt) (moves_keep k (WakeAll place value errno) is kept.deleters tt)
+  waits-move (WakeAll place value errno) spares = calmly (WakeAll place value errno) refl tt (moves_keep k (WakeAll place value errno) is kept.deleters tt)
       (right_end_waits k (waiters k.tasks place) value errno kept.right)
-  waits-move Tick spares = calmly Tick (moves k Tick tt) (moves_keep k Tick is kept.deleters tt)
+  waits-move Tick spares = calmly Tick refl tt (moves_keep k Tick is kept.deleters tt)
       (tick-stable (WaitsRight board) right_renews right_answers (λ n t h. record { console = h.console; repeats = h.repeats }) k kept.right)
-  waits-move (Suspend who) spares = calmly (Suspend who) (moves k (Suspend who) tt) (moves_keep k (Suspend who) is kept.deleters tt)
-      (right_change who suspended (λ t h. record { console = h.console; repeats = h.repeats }))
-  waits-move (Resume who) spares = calmly (Resume who) (moves k (Resume who) tt) (moves_keep k (Resume who) is kept.deleters tt)
+  waits-move (Suspend who) spares = calmly (Suspend who) refl tt (moves_keep k (Suspend who) is kept.deleters tt) (right_change who suspended (λ t. refl))
+  waits-move (Resume who) spares = calmly (Resume who) refl tt (moves_keep k (Resume who) is kept.deleters tt)
       (elim (is_suspended (task_of k.tasks who)) as (λ b. All (WaitsRight board) (cond b (move_task k who resumed) k).tasks) [
-        | true ↦ right_move who resumed (λ t h. record { console = h.console; repeats = h.repeats })
+        | true ↦ right_move who resumed (same_wait resumed (λ t. refl))
         | false ↦ kept.right
       ])
-  waits-move (ChangePri who pri) spares = calmly (ChangePri who pri) (moves k (ChangePri who pri) tt) (moves_keep k (ChangePri who pri) is kept.deleters tt)
+  waits-move (ChangePri who pri) spares = calmly (ChangePri who pri) refl tt (moves_keep k (ChangePri who pri) is kept.deleters tt)
       (elim (has_pri pri (task_of k.tasks who)) as (λ b. All (WaitsRight board) (cond b k (move_task k who (with_pri pri))).tasks) [
         | true ↦ kept.right
-        | false ↦ right_move who (with_pri pri) (λ t h. record { console = h.console; repeats = h.repeats })
+        | false ↦ right_move who (with_pri pri) (same_wait (with_pri pri) (λ t. refl))
       ])
-  waits-move (Reset who) spares = calmly (Reset who) (moves k (Reset who) tt) (moves_keep k (Reset who) is kept.deleters spares)
-      (right_renew who unmarked (λ t h. record { console = h.console; repeats = h.repeats }))
-  waits-move (SetLocks who n) spares = calmly (SetLocks who n) (moves k (SetLocks who n) tt) (moves_keep k (SetLocks who n) is kept.deleters tt)
-      (right_change who (λ t. record t { locks = n }) (λ t h. record { console = h.console; repeats = h.repeats }))
-  waits-move (SetNormal who pri) spares = calmly (SetNormal who pri) (moves k (SetNormal who pri) tt) (moves_keep k (SetNormal who pri) is kept.deleters tt)
-      (right_change who (λ t. record t { normal = pri }) (λ t h. record { console = h.console; repeats = h.repeats }))
-  waits-move (SetSafe who n) spares = calmly (SetSafe who n) (moves k (SetSafe who n) tt) (moves_keep k (SetSafe who n) is kept.deleters spares)
-      (right_change who (λ t. record t { safe = n }) (λ t h. record { console = h.console; repeats = h.repeats }))
-  waits-move (SetHeld who n) spares = calmly (SetHeld who n) (moves k (SetHeld who n) tt) (moves_keep k (SetHeld who n) is kept.deleters tt)
-      (right_change who (λ t. record t { held = n }) (λ t h. record { console = h.console; repeats = h.repeats }))
-  waits-move (SetErrno who n) spares = calmly (SetErrno who n) (moves k (SetErrno who n) tt) (moves_keep k (SetErrno who n) is kept.deleters tt)
-      (right_change who (λ t. record t { errno = n }) (λ t h. record { console = h.console; repeats = h.repeats }))
-  waits-move (SetIntLocked who on) spares = calmly (SetIntLocked who on) (moves k (SetIntLocked who on) tt) (moves_keep k (SetIntLocked who on) is kept.deleters tt)
-      (right_change who (λ t. record t { int_locked = on }) (λ t h. record { console = h.console; repeats = h.repeats }))
-  waits-move (SetAgain who on) spares = calmly (SetAgain who on) (moves k (SetAgain who on) tt) (moves_keep k (SetAgain who on) is kept.deleters spares)
-      (right_change who (λ t. record t { again = on }) (λ t h. record { console = h.console; repeats = h.repeats }))
-  waits-move (SetRegs who regs) spares = calmly (SetRegs who regs) (moves k (SetRegs who regs) tt) (moves_keep k (SetRegs who regs) is kept.deleters tt)
-      (right_free who spares (λ t. record t { regs = regs }) (λ t. refl))
-  waits-move (Unreserve who) spares = calmly (Unreserve who) (moves k (Unreserve who) tt) (moves_keep k (Unreserve who) is kept.deleters tt)
-      (right_change who unreserved (λ t h. record { console = h.console; repeats = h.repeats }))
-  waits-move (LeaveGate who) spares = calmly (LeaveGate who) (moves k (LeaveGate who) tt) (moves_keep k (LeaveGate who) is kept.deleters tt)
-      (right_free who spares past_gate (λ t. refl))
-  waits-move (Answer who value) spares = calmly (Answer who value) (moves k (Answer who value) tt) (moves_keep k (Answer who value) is kept.deleters tt)
-      (right_change who (with_answer value) (λ t h. record { console = h.console; repeats = h.repeats }))
-  waits-move (Refuse who e) spares = calmly (Refuse who e) (moves k (Refuse who e) tt) (moves_keep k (Refuse who e) is kept.deleters tt)
-      (right_change who (with_refusal e) (λ t h. record { console = h.console; repeats = h.repeats }))
-  waits-move (SetLast last) spares = calmly (SetLast last) (moves k (SetLast last) tt) (moves_keep k (SetLast last) is kept.deleters tt) kept.right
-  waits-move (SetSlice n) spares = calmly (SetSlice n) (moves k (SetSlice n) tt) (moves_keep k (SetSlice n) is kept.deleters tt) kept.right
-  waits-move (DrawIds next) spares = calmly (DrawIds next) (moves k (DrawIds next) spares) (moves_keep k (DrawIds next) is kept.deleters tt) kept.right
-  waits-move (Lend on) spares = calmly (Lend on) (moves k (Lend on) tt) (moves_keep k (Lend on) is kept.deleters tt) kept.right
+  waits-move (Reset who) spares = calmly (Reset who) refl tt (moves_keep k (Reset who) is kept.deleters spares) (right_renew who unmarked (same_wait unmarked (λ t. refl)))
+  waits-move (SetLocks who n) spares = calmly (SetLocks who n) refl tt (moves_keep k (SetLocks who n) is kept.deleters tt) (right_change who (λ t. record t { locks = n }) (λ t. refl))
+  waits-move (SetNormal who pri) spares = calmly (SetNormal who pri) refl tt (moves_keep k (SetNormal who pri) is kept.deleters tt) (right_change who (λ t. record t { normal = pri }) (λ t. refl))
+  waits-move (SetSafe who n) spares = calmly (SetSafe who n) refl tt (moves_keep k (SetSafe who n) is kept.deleters spares) (right_change who (λ t. record t { safe = n }) (λ t. refl))
+  waits-move (SetHeld who n) spares = calmly (SetHeld who n) refl tt (moves_keep k (SetHeld who n) is kept.deleters tt) (right_change who (λ t. record t { held = n }) (λ t. refl))
+  waits-move (SetErrno who n) spares = calmly (SetErrno who n) refl tt (moves_keep k (SetErrno who n) is kept.deleters tt) (right_change who (λ t. record t { errno = n }) (λ t. refl))
+  waits-move (SetIntLocked who on) spares = calmly (SetIntLocked who on) refl tt (moves_keep k (SetIntLocked who on) is kept.deleters tt) (right_change who (λ t. record t { int_locked = on }) (λ t. refl))
+  waits-move (SetAgain who on) spares = calmly (SetAgain who on) refl tt (moves_keep k (SetAgain who on) is kept.deleters spares) (right_change who (λ t. record t { again = on }) (λ t. refl))
+  waits-move (SetRegs who regs) spares = calmly (SetRegs who regs) refl tt (moves_keep k (SetRegs who regs) is kept.deleters tt) (right_free who spares (λ t. record t { regs = regs }) (λ t. refl))
+  waits-move (Unreserve who) spares = calmly (Unreserve who) refl tt (moves_keep k (Unreserve who) is kept.deleters tt) (right_change who unreserved (λ t. refl))
+  waits-move (LeaveGate who) spares = calmly (LeaveGate who) refl tt (moves_keep k (LeaveGate who) is kept.deleters tt) (right_free who spares past_gate (λ t. refl))
+  waits-move (Answer who value) spares = calmly (Answer who value) refl tt (moves_keep k (Answer who value) is kept.deleters tt) (right_change who (with_answer value) (λ t. refl))
+  waits-move (Refuse who e) spares = calmly (Refuse who e) refl tt (moves_keep k (Refuse who e) is kept.deleters tt) (right_change who (with_refusal e) (λ t. refl))
+  waits-move (SetLast last) spares = calmly (SetLast last) refl tt (moves_keep k (SetLast last) is kept.deleters tt) kept.right
+  waits-move (SetSlice n) spares = calmly (SetSlice n) refl tt (moves_keep k (SetSlice n) is kept.deleters tt) kept.right
+  waits-move (DrawIds next) spares = calmly (DrawIds next) refl spares (moves_keep k (DrawIds next) is kept.deleters tt) kept.right
+  waits-move (Lend on) spares = calmly (Lend on) refl tt (moves_keep k (Lend on) is kept.deleters tt) kept.right
 
 -- ---- several priorities change
 pub waits-repried : {board : BoardKind} (k : KernState) (o : Objects) (goal : ℕ → ℕ) (ts : List Task) → IsKern k → KeepsWaits board k o → KeepsWaits board (repried k goal ts) o
@@ -210,7 +204,7 @@ module _ {board : BoardKind} (k : KernState) (o : Objects) (is : IsKern k) (kept
       let count : ℕ = safe_of (task_of k.tasks who) in
       let less : KernState = set_safe k who (count - n) in
       let set : BeginsOnly nowhere k less = moves k (SetSafe who (count - n)) tt in
-      let right : All (WaitsRight board) less.tasks = All-change (WaitsRight board) k.tasks who (λ t. record t { safe = count - n }) (λ t h. record { console = h.console; repeats = h.repeats }) kept.right in
+      let right : All (WaitsRight board) less.tasks = right_change k o is kept who (λ t. record t { safe = count - n }) (λ t. refl) in
       elim (ltb 0 count && leb count n) as (λ b. KeepsDeleters (cond b (release_all less (deletion who)) less) → KeepsWaits board (cond b (release_all less (deletion who)) less) o) [
         | true ↦ λ goes.
             waits_calm k (release_all less (deletion who)) o (then nowhere k less (release_all less (deletion who)) set (moves less (ReleaseAll (deletion who)) tt)) goes

@@ -50,14 +50,14 @@ fn put_in_r3(watch: &mut Watch, value: u32)
 }
 
 // Puts the answer in the caller's r3.
-fn give_answer(w: &mut World, who: &Actor, value: u32)
-    requires { Acts w.old.kern who.now }
+fn give_answer(w: &mut World, who: Actor, value: u32)
+    requires { Acts w.old.kern who }
     ensures world { world_seen ⟦<dyn Device as Device>⟧ w.new
-        ≡ with_answer (world_seen ⟦<dyn Device as Device>⟧ w.old) who.now value }
+        ≡ with_answer (world_seen ⟦<dyn Device as Device>⟧ w.old) who value }
     ensures out { w.new.out ≡ w.old.out }
 {
     match who {
-        Actor::Task(id) => w.kern.answer(*id, value),
+        Actor::Task(id) => w.kern.answer(id, value),
         Actor::Interrupt => put_in_r3(&mut w.watch, value),
     }
 }
@@ -70,10 +70,10 @@ pub fn reply_to(w: &mut World, gate: Gate, who: &Actor, reply: &Reply)
     ensures out { w.new.out ≡ w.old.out }
 {
     match reply {
-        Reply::Answer(value) => give_answer(w, who, *value),
+        Reply::Answer(value) => give_answer(w, *who, *value),
         Reply::Refusal(errno) => {
             set_errno(w, who, errno.number());
-            give_answer(w, who, refusal_word(gate));
+            give_answer(w, *who, refusal_word(gate));
         }
         Reply::Later | Reply::Gone => {}
     }

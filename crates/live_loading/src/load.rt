@@ -109,29 +109,11 @@ fn load_held(alloc: Global, w: &mut World, name: &Name, file: &[u8]) -> Result<(
     }
 }
 
-// Makes the call with the answer about its file. If memory runs out, nothing changes.
-#[tactic(auto, unfolding(crate::specs::Loading::load_call))]
-fn load_said(alloc: Global, w: &mut World, name: &Name, file: &FileAnswer) -> Result<(), NoMemory>
-    requires live { Acts w.old.kern shell }
-    requires kept { IsWorld (world_with [] w.old) }
-    requires room { 4096 ≤ w.old.out.room }
-    ensures ok { OnOk result (world_seen ⟦<dyn Device as Device>⟧ w.new
-        ≡ load_call (world_seen ⟦<dyn Device as Device>⟧ w.old) name.now (said_of file.now)) }
-    ensures err { OnErr result (world_seen ⟦<dyn Device as Device>⟧ w.new ≡ world_seen ⟦<dyn Device as Device>⟧ w.old) }
-    ensures holds { HoldsSpace w.old.out w.new.out }
-{
-    match file {
-        FileAnswer::File(bytes) => return load_held(alloc, w, name, bytes),
-        FileAnswer::NoFile => refuse(w, name, Cause::NotFound),
-        FileAnswer::LongFile => refuse(w, name, Cause::LongFile),
-    }
-    Ok(())
-}
-
 /// Makes the call of `ld` by the shell's task, given what is said of the file with this name. The
 /// task goes on after its gate. The module is loaded whole or not at all. The undefined names, or
 /// the reason of the refusal, are written, and the task is answered. If memory runs out, nothing
 /// changes.
+#[tactic(auto, unfolding(crate::specs::Loading::load_call))]
 pub fn kernel_load(
     alloc: Global,
     w: &mut World,
@@ -149,5 +131,10 @@ pub fn kernel_load(
     ensures kept { IsWorld (world_with [] w.new) }
     ensures holds { HoldsSpace w.old.out w.new.out }
 {
-    load_said(alloc, w, name, file)
+    match file {
+        FileAnswer::File(bytes) => return load_held(alloc, w, name, bytes),
+        FileAnswer::NoFile => refuse(w, name, Cause::NotFound),
+        FileAnswer::LongFile => refuse(w, name, Cause::LongFile),
+    }
+    Ok(())
 }

@@ -10,6 +10,8 @@ use Rattle.dev_irq.specs.declared.line.Line.{Line}
 use Rattle.dev_irq.specs.State.{line_of, pending_of}
 use Rattle.dev_irq.specs.Calls.{connect_refusal, connected, disconnect_refusal, disconnected, enabled, cleared}
 use Rattle.kernel_world.specs.declared.reply.Reply.{Reply}
+use Rattle.object_calls.specs.declared.irq_rows.LineChange.{LineChange}
+use Rattle.object_calls.specs.declared.irq_rows.LineChange.TheVariants.{Connect, Disconnect, Enable}
 use Rattle.kernel_world.specs.declared.reply.Reply.TheVariants.{Answer, Refusal}
 
 -- the interrupt controller and the device slots after the effect of a call, and how its caller is answered
@@ -44,6 +46,12 @@ disconnect_row irqs slots i entry = on_device irqs slots i (row_of (disconnected
 -- intEnable and intDisable
 abbrev pub enable_row : List Line → List (Option DeviceState) → ℕ → Bool → IrqRow
 enable_row irqs slots i mark = on_device irqs slots i (row_of (enabled irqs i mark) slots (Answer ok_word))
+
+-- a change of a device's line is one of these
+abbrev pub change_row : List Line → List (Option DeviceState) → ℕ → LineChange → IrqRow
+change_row irqs slots i (Connect routine) = connect_row irqs slots i routine
+change_row irqs slots i (Disconnect entry) = disconnect_row irqs slots i entry
+change_row irqs slots i (Enable mark) = enable_row irqs slots i mark
 
 -- intPending
 abbrev pub pending_row : List Line → List (Option DeviceState) → ℕ → IrqRow

@@ -1,5 +1,5 @@
 -- The rows of the calls on message queues.
-use Rattle.std.specs.Prelude.{ℕ, ◌==◌, length, Option, None, Some, Result, Ok, Err}
+use Rattle.std.specs.Prelude.{ℕ, ◌<◌, ◌^◌, ◌==◌, length, Option, None, Some, Result, Ok, Err}
 use Rattle.wind_base.specs.Limits.{ok_word}
 use Rattle.wind_base.specs.declared.errno.Errno.{Errno}
 use Rattle.wind_base.specs.declared.errno.Errno.TheVariants as errors
@@ -9,9 +9,11 @@ use Rattle.wind_core.specs.declared.took.Took.{Took}
 use Rattle.msg_queue.specs.declared.words.Got.{Got}
 use Rattle.msg_queue.specs.declared.words.Got.TheVariants as got
 use Rattle.msg_queue.specs.State.{QueueState, Scene, queue_of}
+use Rattle.msg_queue.specs.Kept.{IsKept}
 use Rattle.msg_queue.specs.Sends.{send_deed, send_answer, send}
 use Rattle.msg_queue.specs.Receives.{receive_deed, receive_answer, receive}
 use Rattle.msg_queue.specs.Comings.{create_refusal, new_queue, created, delete, count_of}
+use Rattle.kernel_world.specs.Actors.{Acts, MayCall}
 use Rattle.kernel_world.specs.declared.actor.Actor.{Actor}
 use Rattle.kernel_world.specs.declared.actor.Actor.TheVariants.{Task, Interrupt}
 use Rattle.kernel_world.specs.declared.reply.Reply.{Reply}
@@ -25,6 +27,11 @@ pub record QueueRow : Type 0 where
 
 abbrev pub row_of : Scene → Reply → QueueRow
 row_of s r = record { scene = s; reply = r }
+
+-- a caller may send or receive: it is ready if it is a task, the queues' invariant holds, and the counters are far from
+-- overflow
+abbrev pub MayUseQueues : Scene → Actor → Type 0
+MayUseQueues s a = Acts s.kern a × MayCall s.kern a × IsKept s × (s.kern.next_since < 2 ^ 62) × (s.kern.tick < 2 ^ 62)
 
 -- ---- msgQCreate
 abbrev pub create_unless : Option Errno → Scene → QueueState → QueueRow

@@ -1,13 +1,13 @@
 -- The rows of the calls on semaphores and mutexes, and of taskPrioritySet, whose priority the owners of mutexes
 -- inherit, under profile 1 at once.
-use Rattle.std.specs.Prelude.{ℕ, Bool, nat_le, if◌then◌else◌, Option, None, Some, is_some}
+use Rattle.std.specs.Prelude.{◌≡◌, ℕ, List, Bool, false, nat_le, if◌then◌else◌, Option, None, Some, is_some}
 use Rattle.wind_base.specs.Limits.{least_urgent, ok_word}
 use Rattle.wind_base.specs.SemBits.{read_options}
 use Rattle.wind_base.specs.declared.errno.Errno.{Errno}
 use Rattle.wind_base.specs.declared.errno.Errno.TheVariants as errors
 use Rattle.wind_base.specs.declared.semaphore.SemKind.TheVariants as kinds
 use Rattle.wind_base.specs.declared.semaphore.SemOptions.{SemOptions}
-use Rattle.id_table.specs.Rows.{object_of}
+use Rattle.id_table.specs.Rows.{IdsBelow, object_of}
 use Rattle.wind_core.specs.State.{KernState}
 use Rattle.wind_core.specs.declared.took.Took.{Took}
 use Rattle.wind_core.specs.declared.took.Took.TheVariants.{Taken, Pended}
@@ -61,6 +61,10 @@ of_task k o (Task who) f = f who
 of_task k o Interrupt f = refused k o errors.NotIsrCallable
 
 -- ---- a semaphore is made
+-- the next id is a new one: the kernel has its ids, and the id of each of these objects is below the next
+abbrev pub IdsAreNew : {T : Type 0} → KernState → List (ℕ × T) → Type 0
+IdsAreNew k rows = (k.lent ≡ false) × IdsBelow k.next_id rows
+
 abbrev pub made_unless : Option Errno → KernState → Objects → Semaphore → ObjectRow
 made_unless (Some e) k o v = refused k o e
 made_unless None k o v = by_semaphores o (plain.create (sems k o) v) (Answer k.next_id)

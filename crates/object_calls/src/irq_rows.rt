@@ -2,7 +2,7 @@
 
 ghost use Rattle.std.specs.Prelude.{◌≡◌};
 ghost use Rattle.board_bus.specs.Seen.{bus_seen};
-ghost use Rattle.object_calls.specs.IrqRows.{row_of, is_device as is_device_lem, connect_row, disconnect_row, enable_row, pending_row, remove_row};
+ghost use Rattle.object_calls.specs.IrqRows.{row_of, is_device as is_device_lem, connect_row, disconnect_row, enable_row, change_row, pending_row, remove_row};
 
 use board_bus::BoardBus;
 use dev_irq::Irqs;
@@ -23,6 +23,39 @@ pub fn is_device(bus: &BoardBus, slot: u32) -> bool
     (slot as usize) < SLOTS && bus.has_device(slot)
 }
 
+// A change of the line of a device in the interrupt controller.
+#[derive(Clone, Copy)]
+enum LineChange {
+    Connect(Routine),
+    // the entry of the routine whose earliest connection ends
+    Disconnect(u32),
+    Enable(bool),
+}
+
+// Changes the line of the device in a slot. Refused if there is no such device, and as the
+// interrupt controller refuses it.
+fn change(irqs: &mut Irqs, bus: &BoardBus, slot: u32, change: LineChange) -> Reply
+    requires { Unit {0} }
+    ensures row { row_of irqs.new (bus_seen ⟦<dyn Device as Device>⟧ bus.now).slots result
+        ≡ change_row irqs.old (bus_seen ⟦<dyn Device as Device>⟧ bus.now).slots slot change }
+{
+    if !is_device(bus, slot) {
+        return NO_DEVICE;
+    }
+    let changed = match change {
+        LineChange::Connect(routine) => irqs.connect(slot, routine),
+        LineChange::Disconnect(entry) => irqs.disconnect(slot, entry),
+        LineChange::Enable(on) => {
+            irqs.enable(slot, on);
+            Ok(())
+        }
+    };
+    match changed {
+        Ok(()) => DONE,
+        Err(errno) => Reply::Refusal(errno),
+    }
+}
+
 /// intConnect: connects a routine to the interrupts of the device in a slot. Refused if there is no
 /// such device, or if the slot has 4 routines.
 pub fn connect(irqs: &mut Irqs, bus: &BoardBus, slot: u32, routine: Routine) -> Reply
@@ -30,13 +63,7 @@ pub fn connect(irqs: &mut Irqs, bus: &BoardBus, slot: u32, routine: Routine) -> 
     ensures row { row_of irqs.new (bus_seen ⟦<dyn Device as Device>⟧ bus.now).slots result
         ≡ connect_row irqs.old (bus_seen ⟦<dyn Device as Device>⟧ bus.now).slots slot routine }
 {
-    if !is_device(bus, slot) {
-        return NO_DEVICE;
-    }
-    match irqs.connect(slot, routine) {
-        Ok(()) => DONE,
-        Err(errno) => Reply::Refusal(errno),
-    }
+    change(irqs, bus, slot, LineChange::Connect(routine))
 }
 
 /// intDisconnect: disconnects the earliest connection of a routine. Refused if there is no such
@@ -46,13 +73,7 @@ pub fn disconnect(irqs: &mut Irqs, bus: &BoardBus, slot: u32, routine: u32) -> R
     ensures row { row_of irqs.new (bus_seen ⟦<dyn Device as Device>⟧ bus.now).slots result
         ≡ disconnect_row irqs.old (bus_seen ⟦<dyn Device as Device>⟧ bus.now).slots slot routine }
 {
-    if !is_device(bus, slot) {
-        return NO_DEVICE;
-    }
-    match irqs.disconnect(slot, routine) {
-        Ok(()) => DONE,
-        Err(errno) => Reply::Refusal(errno),
-    }
+    change(irqs, bus, slot, LineChange::Disconnect(routine))
 }
 
 /// intEnable and intDisable: enables the interrupts of a device, or disables them. Refused if there
@@ -62,11 +83,7 @@ pub fn enable(irqs: &mut Irqs, bus: &BoardBus, slot: u32, on: bool) -> Reply
     ensures row { row_of irqs.new (bus_seen ⟦<dyn Device as Device>⟧ bus.now).slots result
         ≡ enable_row irqs.old (bus_seen ⟦<dyn Device as Device>⟧ bus.now).slots slot on }
 {
-    if !is_device(bus, slot) {
-        return NO_DEVICE;
-    }
-    irqs.enable(slot, on);
-    DONE
+    change(irqs, bus, slot, LineChange::Enable(on))
 }
 
 /// intPending: answers how many interrupts of a device are pending. Refused if there is no such

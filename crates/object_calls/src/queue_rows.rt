@@ -1,10 +1,10 @@
 //! The calls on message queues.
 
-ghost use Rattle.std.specs.Prelude.{◌≡◌, ◌<◌, ◌^◌, ℕ, false, List, IfOk, OnErr};
-ghost use Rattle.id_table.specs.Rows.{object_of, IdsBelow};
-ghost use Rattle.msg_queue.specs.{Kept.IsKept, State.scene, Comings.count_of};
-ghost use Rattle.kernel_world.specs.Actors.{Acts, MayCall};
-ghost use Rattle.object_calls.specs.QueueRows.{row_of, task_in as task_in_lem, sending, create_row, send_row, receive_row, delete_row, count_reply};
+ghost use Rattle.std.specs.Prelude.{◌≡◌, ◌<◌, ◌^◌, ℕ, List, IfOk, OnErr};
+ghost use Rattle.id_table.specs.Rows.{object_of};
+ghost use Rattle.msg_queue.specs.{State.scene, Comings.count_of};
+ghost use Rattle.object_calls.specs.SemRows.{IdsAreNew};
+ghost use Rattle.object_calls.specs.QueueRows.{row_of, MayUseQueues, task_in as task_in_lem, sending, create_row, send_row, receive_row, delete_row, count_reply};
 
 use board_mem::Ram;
 use id_table::Ident;
@@ -28,8 +28,7 @@ pub fn create(
     max_len: u32,
     options: u32,
 ) -> Result<Reply, NoMemory>
-    requires home { kern.old.lent ≡ false }
-    requires below { IdsBelow kern.old.next_id objects.old.queues.queues }
+    requires ids { IdsAreNew kern.old objects.old.queues.queues }
     ensures ok { IfOk result (λ r. (ram : List ℕ) → row_of (scene kern.new objects.new.queues ram) r
         ≡ create_row (scene kern.old objects.old.queues ram) max_msgs max_len options) }
     ensures rest { objects.new ≡ record objects.old { queues = objects.new.queues } }
@@ -78,11 +77,7 @@ pub fn send(
     id: u32,
     words: SendWords,
 ) -> Reply
-    requires live { Acts kern.old who }
-    requires ready { MayCall kern.old who }
-    requires kept { IsKept (scene kern.old objects.old.queues ram.old.bytes) }
-    requires since { kern.old.next_since < 2 ^ 62 }
-    requires tick { kern.old.tick < 2 ^ 62 }
+    requires may { MayUseQueues (scene kern.old objects.old.queues ram.old.bytes) who }
     ensures row { row_of (scene kern.new objects.new.queues ram.new.bytes) result
         ≡ send_row (scene kern.old objects.old.queues ram.old.bytes) id
         (sending who words.buffer words.count words.timeout words.priority) }
@@ -112,11 +107,7 @@ pub fn receive(
     id: u32,
     words: ReceiveWords,
 ) -> Reply
-    requires live { Acts kern.old who }
-    requires ready { MayCall kern.old who }
-    requires kept { IsKept (scene kern.old objects.old.queues ram.old.bytes) }
-    requires since { kern.old.next_since < 2 ^ 62 }
-    requires tick { kern.old.tick < 2 ^ 62 }
+    requires may { MayUseQueues (scene kern.old objects.old.queues ram.old.bytes) who }
     ensures row { row_of (scene kern.new objects.new.queues ram.new.bytes) result
         ≡ receive_row (scene kern.old objects.old.queues ram.old.bytes) who id words.buffer words.count words.timeout }
     ensures rest { objects.new ≡ record objects.old { queues = objects.new.queues } }

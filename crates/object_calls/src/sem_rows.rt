@@ -1,12 +1,11 @@
 //! The calls on semaphores and mutexes, and taskPrioritySet.
 
 ghost use Rattle.std.specs.Prelude.{◌≡◌, true, false};
-ghost use Rattle.id_table.specs.Rows.{IdsBelow};
 ghost use Rattle.wind_core.specs.State.{Lives};
 ghost use Rattle.kernel_world.specs.{SemPlainState.{IsEarly as PlainEarly, may_hold}, SemPlainCalls.new_semaphore};
 ghost use Rattle.kernel_world.specs.MutexesKept.{FewSafe, FewSinces, IsEarly, KeepsMutexes};
 ghost use Rattle.kernel_world.specs.Actors.{Acts, target as target_lem};
-ghost use Rattle.object_calls.specs.SemRows.{row_of, mutexes, made, binary_row, counting_row, mutex_row, plain_take, mutex_take, take_row, plain_give, mutex_give, give_row, flush_row, delete_row, priority_row};
+ghost use Rattle.object_calls.specs.SemRows.{row_of, mutexes, IdsAreNew, made, binary_row, counting_row, mutex_row, plain_take, mutex_take, take_row, plain_give, mutex_give, give_row, flush_row, delete_row, priority_row};
 
 use id_table::Ident;
 use kernel_world::{Actor, DONE, Objects, Reply, target};
@@ -22,8 +21,7 @@ fn make(
     count: u32,
 ) -> Reply
     requires count { may_hold kind count ≡ true }
-    requires home { kern.old.lent ≡ false }
-    requires below { IdsBelow kern.old.next_id objects.old.semaphores }
+    requires ids { IdsAreNew kern.old objects.old.semaphores }
     ensures row { row_of kern.new objects.new result
         ≡ made kern.old objects.old (new_semaphore kind options count) }
 {
@@ -36,8 +34,7 @@ fn make(
 /// semBCreate: makes a binary semaphore with these options, in state 0 or 1. Refused if an option
 /// isn't allowed, if the state is another, if no more semaphores may live, or if no id is left.
 pub fn create_binary(kern: &mut Kern, objects: &mut Objects, options: u32, state: u32) -> Reply
-    requires home { kern.old.lent ≡ false }
-    requires below { IdsBelow kern.old.next_id objects.old.semaphores }
+    requires ids { IdsAreNew kern.old objects.old.semaphores }
     ensures row { row_of kern.new objects.new result ≡ binary_row kern.old objects.old options state }
 {
     let Some(options) = SemOptions::read(options, SemKind::Binary) else {
@@ -52,8 +49,7 @@ pub fn create_binary(kern: &mut Kern, objects: &mut Objects, options: u32, state
 /// semCCreate: makes a counting semaphore with these options and this count. Refused if an option
 /// isn't allowed, if no more semaphores may live, or if no id is left.
 pub fn create_counting(kern: &mut Kern, objects: &mut Objects, options: u32, count: u32) -> Reply
-    requires home { kern.old.lent ≡ false }
-    requires below { IdsBelow kern.old.next_id objects.old.semaphores }
+    requires ids { IdsAreNew kern.old objects.old.semaphores }
     ensures row { row_of kern.new objects.new result ≡ counting_row kern.old objects.old options count }
 {
     let Some(options) = SemOptions::read(options, SemKind::Counting) else {

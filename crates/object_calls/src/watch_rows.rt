@@ -2,9 +2,8 @@
 
 ghost use Rattle.std.specs.Prelude.{◌≡◌, ◌<◌, ◌^◌, false};
 ghost use Rattle.isr_watch.specs.Laws.{AllBelow};
-ghost use Rattle.object_calls.specs.WatchRows.{row_of, create_row, start_row, live_reply};
-ghost use Rattle.isr_watch.specs.State.{watchdog_of};
-ghost use Rattle.isr_watch.specs.Calls.{cancel, delete};
+ghost use Rattle.object_calls.specs.WatchRows.{row_of, create_row, start_row, cancel_row, delete_row};
+ghost use Rattle.wind_core.specs.State.{KernState};
 
 use isr_watch::{Routine, Watch};
 use kernel_world::{DONE, Reply};
@@ -38,8 +37,7 @@ pub fn start(kern: &Kern, watch: &mut Watch, id: u32, delay: u32, routine: Routi
 
 /// wdCancel: stops the watchdog. Refused if no such watchdog lives.
 pub fn cancel(watch: &mut Watch, id: u32) -> Reply
-    ensures reply { result ≡ live_reply (watchdog_of watch.old.watchdogs id) }
-    ensures watch { watch.new ≡ cancel watch.old id }
+    ensures row { (k : KernState) → row_of k watch.new result ≡ cancel_row k watch.old id }
 {
     match watch.cancel(id) {
         Ok(()) => DONE,
@@ -49,8 +47,7 @@ pub fn cancel(watch: &mut Watch, id: u32) -> Reply
 
 /// wdDelete: deletes the watchdog. Refused if no such watchdog lives.
 pub fn delete(watch: &mut Watch, id: u32) -> Reply
-    ensures reply { result ≡ live_reply (watchdog_of watch.old.watchdogs id) }
-    ensures watch { watch.new ≡ delete watch.old id }
+    ensures row { (k : KernState) → row_of k watch.new result ≡ delete_row k watch.old id }
 {
     match watch.delete(id) {
         Ok(()) => DONE,

@@ -17,14 +17,17 @@ pub record KernRow : Type 0 where
   pub kern : KernState
   pub reply : Reply
 
+abbrev pub row_of : KernState → Reply → KernRow
+row_of k r = record { kern = k; reply = r }
+
 abbrev pub done : KernState → KernRow
-done k = record { kern = k; reply = Answer ok_word }
+done k = row_of k (Answer ok_word)
 
 abbrev pub answers : KernState → ℕ → KernRow
-answers k value = record { kern = k; reply = Answer value }
+answers k value = row_of k (Answer value)
 
 abbrev pub refused : KernState → Errno → KernRow
-refused k e = record { kern = k; reply = Refusal e }
+refused k e = row_of k (Refusal e)
 
 -- taskSuspend
 abbrev pub suspend_row : KernState → Option ℕ → KernRow
@@ -61,7 +64,7 @@ by_task k Interrupt f = refused k errors.NotIsrCallable
 
 -- taskDelay: the answer comes when the delay ends, or at once for 0
 abbrev pub delay_row : KernState → Actor → ℕ → KernRow
-delay_row k a n = by_task k a (λ who. record { kern = delay k who n; reply = if n == 0 then Answer ok_word else Later })
+delay_row k a n = by_task k a (λ who. row_of (delay k who n) (if n == 0 then Answer ok_word else Later))
 
 -- how often the task has locked the scheduler and not unlocked it
 abbrev pub locks_in : Option TaskRecord → ℕ

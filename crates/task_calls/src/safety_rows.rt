@@ -4,6 +4,7 @@ ghost use Rattle.std.specs.Prelude.{◌≡◌, ◌<◌, ◌^◌};
 ghost use Rattle.std.specs.List.{All};
 ghost use Rattle.kernel_world.specs.Objects.{deletion_gate};
 ghost use Rattle.kernel_world.specs.Actors.{Acts};
+ghost use Rattle.task_calls.specs.TaskRows.{row_of};
 ghost use Rattle.task_calls.specs.SafetyRows.{safe_row, unsafe_row, back_at_gate, meant as meant_lem, deletion, delete_row};
 
 use crate::ending::take_stack;
@@ -20,8 +21,7 @@ use wind_core::Kern;
 pub fn make_safe(kern: &mut Kern, who: Actor) -> Reply
     requires live { Acts kern.old who }
     requires safes { All (λ t. t.safe < 2 ^ 60) kern.old.tasks }
-    ensures kern { kern.new ≡ (safe_row kern.old who).kern }
-    ensures reply { result ≡ (safe_row kern.old who).reply }
+    ensures row { row_of kern.new result ≡ safe_row kern.old who }
 {
     let Actor::Task(who) = who else {
         return Reply::Refusal(Errno::NotIsrCallable);
@@ -35,8 +35,7 @@ pub fn make_safe(kern: &mut Kern, who: Actor) -> Reply
 pub fn make_unsafe(kern: &mut Kern, who: Actor) -> Reply
     requires live { Acts kern.old who }
     requires since { kern.old.next_since < 2 ^ 63 }
-    ensures kern { kern.new ≡ (unsafe_row kern.old who).kern }
-    ensures reply { result ≡ (unsafe_row kern.old who).reply }
+    ensures row { row_of kern.new result ≡ unsafe_row kern.old who }
 {
     let Actor::Task(who) = who else {
         return Reply::Refusal(Errno::NotIsrCallable);

@@ -4,7 +4,7 @@ ghost use Rattle.std.specs.Prelude.{◌≡◌, ◌+◌, ◌^◌, ◌<◌};
 ghost use Rattle.std.specs.List.{All};
 ghost use Rattle.wind_core.specs.{State.{KernState, task_of}, Moves.live_id};
 ghost use Rattle.kernel_world.specs.Actors.{Acts, target as target_lem};
-ghost use Rattle.task_calls.specs.TaskRows.{task_at, priority_in, suspend_row, resume_row, delay_row, lock_row, unlock_row, self_row, verify_row, name_row, slice_row, tick_row, locks_of, mark_of, int_lock_row, int_unlock_row, int_context_row};
+ghost use Rattle.task_calls.specs.TaskRows.{row_of, task_at, priority_in, suspend_row, resume_row, delay_row, lock_row, unlock_row, self_row, verify_row, name_row, slice_row, tick_row, locks_of, mark_of, int_lock_row, int_unlock_row, int_context_row};
 ghost use Rattle.board_mem.specs.Memory.{string_at};
 
 use board_mem::Ram;
@@ -16,8 +16,7 @@ use wind_core::Kern;
 /// taskSuspend: suspends the task with this id. Refused if no such task lives.
 pub fn suspend(kern: &mut Kern, who: Actor, id: u32) -> Reply
     requires { Acts kern.old who }
-    ensures kern { kern.new ≡ (suspend_row kern.old (target_lem kern.old who id)).kern }
-    ensures reply { result ≡ (suspend_row kern.old (target_lem kern.old who id)).reply }
+    ensures row { row_of kern.new result ≡ suspend_row kern.old (target_lem kern.old who id) }
 {
     let Some(id) = target(kern, who, id) else {
         return Reply::Refusal(Errno::ObjIdError);
@@ -30,8 +29,7 @@ pub fn suspend(kern: &mut Kern, who: Actor, id: u32) -> Reply
 pub fn resume(kern: &mut Kern, who: Actor, id: u32) -> Reply
     requires live { Acts kern.old who }
     requires since { kern.old.next_since + 1 < 2 ^ 64 }
-    ensures kern { kern.new ≡ (resume_row kern.old (target_lem kern.old who id)).kern }
-    ensures reply { result ≡ (resume_row kern.old (target_lem kern.old who id)).reply }
+    ensures row { row_of kern.new result ≡ resume_row kern.old (target_lem kern.old who id) }
 {
     let Some(id) = target(kern, who, id) else {
         return Reply::Refusal(Errno::ObjIdError);
@@ -67,8 +65,7 @@ pub fn delay(kern: &mut Kern, who: Actor, ticks: u32) -> Reply
     requires live { Acts kern.old who }
     requires since { kern.old.next_since + 1 < 2 ^ 64 }
     requires tick { kern.old.tick < 2 ^ 63 }
-    ensures kern { kern.new ≡ (delay_row kern.old who ticks).kern }
-    ensures reply { result ≡ (delay_row kern.old who ticks).reply }
+    ensures row { row_of kern.new result ≡ delay_row kern.old who ticks }
 {
     let Actor::Task(who) = who else {
         return Reply::Refusal(Errno::NotIsrCallable);
@@ -92,8 +89,7 @@ fn locks(kern: &Kern, who: Ident) -> u64
 pub fn lock(kern: &mut Kern, who: Actor) -> Reply
     requires live { Acts kern.old who }
     requires locks { All (λ t. t.locks < 2 ^ 60) kern.old.tasks }
-    ensures kern { kern.new ≡ (lock_row kern.old who).kern }
-    ensures reply { result ≡ (lock_row kern.old who).reply }
+    ensures row { row_of kern.new result ≡ lock_row kern.old who }
 {
     let Actor::Task(who) = who else {
         return Reply::Refusal(Errno::NotIsrCallable);
@@ -107,8 +103,7 @@ pub fn lock(kern: &mut Kern, who: Actor) -> Reply
 /// level.
 pub fn unlock(kern: &mut Kern, who: Actor) -> Reply
     requires { Acts kern.old who }
-    ensures kern { kern.new ≡ (unlock_row kern.old who).kern }
-    ensures reply { result ≡ (unlock_row kern.old who).reply }
+    ensures row { row_of kern.new result ≡ unlock_row kern.old who }
 {
     let Actor::Task(who) = who else {
         return Reply::Refusal(Errno::NotIsrCallable);
@@ -140,8 +135,7 @@ pub fn verify(kern: &Kern, id: u32) -> Reply
 
 /// kernelTimeSlice: sets the time slice of a task in ticks; 0 means no time slicing.
 pub fn slice(kern: &mut Kern, ticks: u32) -> Reply
-    ensures kern { kern.new ≡ (slice_row kern.old ticks).kern }
-    ensures reply { result ≡ (slice_row kern.old ticks).reply }
+    ensures row { row_of kern.new result ≡ slice_row kern.old ticks }
 {
     kern.time_slice(ticks);
     DONE
@@ -182,8 +176,7 @@ fn mark(kern: &Kern, who: Ident) -> bool
 /// in a routine, else 0.
 pub fn lock_interrupts(kern: &mut Kern, who: Actor) -> Reply
     requires { Acts kern.old who }
-    ensures kern { kern.new ≡ (int_lock_row kern.old who).kern }
-    ensures reply { result ≡ (int_lock_row kern.old who).reply }
+    ensures row { row_of kern.new result ≡ int_lock_row kern.old who }
 {
     let Actor::Task(who) = who else {
         return Reply::Answer(1);
@@ -196,8 +189,7 @@ pub fn lock_interrupts(kern: &mut Kern, who: Actor) -> Reply
 /// intUnlock: the task holds interrupts back if the lowest bit of the key is 1, else not.
 pub fn unlock_interrupts(kern: &mut Kern, who: Actor, key: u32) -> Reply
     requires { Acts kern.old who }
-    ensures kern { kern.new ≡ (int_unlock_row kern.old who key).kern }
-    ensures reply { result ≡ (int_unlock_row kern.old who key).reply }
+    ensures row { row_of kern.new result ≡ int_unlock_row kern.old who key }
 {
     if let Actor::Task(who) = who {
         kern.set_int_locked(who, key % 2 == 1);
