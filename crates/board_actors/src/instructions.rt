@@ -4,8 +4,7 @@ ghost use Rattle.std.specs.Prelude.{◌≡◌, ℕ, ◌≤◌, length};
 ghost use Rattle.wind_base.specs.Boards.{board_rules};
 ghost use Rattle.board_bus.specs.Seen.{bus_seen};
 ghost use Rattle.kernel_world.specs.Seen.{world_seen};
-ghost use Rattle.board_actors.specs.Instructions.{ExecutesMany};
-ghost use Rattle.board_actors.specs.Running.{IsThere, RanMany};
+ghost use Rattle.board_actors.specs.{Instructions.ExecutesMany, Running.{IsThere, RanMany}};
 
 use board_bus::BoardBus;
 use kernel_world::{Actor, World};

@@ -2,9 +2,7 @@
 
 ghost use Rattle.std.specs.Prelude.{◌≡◌, ◌≤◌, ◌+◌, length};
 ghost use Rattle.std.proofs.Props.{props};
-ghost use Rattle.board_player.specs.Inside.{inside, IsSpacious};
-ghost use Rattle.board_player.specs.Going.{IsKnown};
-ghost use Rattle.board_player.specs.Facts.{Laid-prop, IsServable-prop, IsKnown-prop};
+ghost use Rattle.board_player.specs.{Inside.{inside, IsSpacious}, Going.IsKnown, Facts.{Laid-prop, IsServable-prop, IsKnown-prop}};
 ghost use Rattle.wind_machine.specs.Good.{Good};
 
 use crate::Step;
@@ -104,13 +102,8 @@ impl Board {
     ghost use Rattle.std.specs.Prelude.{◌≢◌, ◌↔◌, ◌<◌, ◌≤◌, ◌-◌, ◌^◌, ℕ, Some, None, IfSome, OnOk, OnErr, true};
     ghost use Rattle.std.specs.List.{All};
     ghost use Rattle.wind_base.specs.Limits.{most_steps};
-    ghost use Rattle.wind_machine.specs.Said.{said_of};
-    ghost use Rattle.wind_machine.specs.Extending.{extended, more_of};
-    ghost use Rattle.wind_machine.specs.Silent.{SilentSteps};
-    ghost use Rattle.wind_machine.specs.Interrupts.{StepsSlot};
-    ghost use Rattle.wind_machine.specs.Machine.{file_asked, machine_step, Steps, IsOver, may_exhaust_memory};
-    ghost use Rattle.board_player.specs.Asking.{needed};
-    ghost use Rattle.board_player.specs.Seen.{seen};
+    ghost use Rattle.wind_machine.specs.{Said.said_of, Extending.{extended, more_of}, Silent.SilentSteps, Interrupts.StepsSlot, Machine.{file_asked, machine_step, Steps, IsOver, may_exhaust_memory}};
+    ghost use Rattle.board_player.specs.{Asking.needed, Seen.seen};
     ghost use Rattle.board_player.specs.declared.Step.TheVariants as steps;
 
     /// Makes the next step, if there is one and it needs no file. Host memory may run out only if
@@ -242,8 +235,7 @@ impl Board {
 
 impl Board {
     ghost use Rattle.std.specs.Prelude.{IfOk, OnErr, true};
-    ghost use Rattle.wind_machine.specs.Machine.{may_exhaust_memory};
-    ghost use Rattle.wind_machine.specs.Next.{next as next_lem};
+    ghost use Rattle.wind_machine.specs.{Machine.may_exhaust_memory, Next.{next as next_lem}};
     ghost use Rattle.board_player.specs.Seen.{seen};
 
     /// What the next step is. Host memory may run out only for the name of a file, if the state

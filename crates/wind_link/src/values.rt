@@ -3,14 +3,9 @@
 ghost use Rattle.std.specs.Prelude.{◌≡◌, ℕ, ◌∷◌, List, OnOk, IfOk, length, if◌then◌else◌, bytes_eq};
 ghost use Rattle.elf_read.specs.declared.module.Sect.{Sect};
 ghost use Rattle.symbol_table.specs.Newest.{find_global};
-ghost use Rattle.module_image.specs.Binding.{bind};
-ghost use Rattle.module_image.specs.Exports.{export_of, exports_from};
-ghost use Rattle.module_image.specs.Image.{meaning_by, meanings_from};
-ghost use Rattle.module_image.specs.Link.{value_else};
-ghost use Rattle.module_image.specs.Opening.{symbols_of_gate};
+ghost use Rattle.module_image.specs.{Binding.bind, Exports.{export_of, exports_from}, Image.{meaning_by, meanings_from}, Link.value_else, Opening.symbols_of_gate};
 ghost use Rattle.wind_base.specs.Limits.{gates_start};
-ghost use Rattle.wind_link.specs.Linking.{opening_symbols};
-ghost use Rattle.wind_link.specs.Values.{value_of, Means};
+ghost use Rattle.wind_link.specs.{Linking.opening_symbols, Values.{value_of, Means}};
 
 use elf_read::Sym;
 use module_image::is_visible;
