@@ -2,15 +2,19 @@
 use Rattle.std.proofs.Common.{◌≡◌, ℕ, ◌+◌, List, Option, sym, subst, arith}
 use Rattle.wind_outside.specs.Files.{Files}
 use Rattle.wind_machine.specs.State.{State}
+use Rattle.wind_machine.specs.Machine.{IsOver}
 use Rattle.wind_machine.specs.Extending.{Setup}
 use Rattle.wind_session.specs.Modules.{Shelf}
 use Rattle.wind_session.specs.Outside.{Outside}
 use Rattle.wind_session.specs.Runs.{Ran}
 use Rattle.wind_session.specs.declared.run.RunEnd.{RunEnd}
 use Rattle.wind_session.specs.declared.run.RunEnd.TheVariants as ends
+use Rattle.wind_session.proofs.AppendingLemmas.{rose_earlier}
+use Rattle.live_session.proofs.KeepingLemmas.{keeps_both, keeps_same}
 use Rattle.live_session.proofs.Limits.{under_limit}
+use Rattle.live_session.specs.Around.{Around}
 use Rattle.live_session.specs.Ending.{IsGoing}
-use Rattle.live_session.specs.Seen.{LiveState, IsLiveAt, IsRun, GoesOn}
+use Rattle.live_session.specs.Seen.{LiveState, IsLiveAt, IsRun, IsSound, GoesOn, Runs, StaysLive}
 
 -- after a run that can go on, the session is live
 pub is_live : (end : RunEnd) (shelf : Shelf) (setup : Setup) (l : LiveState) (old now : Outside) → IsGoing end → IsRun end shelf setup l old now → IsLiveAt shelf setup l old now
@@ -30,24 +34,39 @@ is_run ends.NoMemory shelf setup l old now going h = absurd going
 pub quiet_going : (end : RunEnd) → end ≡ ends.Quiet → IsGoing end
 quiet_going end quiet = subst (λ (e : RunEnd). IsGoing e) (sym quiet) tt
 
--- what is sent leaves the session live
-abbrev pub KeepsLive : LiveState → LiveState → Type 0
-KeepsLive l m = (shelf : Shelf) (setup : Setup) (old now : Outside) → IsLiveAt shelf setup l old now → IsLiveAt shelf setup m old now
-
 -- nothing has run
-pub stays : (end : RunEnd) (shelf : Shelf) (l : LiveState) (now : Outside) → IsGoing end → GoesOn end shelf l now l now
-stays end shelf l now going = record { goes = λ setup old live. is_run end shelf setup l old now going live }
-
--- one run after another, with what is sent in between
-pub goes_on : (end next : RunEnd) (shelf : Shelf) (k l m n : LiveState) (a b c : Outside) → IsGoing end → GoesOn end shelf k a l b → KeepsLive l m → GoesOn next shelf m b n c → GoesOn next shelf k a n c
-goes_on end next shelf k l m n a b c going first sent second = record {
-  goes = λ setup old live. second.goes setup old (sent shelf setup old b (is_live end shelf setup l old b going (first.goes setup old live)));
+pub runs_none : (end : RunEnd) (modules : List ℕ) (l : LiveState) (now : Around) → IsGoing end → IsSound l → (end ≡ ends.Quiet → IsOver l.board) → Runs end modules l now l now
+runs_none end modules l now going sound over = record {
+  sound = sound;
+  goes = record { goes = λ setup old live. is_run end (record { files = now.files; name = modules }) setup l old now.logged going live };
+  quiet = over;
+  read_fault = λ e. let bad : IsGoing ends.ReadFault = subst (λ (x : RunEnd). IsGoing x) e going in absurd bad;
+  write_fault = λ e. let bad : IsGoing ends.WriteFault = subst (λ (x : RunEnd). IsGoing x) e going in absurd bad;
+  keeps = keeps_same now;
 }
 
--- the folder of modules says the same later
-pub on_shelf : (end : RunEnd) (name : List ℕ) (f g : Option Files) (l m : LiveState) (now later : Outside) → f ≡ g
-    → GoesOn end (record { files = f; name = name }) l now m later → GoesOn end (record { files = g; name = name }) l now m later
-on_shelf end name f g l m now later same = subst (λ (files : Option Files). GoesOn end (record { files = files; name = name }) l now m later) same
+-- what was refused, or not sent, has changed nothing
+pub stays_same : (l : LiveState) → IsSound l → StaysLive l l
+stays_same l sound = record { sound = sound; live = λ shelf setup old now live. live }
+
+-- the board runs, something is sent, and the board runs again, while the folder keeps its files
+module _ (end next : RunEnd) (modules : List ℕ) (k l m n : LiveState) (a b c : Around) (going : IsGoing end) (first : Runs end modules k a l b) (sent : StaysLive l m) (second : Runs next modules m b n c) where
+  here : GoesOn next (record { files = a.files; name = modules }) m b.logged n c.logged
+  here = subst (λ (files : Option Files). GoesOn next (record { files = files; name = modules }) m b.logged n c.logged) first.keeps.same_files second.goes
+
+  pub runs_on : Runs next modules k a n c
+  runs_on = record {
+    sound = second.sound;
+    goes = record {
+      goes = λ setup old live.
+          here.goes setup old (sent.live (record { files = a.files; name = modules }) setup old b.logged
+          (is_live end (record { files = a.files; name = modules }) setup l old b.logged going (first.goes.goes setup old live)));
+    };
+    quiet = second.quiet;
+    read_fault = λ e. rose_earlier _ _ _ first.keeps.folder_keeps second.keeps.folder_keeps (second.read_fault e);
+    write_fault = λ e. rose_earlier _ _ _ first.keeps.sink_keeps second.keeps.sink_keeps (second.write_fault e);
+    keeps = keeps_both a b c first.keeps second.keeps;
+  }
 
 -- ---- a run that went on from its limit
 -- after it has ended like this, the run up to the steps made is at its limit

@@ -10,7 +10,7 @@ use Rattle.wind_session.specs.Live.{IsLive, TypedLaw}
 use Rattle.wind_session.specs.Modules.{Shelf}
 use Rattle.wind_session.specs.Outside.{Outside}
 use Rattle.live_session.specs.Record.{IsRecord, IsWithinFile}
-use Rattle.live_session.specs.Seen.{LiveState, IsLiveAt, IsSound}
+use Rattle.live_session.specs.Seen.{LiveState, IsLiveAt, IsSound, StaysLive}
 use Rattle.live_session.proofs.Recording.{added, room_after, sent_live, within_file}
 
 -- an event at this time was sent and recorded, with its bytes and its line
@@ -30,7 +30,7 @@ pub record IsSent (l m : LiveState) (time : ℕ) (event : Event) (bytes line : L
   pub ticks_room : length line ≤ l.ticks.room
 
 module _ (more : MoreLaw) (l m : LiveState) (time : ℕ) (event : Event) (bytes line : List ℕ) (sound : IsSound l) (s : IsSent l m time event bytes line) where
-  pub sent_sound : IsSound m
+  sent_sound : IsSound m
   sent_sound = record {
     kept =
         subst (λ (ticks : Output). IsRecord ticks m.lines m.last) (sym s.ticks)
@@ -47,10 +47,13 @@ module _ (more : MoreLaw) (l m : LiveState) (time : ℕ) (event : Event) (bytes 
   }
 
   -- the board that took it is that of the longer record
-  pub sent_at : TypedLaw → (shelf : Shelf) (setup : Setup) (old now : Outside) → IsLiveAt shelf setup l old now → IsLiveAt shelf setup m old now
+  sent_at : TypedLaw → (shelf : Shelf) (setup : Setup) (old now : Outside) → IsLiveAt shelf setup l old now → IsLiveAt shelf setup m old now
   sent_at law shelf setup old now live =
       let grown = extended (more_of bytes (l.lines + 1) time event l.board.schedule.on_demand) l.board in
       subst (λ (b : State). IsLive shelf setup m.console.bytes m.ticks.bytes b old now) (sym s.board)
       (subst (λ (text : Output). IsLive shelf setup m.console.bytes text.bytes grown old now) (sym s.ticks)
       (subst (λ (text : Output). IsLive shelf setup text.bytes (l.ticks.bytes ++ line) grown old now) (sym s.console)
       (sent_live law more shelf setup l.console.bytes l.ticks l.lines l.last time event bytes line l.board old now sound.kept s.late s.fits s.range s.asked s.later s.line_is live)))
+
+  pub sent_stays : TypedLaw → StaysLive l m
+  sent_stays law = record { sound = sent_sound; live = sent_at law }

@@ -26,7 +26,7 @@ use Rattle.wind_session.specs.declared.ending.Which.{Which}
 use Rattle.wind_session.specs.declared.ending.Which.TheVariants as which
 use Rattle.wind_session.proofs.Continuing.{at_start}
 use Rattle.live_session.specs.Record.{IsRecord, IsWithinFile}
-use Rattle.live_session.specs.Seen.{LiveState, IsLiveAt, IsSound}
+use Rattle.live_session.specs.Seen.{LiveState, Begins, IsLiveAt, IsSound}
 
 -- ---- windplay plays the two files
 short_file : (file : Which) (next : List ℕ → Plan) (bytes : List ℕ) → length bytes ≤ longest_text_file → plan_file file next (Some bytes) ≡ next bytes
@@ -76,14 +76,12 @@ module _ (law : WritingLaw) (slots : List (Option DeviceState)) (profile : Profi
   unfolding setup
   at_boot = begun ∙ ap (λ (bytes : List ℕ). opening bytes schedule slots profile kind) none ∙ ap (λ (t : Timetable). opening [] t slots profile kind) unscheduled
 
-  pub new_live : (shelf : Shelf) (old : Outside) → IsLiveAt shelf (record { slots = slots; profile = profile; board = kind }) l old old
-  unfolding setup
+  new_live : (shelf : Shelf) (old : Outside) → IsLiveAt shelf setup l old old
   new_live shelf old =
       subst (λ text. IsLive shelf setup text l.ticks.bytes l.board old old) (sym n.console)
       (subst (λ text. IsLive shelf setup [] text l.board old old) (sym n.ticks) (live_at_start law shelf setup l.board old at_boot))
 
-  pub new_sound : IsSound l
-  unfolding setup
+  new_sound : IsSound l
   new_sound = record {
     kept = n.kept;
     console = n.within;
@@ -92,3 +90,7 @@ module _ (law : WritingLaw) (slots : List (Option DeviceState)) (profile : Profi
         (subst (λ lines. IsRoom 0 (lines + 1) l.board) (sym n.lines) (room_at_start law setup l.board at_boot));
     few = omega (arith, no_steps setup l.board at_boot);
   }
+
+  pub new_begins : Begins (record { slots = slots; profile = profile; board = kind }) l
+  unfolding setup
+  new_begins = record { sound = new_sound; empty = n.console; live = new_live }

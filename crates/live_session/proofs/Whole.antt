@@ -1,5 +1,5 @@
 -- A session that was played, from its parts.
-use Rattle.std.proofs.Common.{◌≡◌, ◌≢◌, ℕ, List, [], Option, subst}
+use Rattle.std.proofs.Common.{◌≡◌, ◌≢◌, ℕ, List, [], Option}
 use Rattle.wind_outside.specs.Devices.{DeviceState}
 use Rattle.wind_outside.specs.Files.{Files}
 use Rattle.tick_file.specs.Writing.{WritingLaw}
@@ -8,12 +8,13 @@ use Rattle.wind_machine.specs.Machine.{IsOver}
 use Rattle.wind_machine.specs.Extending.{Setup}
 use Rattle.wind_session.specs.Modules.{Shelf}
 use Rattle.wind_session.specs.Outside.{Outside}
+use Rattle.live_session.specs.Around.{Around}
 use Rattle.wind_session.specs.declared.run.RunEnd.{RunEnd}
 use Rattle.wind_session.specs.declared.run.RunEnd.TheVariants as ends
 use Rattle.live_session.specs.Command.{CommandState}
 use Rattle.live_session.specs.Ending.{IsAfterRun, IsGoing, is_quiet}
 use Rattle.live_session.specs.Saving.{IsSaved, WritesOnly, replay_limit}
-use Rattle.live_session.specs.Seen.{LiveState, IsLiveAt, IsSound, GoesOn}
+use Rattle.live_session.specs.Seen.{LiveState, IsLiveAt, Runs}
 use Rattle.live_session.specs.Session.{IsPermitted, IsRecorded, IsStatusOf, IsTyped, Played, setup_of, shelf_of}
 use Rattle.live_session.specs.declared.status.Status.{Status}
 use Rattle.live_session.specs.declared.status.Status.TheVariants as status
@@ -29,52 +30,32 @@ is_recorded end c shelf setup console ticks board old now files new going run ov
     record { replay_end = replay.0; going = replay.1; replay = replay.2; before = files; saved = saved }
 
 -- how the conversation ended, and what became of the record
-pub record Closed (s : Status) (c : CommandState) (end : RunEnd) (l m : LiveState) (modules : Option Files) (old now : Outside) (left_old left_new : Option (List ℕ)) (files mid new : Option Files) (rose : Type 0) : Type 0 where
-  pub sound : IsSound m
-  pub run : GoesOn end (shelf_of modules c) l old m now
-  pub quiet : end ≡ ends.Quiet → IsOver m.board
+pub record Closed (s : Status) (c : CommandState) (end : RunEnd) (l m : LiveState) (before after : Around) (left_old left_new : Option (List ℕ)) (files mid new : Option Files) (rose : Type 0) : Type 0 where
+  pub runs : Runs end c.modules l before m after
   pub status_is : IsStatusOf end s
   pub typed : IsTyped s left_old left_new m.console.bytes
   pub writes : WritesOnly c.record_folder files new
   pub saved : s ≡ status.Ended → c.record_folder ≢ [] → IsGoing end × IsSaved c m.console.bytes m.ticks.bytes (replay_limit m.board.steps (is_quiet end)) mid new
   pub unrecorded : s ≡ status.Unrecorded → (c.record_folder ≢ []) × rose
 
-pub plays : WritingLaw → (s : Status) (c : CommandState) (end : RunEnd) (l m : LiveState) (modules : Option Files) (old now : Outside) (left_old left_new : Option (List ℕ)) (files mid new : Option Files) (rose : Type 0)
-    → Closed s c end l m modules old now left_old left_new files mid new rose
-    → (devices : List (Option DeviceState)) → IsPermitted c files → IsLiveAt (shelf_of modules c) (setup_of c devices) l old old
-    → Played s c modules devices old now left_old left_new files new rose
-plays law s c end l m modules old now left_old left_new files mid new rose h devices permitted live =
-    let run : IsAfterRun end (shelf_of modules c) (setup_of c devices) m.console.bytes m.ticks.bytes m.board old now = h.run.goes (setup_of c devices) old live in
+pub plays : WritingLaw → (s : Status) (c : CommandState) (end : RunEnd) (l m : LiveState) (before after : Around) (left_old left_new : Option (List ℕ)) (files mid new : Option Files) (rose : Type 0)
+    → Closed s c end l m before after left_old left_new files mid new rose
+    → (devices : List (Option DeviceState)) → IsPermitted c files → IsLiveAt (shelf_of before.files c) (setup_of c devices) l before.logged before.logged
+    → Played s c before.files devices before.logged after.logged left_old left_new files new rose
+plays law s c end l m before after left_old left_new files mid new rose h devices permitted live =
+    let run : IsAfterRun end (shelf_of before.files c) (setup_of c devices) m.console.bytes m.ticks.bytes m.board before.logged after.logged = h.runs.goes.goes (setup_of c devices) before.logged live in
     record {
       console = m.console.bytes;
       ticks = m.ticks.bytes;
       board = m.board;
       end = end;
-      planned = planned law m.console m.ticks m.lines m.last h.sound.console h.sound.kept;
+      planned = planned law m.console m.ticks m.lines m.last h.runs.sound.console h.runs.sound.kept;
       run = run;
       status_is = h.status_is;
       typed = h.typed;
       permitted = permitted;
       writes = h.writes;
       recorded = λ e named.
-          is_recorded end c (shelf_of modules c) (setup_of c devices) m.console.bytes m.ticks.bytes m.board old now mid new (h.saved e named).0 run h.quiet (h.saved e named).1;
+          is_recorded end c (shelf_of before.files c) (setup_of c devices) m.console.bytes m.ticks.bytes m.board before.logged after.logged mid new (h.saved e named).0 run h.runs.quiet (h.saved e named).1;
       unrecorded = h.unrecorded;
     }
-
--- ---- asking for a record changes no file
-pub played_after : (s : Status) (c : CommandState) (modules : Option Files) (devices : List (Option DeviceState)) (old now : Outside) (left_old left_new : Option (List ℕ)) (files asked new : Option Files) (rose later : Type 0)
-    → asked ≡ files → (rose → later) → Played s c modules devices old now left_old left_new asked new rose → Played s c modules devices old now left_old left_new files new later
-played_after s c modules devices old now left_old left_new files asked new rose later same up p = record {
-  console = p.console;
-  ticks = p.ticks;
-  board = p.board;
-  end = p.end;
-  planned = p.planned;
-  run = p.run;
-  status_is = p.status_is;
-  typed = p.typed;
-  permitted = subst (λ (f : Option Files). IsPermitted c f) same p.permitted;
-  writes = subst (λ (f : Option Files). WritesOnly c.record_folder f new) same p.writes;
-  recorded = p.recorded;
-  unrecorded = λ e. ((p.unrecorded e).0, up (p.unrecorded e).1);
-}

@@ -1,3 +1,4 @@
+pub mod Around
 pub mod Command
 pub mod DotLines
 pub mod Ending

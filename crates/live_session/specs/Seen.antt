@@ -1,18 +1,22 @@
 -- A live session as plain data.
-use Rattle.std.specs.Prelude.{◌≡◌, ◌⊎◌, ℕ, ◌+◌, ◌≤◌, List, ◌++◌}
+use Rattle.std.specs.Prelude.{◌≡◌, ◌⊎◌, ℕ, ◌+◌, ◌≤◌, List, [], ◌++◌}
 use Rattle.std.specs.declared.dyn_box.DynBox.{DynBox}
 use Rattle.std.specs.declared.alloc.Global.{Global}
 use Rattle.wind_base.specs.Limits.{most_steps}
 use Rattle.wind_base.specs.OutBuf.{Output}
+use Rattle.wind_outside.specs.Counts.{Rose}
 use Rattle.wind_outside.specs.declared.device.Device.{Ghosts}
 use Rattle.wind_outside.specs.declared.device.DeviceKind.{DeviceKind}
 use Rattle.wind_session.specs.BoardSeen.{board_by, seen}
 use Rattle.wind_machine.specs.State.{State}
+use Rattle.wind_machine.specs.Machine.{IsOver}
 use Rattle.wind_machine.specs.Extending.{Setup, IsRoom}
 use Rattle.wind_session.specs.Live.{IsLive}
 use Rattle.wind_session.specs.Modules.{Shelf}
 use Rattle.wind_session.specs.Outside.{Outside}
 use Rattle.wind_session.specs.declared.run.RunEnd.{RunEnd}
+use Rattle.wind_session.specs.declared.run.RunEnd.TheVariants as ends
+use Rattle.live_session.specs.Around.{Around, KeepsFiles}
 use Rattle.live_session.specs.Ending.{IsAfterRun}
 use Rattle.live_session.specs.Record.{IsRecord, IsWithinFile}
 use Rattle.live_session.specs.declared.live.Live.{Live}
@@ -67,3 +71,28 @@ IsRun end shelf setup l old now = IsAfterRun end shelf setup l.console.bytes l.t
 -- a session that is live goes on to another state, after a run that ended like this
 pub record GoesOn (end : RunEnd) (shelf : Shelf) (l : LiveState) (now : Outside) (m : LiveState) (later : Outside) : Type 0 where
   pub goes : (setup : Setup) (old : Outside) → IsLiveAt shelf setup l old now → IsRun end shelf setup m old later
+
+-- a session begins: its record is empty, and no step was made
+pub record Begins (setup : Setup) (l : LiveState) : Type 0 where
+  pub sound : IsSound l
+  pub empty : l.console.bytes ≡ []
+  pub live : (shelf : Shelf) (old : Outside) → IsLiveAt shelf setup l old old
+
+-- what is sent keeps a session sound, and live if it is
+pub record StaysLive (l m : LiveState) : Type 0 where
+  pub sound : IsSound m
+  pub live : (shelf : Shelf) (setup : Setup) (old now : Outside) → IsLiveAt shelf setup l old now → IsLiveAt shelf setup m old now
+
+-- these bytes were sent, or refused
+pub record Delivers (bytes : List ℕ) (l m : LiveState) : Type 0 where
+  pub stays : StaysLive l m
+  pub sent : Sends bytes l m
+
+-- the board has run, which ended like this, with the modules of the folder with this name
+pub record Runs (end : RunEnd) (modules : List ℕ) (l : LiveState) (before : Around) (m : LiveState) (after : Around) : Type 0 where
+  pub sound : IsSound m
+  pub goes : GoesOn end (record { files = before.files; name = modules }) l before.logged m after.logged
+  pub quiet : end ≡ ends.Quiet → IsOver m.board
+  pub read_fault : end ≡ ends.ReadFault → Rose before.folder_faults after.folder_faults
+  pub write_fault : end ≡ ends.WriteFault → Rose before.sink_faults after.sink_faults
+  pub keeps : KeepsFiles before after

@@ -90,11 +90,10 @@ IsStatusOf end status.Usage = ⊥
 
 -- the status if nothing but the board's last run decides it
 abbrev pub status_of : RunEnd → Status
-status_of ends.Quiet = status.Ended
-status_of ends.Limit = status.Ended
 status_of ends.ReadFault = status.ReadFault
 status_of ends.WriteFault = status.WriteFault
 status_of ends.NoMemory = status.NoMemory
+status_of end = status.Ended
 
 -- the status if the record of a session that ended was not written
 abbrev pub status_unless : Unsaved → Status → Status

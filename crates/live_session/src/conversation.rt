@@ -3,24 +3,23 @@
 ghost use Rattle.std.specs.Prelude.{◌≡◌, ◌≢◌, ◌⊎◌, ◌≤◌, ◌↔◌, [], IsTrue, Err, IfOk, IfErr, OnErr, IfSome};
 ghost use Rattle.wind_outside.specs.Counts.{Rose};
 ghost use Rattle.wind_machine.specs.Machine.{IsOver};
-ghost use Rattle.wind_session.specs.Outside.{outside};
+ghost use Rattle.live_session.specs.Around.{around};
 ghost use Rattle.wind_session.specs.declared.run.RunEnd.TheVariants as ends;
 ghost use Rattle.live_session.specs.Ending.{IsGoing};
 ghost use Rattle.live_session.specs.Input.{Takes, IsPart, IsLongest};
 ghost use Rattle.live_session.specs.Places.{IsIdle};
 ghost use Rattle.live_session.specs.Saving.{WritesOnly};
-ghost use Rattle.live_session.specs.Seen.{live_seen, IsSound, GoesOn};
+ghost use Rattle.live_session.specs.Seen.{live_seen, IsSound, Runs};
 ghost use Rattle.live_session.specs.Session.{IsStatusOf, IsTyped, status_of};
 ghost use Rattle.live_session.specs.Words.{IsTarget};
 ghost use Rattle.live_session.specs.declared.status.Status.TheVariants as status;
 
-use crate::command::Command;
 use crate::input::{Input, InputPart};
-use crate::keeping::save_now;
+use crate::keeping::write_record;
 use crate::live::Live;
-use crate::messages::tell_state;
+use crate::messages::{tell, tell_of, tell_state};
 use crate::record_folder::RecordFolder;
-use crate::running::{give_ticks, run};
+use crate::running::run;
 use crate::saving::Target;
 use crate::serving::{Place, Then, place_after, take_part};
 use crate::status::Status;
@@ -44,34 +43,35 @@ fn act<F: Folder, O: Sink, E: Sink, D: RecordFolder>(
     requires going { IsGoing end }
     requires over { end ≡ ends.Quiet → IsIdle then → IsOver (live_seen ⟦<dyn Device as Device>⟧ live.old).board }
     requires sound { IsSound (live_seen ⟦<dyn Device as Device>⟧ live.old) }
-    ensures sound { IsSound (live_seen ⟦<dyn Device as Device>⟧ live.new) }
-    ensures run { GoesOn result (record { files = F.files folder.old; name = target.entry.command.now.modules.now })
-        (live_seen ⟦<dyn Device as Device>⟧ live.old)
-        (outside (F.requests folder.old) (O.bytes out.old) (O.pieces out.old))
-        (live_seen ⟦<dyn Device as Device>⟧ live.new)
-        (outside (F.requests folder.new) (O.bytes out.new) (O.pieces out.new)) }
-    ensures quiet { result ≡ ends.Quiet → IsOver (live_seen ⟦<dyn Device as Device>⟧ live.new).board }
+    ensures runs { Runs result target.entry.command.now.modules.now
+        (live_seen ⟦<dyn Device as Device>⟧ live.old) (around ⟦<F as Folder>⟧ ⟦<O as Sink>⟧ folder.old out.old)
+        (live_seen ⟦<dyn Device as Device>⟧ live.new) (around ⟦<F as Folder>⟧ ⟦<O as Sink>⟧ folder.new out.new) }
     ensures console { (live_seen ⟦<dyn Device as Device>⟧ live.new).console.bytes
         ≡ (live_seen ⟦<dyn Device as Device>⟧ live.old).console.bytes }
-    ensures read_fault { result ≡ ends.ReadFault → Rose (F.faults folder.old) (F.faults folder.new) }
-    ensures fault { result ≡ ends.WriteFault → Rose (O.faults out.old) (O.faults out.new) }
     ensures writes { WritesOnly target.entry.command.now.record.now (D.files records.old) (D.files records.new) }
     ensures record_faults { D.faults records.old ≤ D.faults records.new }
-    ensures files { F.files folder.new ≡ F.files folder.old }
-    ensures folder_faults { F.faults folder.old ≤ F.faults folder.new }
-    ensures faults { O.faults out.old ≤ O.faults out.new }
 {
     match then {
         Then::Nothing | Then::Quit => end,
         Then::Sent => RunEnd::Limit,
-        Then::Run(most) => run(alloc, target.command, live, folder, out, err, most),
-        Then::Ticks(ticks) => give_ticks(alloc, target.command, live, folder, out, err, ticks),
+        Then::Run(most) => run(alloc, target.command, live, folder, out, err, most, 0),
+        Then::Ticks(ticks) => {
+            let most = target.command.quiet_after;
+            run(alloc, target.command, live, folder, out, err, most, ticks)
+        }
         Then::State => {
             tell_state(alloc, err, live);
             end
         }
+        Then::Save if target.command.record.is_empty() => {
+            tell(err, b"nothing is saved without --record");
+            end
+        }
         Then::Save => {
-            save_now(alloc, target, live, err, records, end);
+            if write_record(alloc, target, live, err, records, end).is_ok() {
+                let name = target.command.record.as_bytes();
+                tell_of(err, name, b": the record was written\n");
+            }
             end
         }
     }
@@ -123,48 +123,6 @@ fn hear<I: Input>(alloc: Global, input: &mut I) -> Result<Vec<u8>, Status>
     }
 }
 
-// At the end of the input the board runs once more, if the last line has no end.
-fn finish<F: Folder, O: Sink, E: Sink>(
-    alloc: Global,
-    command: &Command,
-    live: &mut Live,
-    folder: &mut F,
-    out: &mut O,
-    err: &mut E,
-    place: Place,
-    closing: Closing,
-) -> Closing
-    requires going { IsGoing closing.end }
-    requires ended { IsStatusOf ends.Limit closing.status × (closing.status ≢ status.Unrecorded) }
-    requires over { closing.end ≡ ends.Quiet → IsOver (live_seen ⟦<dyn Device as Device>⟧ live.old).board }
-    requires sound { IsSound (live_seen ⟦<dyn Device as Device>⟧ live.old) }
-    ensures sound { IsSound (live_seen ⟦<dyn Device as Device>⟧ live.new) }
-    ensures run { GoesOn result.end (record { files = F.files folder.old; name = command.now.modules.now })
-        (live_seen ⟦<dyn Device as Device>⟧ live.old)
-        (outside (F.requests folder.old) (O.bytes out.old) (O.pieces out.old))
-        (live_seen ⟦<dyn Device as Device>⟧ live.new)
-        (outside (F.requests folder.new) (O.bytes out.new) (O.pieces out.new)) }
-    ensures quiet { result.end ≡ ends.Quiet → IsOver (live_seen ⟦<dyn Device as Device>⟧ live.new).board }
-    ensures console { (live_seen ⟦<dyn Device as Device>⟧ live.new).console.bytes
-        ≡ (live_seen ⟦<dyn Device as Device>⟧ live.old).console.bytes }
-    ensures status_is { IsStatusOf result.end result.status × (result.status ≢ status.Unrecorded) }
-    ensures ended { result.status ≡ status.Ended → closing.status ≡ status.Ended }
-    ensures read_fault { result.status ≡ status.ReadFault
-        → (closing.status ≡ status.ReadFault) ⊎ Rose (F.faults folder.old) (F.faults folder.new) }
-    ensures fault { result.status ≡ status.WriteFault → Rose (O.faults out.old) (O.faults out.new) }
-    ensures files { F.files folder.new ≡ F.files folder.old }
-    ensures folder_faults { F.faults folder.old ≤ F.faults folder.new }
-    ensures faults { O.faults out.old ≤ O.faults out.new }
-{
-    match (place, closing.status) {
-        (Place::Text, Status::Ended) => {
-            let end = run(alloc, command, live, folder, out, err, command.quiet_after);
-            closing_of(end)
-        }
-        _ => closing,
-    }
-}
-
 /// Takes one part of the input after another, until it ends, the end is asked for, or the board
 /// can't go on.
 pub(crate) fn converse<I: Input, F: Folder, O: Sink, E: Sink, D: RecordFolder>(
@@ -180,13 +138,9 @@ pub(crate) fn converse<I: Input, F: Folder, O: Sink, E: Sink, D: RecordFolder>(
     requires target { IsTarget target }
     requires empty { (live_seen ⟦<dyn Device as Device>⟧ live.old).console.bytes ≡ [] }
     requires sound { IsSound (live_seen ⟦<dyn Device as Device>⟧ live.old) }
-    ensures sound { IsSound (live_seen ⟦<dyn Device as Device>⟧ live.new) }
-    ensures run { GoesOn result.end (record { files = F.files folder.old; name = target.entry.command.now.modules.now })
-        (live_seen ⟦<dyn Device as Device>⟧ live.old)
-        (outside (F.requests folder.old) (O.bytes out.old) (O.pieces out.old))
-        (live_seen ⟦<dyn Device as Device>⟧ live.new)
-        (outside (F.requests folder.new) (O.bytes out.new) (O.pieces out.new)) }
-    ensures quiet { result.end ≡ ends.Quiet → IsOver (live_seen ⟦<dyn Device as Device>⟧ live.new).board }
+    ensures runs { Runs result.end target.entry.command.now.modules.now
+        (live_seen ⟦<dyn Device as Device>⟧ live.old) (around ⟦<F as Folder>⟧ ⟦<O as Sink>⟧ folder.old out.old)
+        (live_seen ⟦<dyn Device as Device>⟧ live.new) (around ⟦<F as Folder>⟧ ⟦<O as Sink>⟧ folder.new out.new) }
     ensures status_is { IsStatusOf result.end result.status × (result.status ≢ status.Unrecorded) }
     ensures typed { IsTyped result.status (I.left input.old) (I.left input.new)
         (live_seen ⟦<dyn Device as Device>⟧ live.new).console.bytes }
@@ -196,32 +150,22 @@ pub(crate) fn converse<I: Input, F: Folder, O: Sink, E: Sink, D: RecordFolder>(
     ensures writes { WritesOnly target.entry.command.now.record.now (D.files records.old) (D.files records.new) }
     ensures record_faults { D.faults records.old ≤ D.faults records.new }
     ensures input_faults { I.faults input.old ≤ I.faults input.new }
-    ensures files { F.files folder.new ≡ F.files folder.old }
-    ensures folder_faults { F.faults folder.old ≤ F.faults folder.new }
-    ensures faults { O.faults out.old ≤ O.faults out.new }
 {
     let steps = target.command.quiet_after;
     let mut place = Place::Start;
-    let mut end = run(alloc, target.command, live, folder, out, err, steps);
+    let mut end = run(alloc, target.command, live, folder, out, err, steps, 0);
     for _ in 0..u64::MAX {
         if !is_going(end) {
             return closing_of(end);
         }
         let part = match hear(alloc, input) {
             Ok(part) => part,
-            Err(status) => {
-                let closing = Closing { end, status };
-                return finish(
-                    alloc,
-                    target.command,
-                    live,
-                    folder,
-                    out,
-                    err,
-                    place,
-                    closing,
-                );
+            // The last line has no end.
+            Err(Status::Ended) if place == Place::Text => {
+                let last = run(alloc, target.command, live, folder, out, err, steps, 0);
+                return closing_of(last);
             }
+            Err(status) => return Closing { end, status },
         };
         let then = take_part(alloc, live, err, place, &part, steps);
         end = act(alloc, target, live, folder, out, err, records, then, end);

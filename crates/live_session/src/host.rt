@@ -12,23 +12,13 @@ use std::io::{BufRead, ErrorKind, Read};
 use std::rt::Files;
 use std::{fs, io};
 use wind_base::limits::CHUNK_BYTES;
-use wind_outside::Put;
+use wind_outside::{Counted, Put};
 
 /// A stream that is read.
-#[derive(Drop)]
-pub struct HostInput<R: BufRead + Drop> {
-    reader: R,
-    faults: u64,
-}
+pub type HostInput<R> = Counted<R>;
 
-impl<R: BufRead + Drop> HostInput<R> {
-    /// The stream, before any read failed.
-    pub fn new(reader: R) -> HostInput<R>
-        ensures { result.faults ≡ 0 }
-    {
-        HostInput { reader, faults: 0 }
-    }
-}
+/// The program's current directory, and the files below it.
+pub type HostRecordFolder<R> = Counted<R>;
 
 // Reads up to and including the next 0x0A, but at most 4,096 bytes.
 fn read_part<R: BufRead>(alloc: Global, reader: &mut R) -> io::Result<Vec<u8>>
@@ -50,7 +40,7 @@ fn read_part<R: BufRead>(alloc: Global, reader: &mut R) -> io::Result<Vec<u8>>
     Ok(part)
 }
 
-impl<R: BufRead + Drop> Input for HostInput<R> {
+impl<R: BufRead + Drop> Input for Counted<R> {
     ghost use Rattle.std.specs.Prelude.{None};
 
     ghost left = { λ _. None };
@@ -58,31 +48,15 @@ impl<R: BufRead + Drop> Input for HostInput<R> {
     ghost faults = { λ i. i.faults };
 
     fn next_part(&mut self, alloc: Global) -> InputPart {
-        match read_part(alloc, &mut self.reader) {
+        match read_part(alloc, &mut self.handle) {
             Ok(bytes) if bytes.is_empty() => InputPart::End,
             Ok(bytes) => InputPart::Bytes(bytes),
             Err(error) if error.kind() == ErrorKind::OutOfMemory => InputPart::NoMemory,
             Err(_) => {
-                self.faults = self.faults.saturating_add(1);
+                self.count_fault();
                 InputPart::Failed
             }
         }
-    }
-}
-
-/// The program's current directory, and the files below it.
-#[derive(Drop)]
-pub struct HostRecordFolder<R: Files + Drop> {
-    rt: R,
-    faults: u64,
-}
-
-impl<R: Files + Drop> HostRecordFolder<R> {
-    /// The directory, before any call failed.
-    pub fn new(rt: R) -> HostRecordFolder<R>
-        ensures { result.faults ≡ 0 }
-    {
-        HostRecordFolder { rt, faults: 0 }
     }
 }
 
@@ -100,7 +74,7 @@ fn write_whole<R: Files>(alloc: Global, rt: &R, name: &str, bytes: &[u8]) -> io:
     fs::rename(rt, path.as_str(), name)
 }
 
-impl<R: Files + Drop> RecordFolder for HostRecordFolder<R> {
+impl<R: Files + Drop> RecordFolder for Counted<R> {
     ghost use Rattle.std.specs.Prelude.{None};
 
     ghost files = { λ _. None };
@@ -108,20 +82,20 @@ impl<R: Files + Drop> RecordFolder for HostRecordFolder<R> {
     ghost faults = { λ f. f.faults };
 
     fn has(&mut self, name: &str) -> Presence {
-        match fs::exists(&self.rt, name) {
+        match fs::exists(&self.handle, name) {
             Ok(true) => Presence::There,
             Ok(false) => Presence::Absent,
             Err(error) if error.kind() == ErrorKind::NotADirectory => Presence::Absent,
             Err(_) => {
-                self.faults = self.faults.saturating_add(1);
+                self.count_fault();
                 Presence::Failed
             }
         }
     }
 
     fn replace(&mut self, alloc: Global, name: &str, bytes: &[u8]) -> Put {
-        if write_whole(alloc, &self.rt, name, bytes).is_err() {
-            self.faults = self.faults.saturating_add(1);
+        if write_whole(alloc, &self.handle, name, bytes).is_err() {
+            self.count_fault();
             return Put::Failed;
         }
         Put::Done

@@ -4,7 +4,7 @@ ghost use Rattle.std.specs.Prelude.{◌≡◌, ◌≢◌, ◌≤◌, IsTrue, fal
 ghost use Rattle.wind_base.specs.Limits.{most_steps};
 ghost use Rattle.wind_outside.specs.Counts.{Rose};
 ghost use Rattle.live_session.specs.Ending.{is_quiet};
-ghost use Rattle.live_session.specs.Saving.{IsSaved, KeepsOthers, WritesOnly, replay_limit as replay_limit_lem};
+ghost use Rattle.live_session.specs.Saving.{IsSaved, KeepsOthers, replay_limit as replay_limit_lem};
 ghost use Rattle.live_session.specs.Seen.{live_seen};
 ghost use Rattle.live_session.specs.Session.{IsPermitted, IsRefusal};
 ghost use Rattle.live_session.specs.Words.{command_state, IsTarget};
@@ -12,7 +12,7 @@ ghost use Rattle.live_session.specs.declared.saving.Unsaved.TheVariants as unsav
 ghost use Rattle.live_session.specs.declared.status.Status.TheVariants as status;
 
 use crate::live::Live;
-use crate::messages::{tell, tell_no_memory, tell_of};
+use crate::messages::{tell_no_memory, tell_of};
 use crate::record_folder::RecordFolder;
 use crate::saving::{Claim, Target, Unsaved, find_claim, replay_limit, save};
 use std::alloc::Global;
@@ -80,28 +80,4 @@ pub(crate) fn write_record<E: Sink, D: RecordFolder>(
         Err(Unsaved::NoMemory) => tell_no_memory(err),
     }
     saved
-}
-
-/// Writes the record because a line asks for it, and says so.
-pub(crate) fn save_now<E: Sink, D: RecordFolder>(
-    alloc: Global,
-    target: Target,
-    live: &Live,
-    err: &mut E,
-    records: &mut D,
-    end: RunEnd,
-)
-    requires target { IsTarget target }
-    requires few { (live_seen ⟦<dyn Device as Device>⟧ live.now).board.steps ≤ most_steps }
-    ensures writes { WritesOnly target.entry.command.now.record.now (D.files records.old) (D.files records.new) }
-    ensures never_falls { D.faults records.old ≤ D.faults records.new }
-{
-    if target.command.record.is_empty() {
-        tell(err, b"nothing is saved without --record");
-        return;
-    }
-    if write_record(alloc, target, live, err, records, end).is_ok() {
-        let name = target.command.record.as_bytes();
-        tell_of(err, name, b": the record was written\n");
-    }
 }

@@ -1,15 +1,11 @@
 //! The board of a live session, and the record of what was sent to it.
 
-ghost use Rattle.std.specs.Prelude.{◌≡◌, ◌≢◌, ℕ, ◌+◌, ◌<◌, ◌≤◌, ◌++◌, Err, length, max, OnOk, OnErr};
+ghost use Rattle.std.specs.Prelude.{◌≡◌, ◌+◌, ◌<◌, ◌++◌, Err, length, max, OnOk, OnErr};
 ghost use Rattle.wind_base.specs.Limits.{greatest_word};
-ghost use Rattle.wind_outside.specs.Counts.{Rose};
 ghost use Rattle.tick_file.specs.Writing.{event_line, IsInRange};
-ghost use Rattle.wind_machine.specs.Machine.{IsOver};
-ghost use Rattle.wind_machine.specs.Extending.{Setup, bytes_asked};
-ghost use Rattle.wind_session.specs.Modules.{Shelf};
-ghost use Rattle.wind_session.specs.Outside.{Outside, outside};
-ghost use Rattle.wind_session.specs.declared.run.RunEnd.TheVariants as ends;
-ghost use Rattle.live_session.specs.Seen.{live_seen, IsSound, IsLiveAt, GoesOn};
+ghost use Rattle.wind_machine.specs.Extending.{bytes_asked};
+ghost use Rattle.live_session.specs.Around.{around};
+ghost use Rattle.live_session.specs.Seen.{live_seen, IsSound, Runs, StaysLive};
 ghost use Rattle.live_session.specs.declared.record.Refusal.TheVariants as refusals;
 
 use crate::record::{Record, Refusal, add_event, line_of, next_time};
@@ -40,10 +36,8 @@ pub(crate) fn send(
     requires sound { IsSound (live_seen ⟦<dyn Device as Device>⟧ live.old) }
     requires asked { bytes_asked event ≡ length bytes.now }
     requires range { IsInRange event }
-    ensures sound { IsSound (live_seen ⟦<dyn Device as Device>⟧ live.new) }
-    ensures live { (shelf : Shelf) (setup : Setup) (old now : Outside)
-        → IsLiveAt shelf setup (live_seen ⟦<dyn Device as Device>⟧ live.old) old now
-        → IsLiveAt shelf setup (live_seen ⟦<dyn Device as Device>⟧ live.new) old now }
+    ensures stays { StaysLive (live_seen ⟦<dyn Device as Device>⟧ live.old)
+        (live_seen ⟦<dyn Device as Device>⟧ live.new) }
     ensures ok { OnOk result ((live_seen ⟦<dyn Device as Device>⟧ live.new).console.bytes
         ≡ (live_seen ⟦<dyn Device as Device>⟧ live.old).console.bytes ++ bytes.now) }
     ensures err { OnErr result (live_seen ⟦<dyn Device as Device>⟧ live.new
@@ -88,20 +82,11 @@ pub(crate) fn go<F: Folder, O: Sink>(
     most: u64,
 ) -> RunEnd
     requires { IsSound (live_seen ⟦<dyn Device as Device>⟧ live.old) }
-    ensures sound { IsSound (live_seen ⟦<dyn Device as Device>⟧ live.new) }
-    ensures run { GoesOn result (record { files = F.files folder.old; name = modules.now })
-        (live_seen ⟦<dyn Device as Device>⟧ live.old)
-        (outside (F.requests folder.old) (O.bytes out.old) (O.pieces out.old))
-        (live_seen ⟦<dyn Device as Device>⟧ live.new)
-        (outside (F.requests folder.new) (O.bytes out.new) (O.pieces out.new)) }
-    ensures quiet { result ≡ ends.Quiet → IsOver (live_seen ⟦<dyn Device as Device>⟧ live.new).board }
+    ensures runs { Runs result modules.now
+        (live_seen ⟦<dyn Device as Device>⟧ live.old) (around ⟦<F as Folder>⟧ ⟦<O as Sink>⟧ folder.old out.old)
+        (live_seen ⟦<dyn Device as Device>⟧ live.new) (around ⟦<F as Folder>⟧ ⟦<O as Sink>⟧ folder.new out.new) }
     ensures console { (live_seen ⟦<dyn Device as Device>⟧ live.new).console
         ≡ (live_seen ⟦<dyn Device as Device>⟧ live.old).console }
-    ensures read_fault { result ≡ ends.ReadFault → Rose (F.faults folder.old) (F.faults folder.new) }
-    ensures fault { result ≡ ends.WriteFault → Rose (O.faults out.old) (O.faults out.new) }
-    ensures files { F.files folder.new ≡ F.files folder.old }
-    ensures folder_faults { F.faults folder.old ≤ F.faults folder.new }
-    ensures faults { O.faults out.old ≤ O.faults out.new }
 {
     let left = STEPS - live.board.steps();
     resume_board(alloc, &mut live.board, folder, modules, out, most.min(left))

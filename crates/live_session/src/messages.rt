@@ -7,7 +7,7 @@ use std::alloc::Global;
 use text_show::task_table;
 use wind_base::{NoMemory, OutBuf};
 use wind_outside::{Put, Sink};
-use wind_session::put_pieces;
+use wind_session::{RunEnd, put_pieces};
 
 // The lines that the program takes.
 const HELP: &str = "\
@@ -50,8 +50,11 @@ pub(crate) fn tell_refusal<E: Sink>(err: &mut E, refusal: Refusal) {
     }
 }
 
-/// Says who runs, after a run that reached its limit.
-pub(crate) fn tell_running<E: Sink>(err: &mut E, live: &Live) {
+/// Says who runs, if the board's last run reached its limit.
+pub(crate) fn tell_limit<E: Sink>(err: &mut E, live: &Live, end: RunEnd) {
+    if end != RunEnd::Limit {
+        return;
+    }
     let who = match live.board.world().kern.running() {
         Some(task) => task.name.bytes(),
         None => b"an interrupt routine",

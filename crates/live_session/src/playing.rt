@@ -1,13 +1,13 @@
 //! Plays a live session.
 
-ghost use Rattle.std.specs.Prelude.{◌≡◌, ◌≢◌, ◌⊎◌, ◌≤◌, List, [], Option, Some, IfOk, IfErr, OnOk, length, map};
+ghost use Rattle.std.specs.Prelude.{◌≡◌, ◌≢◌, ◌⊎◌, ◌≤◌, Some, IfOk, IfErr, OnOk, length, map};
 ghost use Rattle.wind_outside.specs.Counts.{Rose};
-ghost use Rattle.wind_outside.specs.Devices.{DeviceState, slots_of};
-ghost use Rattle.wind_session.specs.Modules.{Shelf};
-ghost use Rattle.wind_session.specs.Outside.{Outside, outside};
+ghost use Rattle.wind_outside.specs.Devices.{slots_of};
+ghost use Rattle.wind_session.specs.Outside.{outside};
+ghost use Rattle.live_session.specs.Around.{KeepsFiles, around};
 ghost use Rattle.live_session.specs.Command.{command_of as command_of_lem};
-ghost use Rattle.live_session.specs.Seen.{live_seen, IsLiveAt, IsSound};
-ghost use Rattle.live_session.specs.Session.{IsPermitted, IsSession, Leaves, Played, setup_of, shelf_of, status_unless};
+ghost use Rattle.live_session.specs.Seen.{live_seen, Begins};
+ghost use Rattle.live_session.specs.Session.{IsSession, Leaves, setup_of, status_unless};
 ghost use Rattle.live_session.specs.Words.{command_state, IsTarget};
 ghost use Rattle.live_session.specs.declared.status.Status.TheVariants as status;
 
@@ -49,58 +49,12 @@ fn status_after(status: Status, written: Result<(), Unsaved>) -> Status
     }
 }
 
-// Plays a session on a board, and writes its record at its end.
-fn played<I: Input, F: Folder, O: Sink, E: Sink, D: RecordFolder>(
-    alloc: Global,
-    target: Target,
-    live: &mut Live,
-    input: &mut I,
-    folder: &mut F,
-    out: &mut O,
-    err: &mut E,
-    records: &mut D,
-) -> Status
-    requires target { IsTarget target }
-    requires empty { (live_seen ⟦<dyn Device as Device>⟧ live.old).console.bytes ≡ [] }
-    requires sound { IsSound (live_seen ⟦<dyn Device as Device>⟧ live.old) }
-    ensures played { (devices : List (Option DeviceState))
-        → IsPermitted (command_state target.entry.command.now) (D.files records.old)
-        → IsLiveAt (shelf_of (F.files folder.old) (command_state target.entry.command.now))
-        (setup_of (command_state target.entry.command.now) devices) (live_seen ⟦<dyn Device as Device>⟧ live.old)
-        (outside (F.requests folder.old) (O.bytes out.old) (O.pieces out.old))
-        (outside (F.requests folder.old) (O.bytes out.old) (O.pieces out.old))
-        → Played result (command_state target.entry.command.now) (F.files folder.old) devices
-        (outside (F.requests folder.old) (O.bytes out.old) (O.pieces out.old))
-        (outside (F.requests folder.new) (O.bytes out.new) (O.pieces out.new))
-        (I.left input.old) (I.left input.new) (D.files records.old) (D.files records.new)
-        (Rose (D.faults records.old) (D.faults records.new)) }
-    ensures read_fault { result ≡ status.ReadFault
-        → Rose (I.faults input.old) (I.faults input.new) ⊎ Rose (F.faults folder.old) (F.faults folder.new) }
-    ensures fault { result ≡ status.WriteFault → Rose (O.faults out.old) (O.faults out.new) }
-    ensures files { F.files folder.new ≡ F.files folder.old }
-    ensures input_faults { I.faults input.old ≤ I.faults input.new }
-    ensures folder_faults { F.faults folder.old ≤ F.faults folder.new }
-    ensures faults { O.faults out.old ≤ O.faults out.new }
-    ensures record_faults { D.faults records.old ≤ D.faults records.new }
-{
-    writing_law();
-    let closing = converse(alloc, target, live, input, folder, out, err, records);
-    tell_status(err, closing.status);
-    if target.command.record.is_empty() {
-        return closing.status;
-    }
-    let written = write_record(alloc, target, live, err, records, closing.end);
-    status_after(closing.status, written)
-}
-
 // A board with an empty record.
 fn boot(alloc: Global, command: &Command, devices: Slots) -> Result<Live, NoMemory>
     requires { length devices.items ≤ 16 }
-    ensures live { IfOk result (λ live. (shelf : Shelf) (old : Outside) → IsLiveAt shelf
+    ensures begins { IfOk result (λ live. Begins
         (setup_of (command_state command.now) (slots_of kind_of words_of devices.items))
-        (live_seen ⟦<dyn Device as Device>⟧ live) old old) }
-    ensures empty { IfOk result (λ live. (live_seen ⟦<dyn Device as Device>⟧ live).console.bytes ≡ []) }
-    ensures sound { IfOk result (λ live. IsSound (live_seen ⟦<dyn Device as Device>⟧ live)) }
+        (live_seen ⟦<dyn Device as Device>⟧ live)) }
 {
     writing_law();
     let record = Record::new(alloc)?;
@@ -108,29 +62,23 @@ fn boot(alloc: Global, command: &Command, devices: Slots) -> Result<Live, NoMemo
         return Err(NoMemory);
     };
     let console = Vec::new(alloc);
-    match Board::boot(
-        alloc,
-        devices,
-        console,
-        schedule,
-        command.profile,
-        command.board,
-    ) {
+    let Command { profile, board, .. } = *command;
+    match Board::boot(alloc, devices, console, schedule, profile, board) {
         Ok(board) => Ok(Live { board, record }),
         Err(_) => Err(NoMemory),
     }
 }
 
-// Plays the session of a command.
+// Plays the session of a command, and writes its record at its end.
 fn session<I: Input, F: Folder, O: Sink, E: Sink, D: RecordFolder>(
     alloc: Global,
     target: Target,
+    devices: Slots,
     input: &mut I,
     folder: &mut F,
     out: &mut O,
     err: &mut E,
     records: &mut D,
-    devices: Slots,
 ) -> Status
     requires devices { length devices.items ≤ 16 }
     requires target { IsTarget target }
@@ -144,10 +92,9 @@ fn session<I: Input, F: Folder, O: Sink, E: Sink, D: RecordFolder>(
         → Rose (I.faults input.old) (I.faults input.new) ⊎ Rose (F.faults folder.old) (F.faults folder.new) }
     ensures fault { result ≡ status.WriteFault → Rose (O.faults out.old) (O.faults out.new) }
     ensures known { result ≢ status.Usage }
-    ensures files { F.files folder.new ≡ F.files folder.old }
+    ensures keeps { KeepsFiles (around ⟦<F as Folder>⟧ ⟦<O as Sink>⟧ folder.old out.old)
+        (around ⟦<F as Folder>⟧ ⟦<O as Sink>⟧ folder.new out.new) }
     ensures input_faults { I.faults input.old ≤ I.faults input.new }
-    ensures folder_faults { F.faults folder.old ≤ F.faults folder.new }
-    ensures faults { O.faults out.old ≤ O.faults out.new }
     ensures record_faults { D.faults records.old ≤ D.faults records.new }
 {
     if !may_record(err, records, target) {
@@ -157,7 +104,14 @@ fn session<I: Input, F: Folder, O: Sink, E: Sink, D: RecordFolder>(
         tell_no_memory(err);
         return Status::NoMemory;
     };
-    played(alloc, target, &mut live, input, folder, out, err, records)
+    writing_law();
+    let closing = converse(alloc, target, &mut live, input, folder, out, err, records);
+    tell_status(err, closing.status);
+    if target.command.record.is_empty() {
+        return closing.status;
+    }
+    let written = write_record(alloc, target, &live, err, records, closing.end);
+    status_after(closing.status, written)
 }
 
 /// Plays the session that the arguments ask for, with the lines of the input, on a board with these
@@ -206,5 +160,5 @@ pub fn play_live<'a, I: Input, F: Folder, O: Sink, E: Sink, D: RecordFolder>(
         command: &command,
         paths: &paths,
     };
-    session(alloc, target, input, folder, out, err, records, devices)
+    session(alloc, target, devices, input, folder, out, err, records)
 }

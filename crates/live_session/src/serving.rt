@@ -1,13 +1,10 @@
 //! What the program does with a part of the input.
 
 ghost use Rattle.std.specs.Prelude.{◌≡◌, ◌≢◌, Some};
-ghost use Rattle.wind_machine.specs.Extending.{Setup};
-ghost use Rattle.wind_session.specs.Modules.{Shelf};
-ghost use Rattle.wind_session.specs.Outside.{Outside};
 ghost use Rattle.live_session.specs.Input.{IsPart};
 ghost use Rattle.live_session.specs.Places.{ends_line as ends_line_lem, place_after as place_after_lem, dot_sent, sent_of, asked_by, IsIdle};
 ghost use Rattle.live_session.specs.DotLines.{dot_line_of};
-ghost use Rattle.live_session.specs.Seen.{live_seen, IsSound, IsLiveAt, Sends};
+ghost use Rattle.live_session.specs.Seen.{live_seen, Delivers, IsSound};
 ghost use Rattle.live_session.specs.declared.dot_line.DotLine.TheVariants as lines;
 ghost use Rattle.live_session.specs.declared.serving.Then.TheVariants as thens;
 
@@ -82,11 +79,7 @@ fn send_bytes<E: Sink>(
 ) -> Then
     requires sound { IsSound (live_seen ⟦<dyn Device as Device>⟧ live.old) }
     requires part { IsPart bytes.now }
-    ensures sound { IsSound (live_seen ⟦<dyn Device as Device>⟧ live.new) }
-    ensures live { (shelf : Shelf) (setup : Setup) (old now : Outside)
-        → IsLiveAt shelf setup (live_seen ⟦<dyn Device as Device>⟧ live.old) old now
-        → IsLiveAt shelf setup (live_seen ⟦<dyn Device as Device>⟧ live.new) old now }
-    ensures sent { Sends bytes.now (live_seen ⟦<dyn Device as Device>⟧ live.old)
+    ensures sent { Delivers bytes.now (live_seen ⟦<dyn Device as Device>⟧ live.old)
         (live_seen ⟦<dyn Device as Device>⟧ live.new) }
     ensures refused { result ≢ then → (result ≡ thens.Nothing)
         × (live_seen ⟦<dyn Device as Device>⟧ live.new ≡ live_seen ⟦<dyn Device as Device>⟧ live.old) }
@@ -103,11 +96,7 @@ fn send_bytes<E: Sink>(
 // Does what a line for the program asks for, or says what follows.
 fn obey<E: Sink>(alloc: Global, live: &mut Live, err: &mut E, line: &[u8], quiet_after: u64) -> Then
     requires sound { IsSound (live_seen ⟦<dyn Device as Device>⟧ live.old) }
-    ensures sound { IsSound (live_seen ⟦<dyn Device as Device>⟧ live.new) }
-    ensures live { (shelf : Shelf) (setup : Setup) (old now : Outside)
-        → IsLiveAt shelf setup (live_seen ⟦<dyn Device as Device>⟧ live.old) old now
-        → IsLiveAt shelf setup (live_seen ⟦<dyn Device as Device>⟧ live.new) old now }
-    ensures sent { Sends (dot_sent (dot_line_of line.now)) (live_seen ⟦<dyn Device as Device>⟧ live.old)
+    ensures sent { Delivers (dot_sent (dot_line_of line.now)) (live_seen ⟦<dyn Device as Device>⟧ live.old)
         (live_seen ⟦<dyn Device as Device>⟧ live.new) }
     ensures idle { IsIdle result → live_seen ⟦<dyn Device as Device>⟧ live.new
         ≡ live_seen ⟦<dyn Device as Device>⟧ live.old }
@@ -143,11 +132,7 @@ pub(crate) fn take_part<E: Sink>(
 ) -> Then
     requires sound { IsSound (live_seen ⟦<dyn Device as Device>⟧ live.old) }
     requires part { IsPart part.now }
-    ensures sound { IsSound (live_seen ⟦<dyn Device as Device>⟧ live.new) }
-    ensures live { (shelf : Shelf) (setup : Setup) (old now : Outside)
-        → IsLiveAt shelf setup (live_seen ⟦<dyn Device as Device>⟧ live.old) old now
-        → IsLiveAt shelf setup (live_seen ⟦<dyn Device as Device>⟧ live.new) old now }
-    ensures sent { Sends (sent_of place part.now) (live_seen ⟦<dyn Device as Device>⟧ live.old)
+    ensures sent { Delivers (sent_of place part.now) (live_seen ⟦<dyn Device as Device>⟧ live.old)
         (live_seen ⟦<dyn Device as Device>⟧ live.new) }
     ensures idle { IsIdle result → live_seen ⟦<dyn Device as Device>⟧ live.new
         ≡ live_seen ⟦<dyn Device as Device>⟧ live.old }

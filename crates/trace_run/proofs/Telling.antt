@@ -1,22 +1,20 @@
 -- A run that is told, under way.
 use Rattle.std.proofs.Common.{◌≡◌, ◌≢◌, ℕ, zero, suc, ◌+◌, ◌<◌, ◌≤◌, List, [], ◌++◌, Option, None, Some, Result, Ok, Err, inr, refl, sym, ap, ap₂, subst, ◌∙◌, arith, add-one}
 use Rattle.std.specs.Prelude.{IfOk, OnOk}
-use Rattle.std.proofs.lemmas.List.{append-nil}
 use Rattle.wind_outside.specs.Appending.{AppendedPrefix}
-use Rattle.wind_outside.specs.Requests.{GrowsBy, Request}
+use Rattle.wind_outside.specs.Requests.{Request}
 use Rattle.wind_session.specs.Said.{FileSaid}
 use Rattle.wind_machine.specs.State.{State}
 use Rattle.wind_machine.specs.Machine.{machine_step}
 use Rattle.wind_machine.specs.Run.{Answers, after}
 use Rattle.wind_machine.specs.Silent.{SilentLaw, SilentSteps}
 use Rattle.wind_session.proofs.AppendingLemmas.{appended_none}
-use Rattle.wind_session.specs.Fetches.{requests_of}
 use Rattle.wind_session.specs.Modules.{Shelf}
-use Rattle.wind_session.specs.Runs.{Made}
+use Rattle.wind_session.specs.Runs.{IsHalt, Made}
 use Rattle.wind_session.specs.declared.run.RunEnd.{RunEnd}
 use Rattle.wind_session.specs.declared.run.RunEnd.TheVariants as ends
 use Rattle.wind_session.proofs.Continuing.{burst_counted}
-use Rattle.wind_session.proofs.RunLemmas.{After}
+use Rattle.wind_session.proofs.RunLemmas.{After, at_halt, closed}
 use Rattle.wind_session.proofs.Saying.{Agree, as_before, same_after, saying, state_now}
 use Rattle.board_trace.specs.Before.{before_step}
 use Rattle.board_trace.specs.Runs.{Line, lines_of, step_lines, with_lines}
@@ -75,14 +73,7 @@ module _ (said next : Answers) (s u t : State) (i : ℕ) (on : GoesOn said next 
 
 -- ---- the run may stop after any step
 pub stopped : (shelf : Shelf) (said : Answers) (s u : State) (n i : ℕ) (old mid : Option (List Request)) → After shelf said s n i u old mid → Made ends.WriteFault shelf said s n i u old mid
-stopped shelf said s u n i old mid run = record {
-  counted = run.counted;
-  answers = run.answers;
-  part = run.part;
-  state = run.state;
-  ended = tt;
-  fetches = record { last = []; last_is = refl; requests = subst (GrowsBy old mid) (sym (append-nil (requests_of shelf.name said s i))) run.requests };
-}
+stopped shelf said s u n i old mid run = closed shelf said s u n i old mid run ends.WriteFault tt refl
 
 -- the run was given up after k steps, and what is told of its first i is left
 pub given_up : (Part : Option (List ℕ) → Option (List ℕ) → Answers → State → ℕ → Type 0) (first now : Option (List ℕ)) (shelf : Shelf) (said : Answers) (s t : State) (n i k : ℕ) (old last : Option (List Request))
@@ -99,6 +90,12 @@ given_up Part first now shelf said s t n i k old last part h run = record {
 pub told_end : (Tells Lost : Answers → State → ℕ → Type 0) (end : RunEnd) (shelf : Shelf) (said : Answers) (s t : State) (n k : ℕ) (old last : Option (List Request)) → Made end shelf said s n k t old last
     → TellsOr Tells Lost end said s k → Traced (IsTold Tells Lost end s) shelf s n t old last
 told_end Tells Lost end shelf said s t n k old last made tells = record { said = said; k = k; end = end; made = made; tells = (refl, tells) }
+
+-- no further step was made
+pub told_halt : (Tells Lost : Answers → State → ℕ → Type 0) (end : RunEnd) (shelf : Shelf) (said : Answers) (s t u : State) (n k : ℕ) (old last : Option (List Request)) → IsHalt end u → Made end shelf said s n k t old last
+    → Tells said s k → Traced (IsTold Tells Lost end s) shelf s n t old last
+told_halt Tells Lost end shelf said s t u n k old last halt made tells =
+    told_end Tells Lost end shelf said s t n k old last made (at_halt (λ e. TellsOr Tells Lost e said s k) u end halt tells tells tells)
 
 -- ---- by how the run ended
 module _ (Tells Lost : Answers → State → ℕ → Type 0) (said : Answers) (s : State) (k : ℕ) where

@@ -2,23 +2,17 @@
 
 ghost use Rattle.std.specs.Prelude.{◌≡◌, ◌≢◌, ◌⊎◌, ◌<◌, ◌≤◌, ◌+◌, ◌++◌, ◌^◌, ℕ, List, [], Option, IfOk, OnErr, OnOk};
 ghost use Rattle.wind_base.specs.Limits.{most_steps};
-ghost use Rattle.wind_outside.specs.Appending.{Appended, AppendedPrefix};
-ghost use Rattle.wind_outside.specs.Counts.{Rose};
+ghost use Rattle.wind_outside.specs.{Appending.{Appended, AppendedPrefix}, Counts.Rose};
 ghost use Rattle.wind_outside.specs.declared.sink.Put.TheVariants as puts;
-ghost use Rattle.wind_machine.specs.State.{State};
-ghost use Rattle.wind_machine.specs.Run.{Answers, after};
-ghost use Rattle.wind_machine.specs.Silent.{SilentSteps};
+ghost use Rattle.wind_machine.specs.{State.State, Run.{Answers, after}, Silent.SilentSteps};
 ghost use Rattle.wind_session.specs.BoardSeen.{seen};
-ghost use Rattle.board_trace.specs.Runs.{Line, lines_of};
-ghost use Rattle.board_trace.specs.Snapshots.{snapshot_of};
-ghost use Rattle.board_trace.specs.Views.{snapshot_state};
-ghost use Rattle.trace_text.specs.Lines.{lines_text};
-ghost use Rattle.trace_text.specs.Pages.{Ends, count_in};
+ghost use Rattle.board_trace.specs.{Runs.{Line, lines_of}, Snapshots.snapshot_of, Views.snapshot_state};
+ghost use Rattle.trace_text.specs.{Lines.lines_text, Pages.{Ends, count_in}};
 ghost use Rattle.wind_session.specs.declared.run.RunEnd.TheVariants as ends;
-ghost use Rattle.trace_run.specs.Traced.{HoldsLines, IsPutOf, TellsEvents, TellsPart, Traced, last_line_of};
+ghost use Rattle.trace_run.specs.Traced.{HoldsLines, IsPutOf, last_line_of};
 
 use crate::laws::silent_lines_law;
-use crate::run::{Teller, tell_run};
+use crate::run::Teller;
 use crate::tracer::Tracer;
 use board_trace::BeforeStep;
 use std::alloc::Global;
@@ -26,7 +20,7 @@ use trace_state::last_actor;
 use trace_text::Page;
 use wind_base::NoMemory;
 use wind_machine::silent_law;
-use wind_outside::{Device, Folder, Put, Sink};
+use wind_outside::{Device, Put, Sink};
 use wind_session::{Board, RunEnd};
 
 // A page is put once it has this many bytes.
@@ -124,8 +118,8 @@ impl Teller for Tracer {
     }
 }
 
-// Tells how a run ended, and puts the lines that were not put yet.
-fn tell_end<O: Sink>(
+/// Tells how a run ended, and puts the lines that were not put yet.
+pub(crate) fn tell_end<O: Sink>(
     board: &Board,
     out: &mut O,
     end: RunEnd,
@@ -147,40 +141,5 @@ fn tell_end<O: Sink>(
     match put_page(&mut tracer.page, out) {
         Put::Done => Ok(end),
         Put::Failed => Ok(RunEnd::WriteFault),
-    }
-}
-
-/// Makes steps, at most `limit`, and puts one line for each thing that happened in them, and a last
-/// line. The modules that the steps need are fetched from the folder. If memory runs out for the
-/// trace, the run is given up.
-pub fn trace_events<F: Folder, O: Sink>(
-    alloc: Global,
-    board: &mut Board,
-    folder: &mut F,
-    modules: &str,
-    out: &mut O,
-    limit: u64,
-) -> Result<RunEnd, NoMemory>
-    requires fresh { (seen ⟦<dyn Device as Device>⟧ board.old).steps ≡ 0 }
-    requires bound { limit ≤ most_steps }
-    ensures told { IfOk result (λ end. Traced
-        (TellsEvents end (seen ⟦<dyn Device as Device>⟧ board.old) (O.bytes out.old) (O.bytes out.new))
-        (record { files = F.files folder.old; name = modules.now }) (seen ⟦<dyn Device as Device>⟧ board.old) limit
-        (seen ⟦<dyn Device as Device>⟧ board.new) (F.requests folder.old) (F.requests folder.new)) }
-    ensures given_up { OnErr result (Traced
-        (TellsPart (seen ⟦<dyn Device as Device>⟧ board.old) (O.bytes out.old) (O.bytes out.new))
-        (record { files = F.files folder.old; name = modules.now }) (seen ⟦<dyn Device as Device>⟧ board.old) limit
-        (seen ⟦<dyn Device as Device>⟧ board.new) (F.requests folder.old) (F.requests folder.new)) }
-    ensures read_fault { IfOk result (λ end. end ≡ ends.ReadFault → Rose (F.faults folder.old) (F.faults folder.new)) }
-    ensures fault { IfOk result (λ end. end ≡ ends.WriteFault → Rose (O.faults out.old) (O.faults out.new)) }
-    ensures files { F.files folder.new ≡ F.files folder.old }
-    ensures folder_faults { F.faults folder.old ≤ F.faults folder.new }
-    ensures faults { O.faults out.old ≤ O.faults out.new }
-{
-    let mut tracer = Tracer::new(alloc, board)?;
-    let end = tell_run(alloc, board, folder, modules, out, limit, &mut tracer)?;
-    match end {
-        RunEnd::WriteFault => Ok(end),
-        _ => tell_end(board, out, end, &mut tracer),
     }
 }

@@ -2,15 +2,13 @@
 #![tactic(auto)]
 
 mod events;
+mod forms;
 mod laws;
 mod observer;
 mod reader;
 mod run;
-mod state;
 mod timeline;
 mod tracer;
 
-pub use events::trace_events;
+pub use forms::{Form, TracedRun, trace_board};
 pub use laws::lines_law;
-pub use state::trace_state;
-pub use timeline::{Timeline, trace_timeline};

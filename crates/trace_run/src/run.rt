@@ -4,14 +4,12 @@ ghost use Rattle.std.specs.Prelude.{◌≡◌, ◌≤◌, ◌<◌, ◌+◌, ℕ,
 ghost use Rattle.wind_base.specs.Limits.{most_steps};
 ghost use Rattle.wind_outside.specs.Counts.{Rose};
 ghost use Rattle.wind_outside.specs.declared.sink.Put.TheVariants as puts;
-ghost use Rattle.wind_machine.specs.State.{State};
-ghost use Rattle.wind_machine.specs.Run.{Answers, after};
-ghost use Rattle.wind_machine.specs.Silent.{SilentSteps};
+ghost use Rattle.wind_machine.specs.{State.State, Run.{Answers, after}, Silent.SilentSteps};
+ghost use Rattle.wind_session.specs.Keeping.{KeepsFiles};
 ghost use Rattle.wind_session.specs.BoardSeen.{seen};
 ghost use Rattle.board_trace.specs.Before.{before_step as before_step_lem};
 ghost use Rattle.wind_session.specs.declared.run.RunEnd.TheVariants as ends;
-ghost use Rattle.trace_run.specs.Traced.{Traced};
-ghost use Rattle.trace_run.specs.Telling.{GoesOn, IsTold, IsToldInPart, StepFrom};
+ghost use Rattle.trace_run.specs.{Traced.Traced, Telling.{GoesOn, IsTold, IsToldInPart, StepFrom}};
 
 use board_trace::BeforeStep;
 use std::alloc::Global;
@@ -19,7 +17,7 @@ use trace_state::look_before;
 use wind_base::NoMemory;
 use wind_machine::silent_law;
 use wind_outside::{Device, Folder, Put, Sink};
-use wind_session::{Board, Move, RunEnd, step};
+use wind_session::{Board, RunEnd, step};
 
 /// Tells of the steps of a run.
 ///
@@ -108,9 +106,7 @@ pub(crate) fn tell_run<F: Folder, O: Sink, T: Teller>(
     ensures ready { OnOk result (T.ready teller.new (seen ⟦<dyn Device as Device>⟧ board.new)) }
     ensures read_fault { IfOk result (λ end. end ≡ ends.ReadFault → Rose (F.faults folder.old) (F.faults folder.new)) }
     ensures fault { IfOk result (λ end. end ≡ ends.WriteFault → Rose (O.faults out.old) (O.faults out.new)) }
-    ensures files { F.files folder.new ≡ F.files folder.old }
-    ensures folder_faults { F.faults folder.old ≤ F.faults folder.new }
-    ensures faults { O.faults out.old ≤ O.faults out.new }
+    ensures keeps { KeepsFiles ⟦<F as Folder>⟧ ⟦<O as Sink>⟧ folder.old out.old folder.new out.new }
 {
     silent_law();
     let mut made = 0;
@@ -123,10 +119,8 @@ pub(crate) fn tell_run<F: Folder, O: Sink, T: Teller>(
         }
         let before_step = look_before(board)?;
         match step(alloc, board, folder, modules) {
-            Move::Made => made += 1,
-            Move::Quiet => return Ok(RunEnd::Quiet),
-            Move::ReadFault => return Ok(RunEnd::ReadFault),
-            Move::NoMemory => return Ok(RunEnd::NoMemory),
+            Ok(()) => made += 1,
+            Err(end) => return Ok(end),
         }
         let put = teller.tell(board, &before_step, out)?;
         match put {

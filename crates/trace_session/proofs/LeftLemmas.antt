@@ -6,7 +6,6 @@ use Rattle.wind_outside.specs.Requests.{GrowsBy, Request}
 use Rattle.wind_session.specs.MachineState.{State}
 use Rattle.wind_session.specs.Run.{Answers}
 use Rattle.wind_session.specs.Command.{CommandState}
-use Rattle.wind_session.specs.Fetches.{requests_of}
 use Rattle.wind_session.specs.Headline.{IsComplete, IsPlayed, status_of}
 use Rattle.wind_session.specs.Modules.{Shelf}
 use Rattle.wind_session.specs.Outside.{Outside}
@@ -14,11 +13,12 @@ use Rattle.wind_session.specs.declared.run.RunEnd.{RunEnd}
 use Rattle.wind_session.specs.declared.run.RunEnd.TheVariants as ends
 use Rattle.wind_session.specs.declared.ending.Status.{Status}
 use Rattle.wind_session.specs.declared.ending.Status.TheVariants as status
-use Rattle.wind_session.proofs.FetchLemmas.{grows_from}
+use Rattle.wind_session.proofs.InputLemmas.{made_there}
 use Rattle.task_spans.specs.Spans.{SpanState}
+use Rattle.trace_run.specs.Forms.{TellsForm, TellsLess}
 use Rattle.trace_run.specs.Traced.{Traced}
-use Rattle.trace_session.specs.Headline.{IsLeft, TellsForm, TellsLess}
-use Rattle.trace_session.specs.declared.command.Form.{Form}
+use Rattle.trace_run.specs.declared.forms.Form.{Form}
+use Rattle.trace_session.specs.Headline.{IsLeft}
 
 -- ---- the status
 -- a run with a status of a fault had that fault
@@ -64,18 +64,7 @@ module _ (first : List Request) (old : Outside) (mid : Option (List Request)) (g
     said = traced.said;
     k = traced.k;
     end = traced.end;
-    made = record {
-      counted = traced.made.counted;
-      answers = traced.made.answers;
-      part = traced.made.part;
-      state = traced.made.state;
-      ended = traced.made.ended;
-      fetches = record {
-        last = traced.made.fetches.last;
-        last_is = traced.made.fetches.last_is;
-        requests = grows_from old.requests mid new first (requests_of shelf.name traced.said start traced.k ++ traced.made.fetches.last) grown traced.made.fetches.requests;
-      };
-    };
+    made = made_there first old mid grown traced.end shelf traced.said start limit traced.k board new traced.made;
     tells = traced.tells;
   }
 

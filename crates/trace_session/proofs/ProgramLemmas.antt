@@ -1,5 +1,5 @@
 -- What the program leaves.
-use Rattle.std.proofs.Common.{◌≡◌, List, Option, None, Some, refl, sym, ap, subst, inl, inr, ℕ}
+use Rattle.std.proofs.Common.{◌≡◌, List, Option, refl, subst, inl, inr}
 use Rattle.std.specs.Prelude.{◌⊎◌, Vec}
 use Rattle.std.specs.declared.dyn_box.DynBox.{DynBox}
 use Rattle.std.specs.declared.alloc.Global.{Global}
@@ -7,16 +7,15 @@ use Rattle.wind_outside.specs.Devices.{DeviceState}
 use Rattle.wind_outside.specs.Files.{Files}
 use Rattle.wind_session.specs.MachineState.{State}
 use Rattle.wind_session.specs.Board.{Board}
-use Rattle.wind_session.specs.Fetches.{EndsWithInputs}
-use Rattle.wind_session.specs.Headline.{IsComplete, IsKept, NotPlayed}
+use Rattle.wind_session.specs.Headline.{IsKept, NotPlayed}
 use Rattle.wind_session.specs.Outside.{Outside}
 use Rattle.wind_session.specs.Plan.{Plan}
 use Rattle.wind_session.specs.declared.ending.Stand.{Stand}
 use Rattle.wind_session.specs.declared.ending.Stand.TheVariants as stands
 use Rattle.wind_session.specs.declared.ending.Status.{Status}
 use Rattle.wind_session.specs.declared.ending.Status.TheVariants as status
-use Rattle.wind_session.proofs.FetchLemmas.{inputs_unread}
 use Rattle.wind_session.proofs.PlanLemmas.{some_plan}
+use Rattle.wind_session.proofs.ProgramLemmas.{complete_unmade, unplayed}
 use Rattle.task_spans.specs.Spans.{SpanState}
 use Rattle.trace_session.specs.Command.{TraceState, session_of}
 use Rattle.trace_session.specs.Headline.{IsTraced, Leaves}
@@ -31,24 +30,15 @@ left_on state s (stands.Booted board) spans plan command files fault slots devic
     inr (record { board = state board; spans = spans; traced = subst (λ d. IsTraced s plan command spans files d (state board) old new) same leaves; good = kept.0; instant = kept.1 })
 
 -- memory ran out before a session
-complete_unmade : (command : Option TraceState) (files : Option Files) (rose out_rose : Type 0) → IsComplete status.NoMemory (session_of command) files rose out_rose
-complete_unmade None files rose out_rose = tt
-complete_unmade (Some c) files rose out_rose = λ there fine out_fine. tt
-
-pub session_unmade : (command : Option TraceState) (files : Option Files) (rose out_rose : Type 0) (old new : Outside) → new ≡ old → Session status.NoMemory command files rose out_rose old new
-session_unmade command files rose out_rose old new same =
+pub session_unmade : (command : Option TraceState) (files : Option Files) (rose out_rose : Type 0) (now : Outside) → Session status.NoMemory command files rose out_rose now now
+session_unmade command files rose out_rose now =
     let some = some_plan files (session_of command) in
     record {
       plan = some.0;
       planned = some.1;
-      leaves = inl (record {
-        bytes = ap (λ (o : Outside). o.bytes) same;
-        pieces = ap (λ (o : Outside). o.pieces) same;
-        refusal = tt;
-        fetches = subst (EndsWithInputs (session_of command) status.NoMemory old.requests) (sym (ap (λ (o : Outside). o.requests) same)) (inputs_unread (session_of command) old.requests);
-      });
+      leaves = inl (unplayed some.0 (session_of command) _ now);
       usage = λ ne. absurd (ne refl);
-      complete = complete_unmade command files rose out_rose;
+      complete = complete_unmade (session_of command) files rose out_rose;
       read_fault = λ e. cc;
       write_fault = λ e. cc;
     }

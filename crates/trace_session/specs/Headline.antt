@@ -7,7 +7,6 @@ use Rattle.wind_outside.specs.Files.{Files}
 use Rattle.tick_file.specs.Schedule.{Timetable}
 use Rattle.wind_session.specs.MachineState.{State}
 use Rattle.wind_session.specs.Machine.{opening}
-use Rattle.wind_session.specs.Run.{Answers}
 use Rattle.wind_session.specs.Board.{Board}
 use Rattle.wind_session.specs.Headline.{NotPlayed, board_of, fetch_fault, limit_of, profile_of, rounds_of, shelf_of, status_of}
 use Rattle.wind_session.specs.Command.{CommandState}
@@ -20,24 +19,11 @@ use Rattle.wind_session.specs.declared.ending.Status.TheVariants as status
 use Rattle.wind_session.specs.declared.ending.Stand.{Stand}
 use Rattle.wind_session.specs.declared.ending.Stand.TheVariants as stands
 use Rattle.task_spans.specs.Spans.{SpanState}
-use Rattle.trace_run.specs.Traced.{IsPutAfter, Traced, TellsEvents, TellsNothing, TellsPart, TellsSpans}
+use Rattle.trace_run.specs.Forms.{TellsForm, TellsLess}
+use Rattle.trace_run.specs.Traced.{Traced}
+use Rattle.trace_run.specs.declared.forms.Form.{Form}
 use Rattle.trace_session.specs.Command.{TraceState, session_of}
-use Rattle.trace_session.specs.declared.command.Form.{Form}
-use Rattle.trace_session.specs.declared.command.Form.TheVariants as forms
 use Rattle.trace_session.specs.declared.ending.TraceEnding.{TraceEnding}
-
--- what is put of a run in each form, if memory suffices: its lines; a picture of its spans; or the board that is left
-abbrev pub TellsForm : Form → Option SpanState → RunEnd → State → Option (List ℕ) → Option (List ℕ) → Answers → ℕ → RunEnd → Type 0
-TellsForm forms.Events spans result start old new = TellsEvents result start old new
-TellsForm forms.Timeline None result start old new = λ said k end. ⊥
-TellsForm forms.Timeline (Some spans) result start old new = TellsSpans result spans start
-TellsForm forms.State spans result start old new = IsPutAfter result
-
--- and if memory runs out for the trace
-abbrev pub TellsLess : Form → State → Option (List ℕ) → Option (List ℕ) → Answers → ℕ → RunEnd → Type 0
-TellsLess forms.Events start old new = TellsPart start old new
-TellsLess forms.Timeline start old new = TellsNothing
-TellsLess forms.State start old new = TellsNothing
 
 -- the status is that of the run, or of a failed put; or memory ran out for the trace
 abbrev pub IsLeft : Form → Option SpanState → Status → Shelf → State → ℕ → State → Outside → Outside → Type 0

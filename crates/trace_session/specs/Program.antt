@@ -8,9 +8,7 @@ use Rattle.wind_session.specs.Instants.{IsInstant}
 use Rattle.wind_session.specs.Headline.{IsComplete, NotPlayed, fetch_fault, rounds_of}
 use Rattle.wind_session.specs.Outside.{Outside}
 use Rattle.wind_session.specs.Plan.{Plan, IsPlan}
-use Rattle.wind_session.specs.Program.{opening_devices}
-use Rattle.wind_session.specs.Status.{status_number}
-use Rattle.wind_session.specs.Texts.{Tells}
+use Rattle.wind_session.specs.Program.{EndsAs, opening_devices}
 use Rattle.wind_session.specs.declared.ending.Status.{Status}
 use Rattle.wind_session.specs.declared.ending.Status.TheVariants as status
 use Rattle.task_spans.specs.Spans.{SpanState}
@@ -36,8 +34,6 @@ pub record Session (s : Status) (command : Option TraceState) (files : Option Fi
   pub write_fault : s ≡ status.WriteFault → out_rose
 
 -- the program plays the session of these arguments for a trace, reports how it ended, and ends with the number of its status
-pub record Ends (number : ℕ) (command : Option TraceState) (files : Option Files) (rose out_rose : Type 0) (old new : Outside) (err_old err_new : Option (List ℕ)) (err_rose : Type 0) : Type 0 where
-  pub ended : Status
-  pub number_is : number ≡ status_number ended
-  pub session : Session ended command files rose out_rose old new
-  pub tells : Tells (codes "windtrace") ended (session_of command) err_old err_new err_rose
+abbrev pub Ends : ℕ → Option TraceState → Option Files → Type 0 → Type 0 → Outside → Outside → Option (List ℕ) → Option (List ℕ) → Type 0 → Type 0
+Ends number command files rose out_rose old new err_old err_new err_rose =
+    EndsAs (codes "windtrace") number (λ s. Session s command files rose out_rose old new) (session_of command) err_old err_new err_rose

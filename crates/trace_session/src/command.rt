@@ -10,21 +10,11 @@ ghost use Rattle.wind_session.specs.declared.command.CommandErr.TheVariants as e
 
 use clap::ArgMatches;
 use std::alloc::{AllocError, Global};
+use trace_run::Form;
 use wind_session::{
     Command, CommandErr, command_line, command_of_matches, matches_of, option, valid, value_of,
     with_session_options,
 };
-
-/// The form in which a run is told.
-#[derive(Clone, Copy, Debug, PartialEq, Eq)]
-pub enum Form {
-    /// One line for each thing that happened.
-    Events,
-    /// A picture.
-    Timeline,
-    /// The board that is left.
-    State,
-}
 
 /// What the arguments ask for.
 #[derive(Clone, Copy)]

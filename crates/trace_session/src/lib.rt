@@ -7,7 +7,8 @@ mod ending;
 mod playing;
 mod program;
 
-pub use command::{Form, TraceCommand, trace_command_of};
+pub use command::{TraceCommand, trace_command_of};
 pub use ending::TraceEnding;
 pub use playing::trace;
 pub use program::trace_program;
+pub use trace_run::Form;

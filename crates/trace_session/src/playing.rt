@@ -1,31 +1,23 @@
 //! Plays a session, and tells what happened.
 
-ghost use Rattle.std.specs.Prelude.{◌≡◌, ◌≢◌, ◌≤◌, ◌↔◌, None, Some, IfOk, OnErr, codes, length, map};
-ghost use Rattle.wind_base.specs.Limits.{most_steps};
+ghost use Rattle.std.specs.Prelude.{◌≡◌, ◌≢◌, ◌≤◌, ◌↔◌, None, Some, codes, length, map};
+ghost use Rattle.wind_base.specs.Limits.{most_slots, most_steps};
 ghost use Rattle.generated_session.specs.Session.{most_rounds};
-ghost use Rattle.wind_outside.specs.Counts.{Rose};
-ghost use Rattle.wind_outside.specs.Devices.{slots_of};
-ghost use Rattle.wind_session.specs.BoardSeen.{seen};
-ghost use Rattle.wind_session.specs.Headline.{IsComplete, IsKept};
-ghost use Rattle.wind_session.specs.Outside.{outside};
-ghost use Rattle.wind_session.specs.Texts.{Tells};
+ghost use Rattle.wind_outside.specs.{Counts.Rose, Devices.slots_of};
+ghost use Rattle.wind_session.specs.{Keeping.KeepsFiles, BoardSeen.seen, Headline.{IsComplete, IsKept}, Outside.outside, Texts.Tells};
 ghost use Rattle.wind_session.specs.declared.ending.Stand.TheVariants as stands;
 ghost use Rattle.wind_session.specs.declared.ending.Status.TheVariants as status;
-ghost use Rattle.wind_session.specs.declared.run.RunEnd.TheVariants as ends;
-ghost use Rattle.trace_run.specs.Traced.{Traced};
-ghost use Rattle.trace_session.specs.Command.{command_of, session_of};
-ghost use Rattle.trace_session.specs.Headline.{IsLeft, TellsForm, TellsLess, Traces};
-ghost use Rattle.trace_session.specs.Words.{trace_state as trace_state_lem};
+ghost use Rattle.trace_session.specs.{Command.{command_of, session_of}, Headline.{IsLeft, Traces}, Words.{trace_state as trace_state_lem}};
 
-use crate::command::{Form, PROGRAM, TraceCommand, trace_command_of};
+use crate::command::{PROGRAM, TraceCommand, trace_command_of};
 use crate::ending::TraceEnding;
 use std::alloc::Global;
 use task_spans::Spans;
-use trace_run::{trace_events, trace_state, trace_timeline};
+use trace_run::trace_board;
 use wind_base::NoMemory;
 use wind_outside::{Device, Folder, Sink, Slots};
 use wind_session::{
-    Board, CommandErr, Inputs, RunEnd, Stand, Status, inputs_of, instant_law, status_of, tell,
+    Board, CommandErr, Inputs, Stand, Status, inputs_of, instant_law, status_of, tell,
     tell_no_memory, tell_usage,
 };
 
@@ -37,62 +29,6 @@ fn refusal(status: Status, devices: Slots) -> TraceEnding
         status,
         stand: Stand::NotBooted(devices),
         spans: None,
-    }
-}
-
-// A run that was traced: how it ended, and the spans of a timeline.
-#[derive(Drop)]
-struct TracedRun {
-    end: RunEnd,
-    spans: Option<Spans>,
-}
-
-// Runs the board of a session, and puts what happened in the form that the command asks for. The
-// error is that memory runs out for the trace.
-fn trace_board<F: Folder, O: Sink>(
-    alloc: Global,
-    command: &TraceCommand,
-    board: &mut Board,
-    folder: &mut F,
-    out: &mut O,
-) -> Result<TracedRun, NoMemory>
-    requires fresh { (seen ⟦<dyn Device as Device>⟧ board.old).steps ≡ 0 }
-    requires limit { command.now.session.limit ≤ most_steps }
-    ensures tells { IfOk result (λ t. Traced
-        (TellsForm command.now.form t.spans t.end (seen ⟦<dyn Device as Device>⟧ board.old)
-        (O.bytes out.old) (O.bytes out.new))
-        (record { files = F.files folder.old; name = command.now.session.modules.now })
-        (seen ⟦<dyn Device as Device>⟧ board.old) command.now.session.limit (seen ⟦<dyn Device as Device>⟧ board.new)
-        (F.requests folder.old) (F.requests folder.new)) }
-    ensures given_up { OnErr result (Traced
-        (TellsLess command.now.form (seen ⟦<dyn Device as Device>⟧ board.old)
-        (O.bytes out.old) (O.bytes out.new))
-        (record { files = F.files folder.old; name = command.now.session.modules.now })
-        (seen ⟦<dyn Device as Device>⟧ board.old) command.now.session.limit (seen ⟦<dyn Device as Device>⟧ board.new)
-        (F.requests folder.old) (F.requests folder.new)) }
-    ensures read_fault { IfOk result (λ t. t.end ≡ ends.ReadFault → Rose (F.faults folder.old) (F.faults folder.new)) }
-    ensures fault { IfOk result (λ t. t.end ≡ ends.WriteFault → Rose (O.faults out.old) (O.faults out.new)) }
-    ensures files { F.files folder.new ≡ F.files folder.old }
-    ensures folder_faults { F.faults folder.old ≤ F.faults folder.new }
-    ensures out_faults { O.faults out.old ≤ O.faults out.new }
-{
-    let (modules, limit) = (command.session.modules, command.session.limit);
-    match command.form {
-        Form::Events => {
-            let end = trace_events(alloc, board, folder, modules, out, limit)?;
-            Ok(TracedRun { end, spans: None })
-        }
-        Form::Timeline => {
-            let timeline = trace_timeline(alloc, board, folder, modules, out, limit)?;
-            Ok(TracedRun {
-                end: timeline.end,
-                spans: Some(timeline.spans),
-            })
-        }
-        Form::State => {
-            let end = trace_state(alloc, board, folder, modules, out, limit)?;
-            Ok(TracedRun { end, spans: None })
-        }
     }
 }
 
@@ -120,11 +56,10 @@ fn play_board<F: Folder, O: Sink>(
         (outside (F.requests folder.new) (O.bytes out.new) (O.pieces out.new)) }
     ensures read_fault { result.status ≡ status.ReadFault → Rose (F.faults folder.old) (F.faults folder.new) }
     ensures fault { result.status ≡ status.WriteFault → Rose (O.faults out.old) (O.faults out.new) }
-    ensures files { F.files folder.new ≡ F.files folder.old }
-    ensures folder_faults { F.faults folder.old ≤ F.faults folder.new }
-    ensures out_faults { O.faults out.old ≤ O.faults out.new }
+    ensures keeps { KeepsFiles ⟦<F as Folder>⟧ ⟦<O as Sink>⟧ folder.old out.old folder.new out.new }
 {
-    match trace_board(alloc, command, board, folder, out) {
+    let (form, modules, limit) = (command.form, command.session.modules, command.session.limit);
+    match trace_board(alloc, form, board, folder, modules, out, limit) {
         Ok(tracing) => Outcome {
             status: status_of(tracing.end),
             spans: tracing.spans,
@@ -144,7 +79,7 @@ fn session<F: Folder, O: Sink>(
     out: &mut O,
     devices: Slots,
 ) -> TraceEnding
-    requires devices { length devices.items ≤ 16 }
+    requires devices { length devices.items ≤ most_slots }
     requires limit { command.now.session.limit ≤ most_steps }
     requires rounds { command.now.session.generate ≤ most_rounds }
     ensures machine { Traces (seen ⟦<dyn Device as Device>⟧) result.status result.stand result.spans
@@ -158,9 +93,7 @@ fn session<F: Folder, O: Sink>(
     ensures kept { IsKept (seen ⟦<dyn Device as Device>⟧) result.stand }
     ensures read_fault { result.status ≡ status.ReadFault → Rose (F.faults folder.old) (F.faults folder.new) }
     ensures write_fault { result.status ≡ status.WriteFault → Rose (O.faults out.old) (O.faults out.new) }
-    ensures files { F.files folder.new ≡ F.files folder.old }
-    ensures folder_faults { F.faults folder.old ≤ F.faults folder.new }
-    ensures out_faults { O.faults out.old ≤ O.faults out.new }
+    ensures keeps { KeepsFiles ⟦<F as Folder>⟧ ⟦<O as Sink>⟧ folder.old out.old folder.new out.new }
 {
     let inputs = match inputs_of(alloc, &command.session, folder) {
         Ok(inputs) => inputs,
@@ -193,7 +126,7 @@ pub fn trace<'a, F: Folder, O: Sink, E: Sink>(
     err: &mut E,
     devices: Slots,
 ) -> TraceEnding
-    requires { length devices.items ≤ 16 }
+    requires { length devices.items ≤ most_slots }
     ensures machine { Traces (seen ⟦<dyn Device as Device>⟧) result.status result.stand result.spans
         (command_of (map (λ w. w.now) words.now)) (F.files folder.old)
         (Rose (F.faults folder.old) (F.faults folder.new)) devices (slots_of kind_of words_of devices.items)
@@ -207,9 +140,7 @@ pub fn trace<'a, F: Folder, O: Sink, E: Sink>(
     ensures kept { IsKept (seen ⟦<dyn Device as Device>⟧) result.stand }
     ensures read_fault { result.status ≡ status.ReadFault → Rose (F.faults folder.old) (F.faults folder.new) }
     ensures write_fault { result.status ≡ status.WriteFault → Rose (O.faults out.old) (O.faults out.new) }
-    ensures files { F.files folder.new ≡ F.files folder.old }
-    ensures folder_faults { F.faults folder.old ≤ F.faults folder.new }
-    ensures out_faults { O.faults out.old ≤ O.faults out.new }
+    ensures keeps { KeepsFiles ⟦<F as Folder>⟧ ⟦<O as Sink>⟧ folder.old out.old folder.new out.new }
     ensures err_faults { E.faults err.old ≤ E.faults err.new }
     ensures err { Tells (codes "windtrace") result.status (session_of (command_of (map (λ w. w.now) words.now)))
         (E.bytes err.old) (E.bytes err.new) (Rose (E.faults err.old) (E.faults err.new)) }

@@ -1,12 +1,12 @@
 -- A run that is resumed.
-use Rattle.std.proofs.Common.{◌≡◌, ◌≢◌, ℕ, ◌+◌, ◌≤◌, ◌<◌, List, [], ◌++◌, Option, IsSome, true, refl, sym, ap, ◌∙◌, subst, arith}
+use Rattle.std.proofs.Common.{◌≡◌, ◌≢◌, ℕ, ◌+◌, ◌≤◌, ◌<◌, List, [], ◌++◌, Option, refl, sym, ap, ◌∙◌, subst, arith}
 use Rattle.std.proofs.lemmas.List.{append-nil}
 use Rattle.wind_outside.specs.Files.{Files}
 use Rattle.wind_outside.specs.Requests.{GrowsBy, Request, Piece}
 use Rattle.wind_outside.specs.Appending.{Appended, AppendedPrefix}
 use Rattle.wind_outside.specs.declared.sink.Put.TheVariants as puts
 use Rattle.board_player.specs.MachineState.{State}
-use Rattle.board_player.specs.Machine.{IsOver, file_asked, may_exhaust_memory}
+use Rattle.board_player.specs.Machine.{file_asked}
 use Rattle.board_player.specs.Run.{Answers, text}
 use Rattle.board_player.specs.Silent.{SilentSteps, SilentLaw}
 use Rattle.board_player.specs.Extending.{IsRoom}
@@ -14,8 +14,8 @@ use Rattle.wind_session.specs.Modules.{Shelf}
 use Rattle.wind_session.specs.Fetches.{Stops, requests_of}
 use Rattle.wind_session.specs.Outside.{Outside, outside}
 use Rattle.wind_session.specs.Pieces.{output_piece, pieces_of}
-use Rattle.wind_session.specs.Runs.{IsPut, Ran}
-use Rattle.wind_session.proofs.RunLemmas.{After, Makes, begun, nothing_said, said_on, further, text_on, pieces_on, cut_off, quiet, exhausted, unread, at_limit}
+use Rattle.wind_session.specs.Runs.{IsHalt, IsPut, IsWritten, Ran}
+use Rattle.wind_session.proofs.RunLemmas.{After, Makes, begun, nothing_said, said_on, further, text_on, pieces_on, cut_off, at_halt, closed, halted, at_limit}
 use Rattle.wind_session.proofs.AppendingLemmas.{appended_none}
 use Rattle.wind_session.proofs.Bursts.{runs_on, as_written, as_put}
 use Rattle.wind_session.proofs.FetchLemmas.{grows_none}
@@ -99,31 +99,16 @@ module _ (shelf : Shelf) (start : State) (b most i : ℕ) (u : State) (old mid :
   cut_on files same t last made h count bytes pieces part some put =
       cut_off shelf on.said start u (b + most) (b + i) old.requests mid.requests on.run files same t last made (omega (arith, h)) count old.bytes mid.bytes bytes old.pieces mid.pieces pieces on.written part some on.pieces put
 
-  -- ---- it ends, and nothing changed
-  module _ (t : State) (last : Option (List Request)) (same : t ≡ u) where
-    pub quiet_on : i < most → IsOver u → last ≡ mid.requests → Ran ends.Quiet shelf start (b + most) t old (outside last mid.bytes mid.pieces)
-    quiet_on h over kept = record {
-      said = on.said;
-      k = b + i;
-      made = quiet shelf on.said start u (b + most) (b + i) old.requests mid.requests on.run t last same (omega (arith, h)) over kept;
-      written = record { gained = on.written; pieces = on.pieces };
-    }
-
-    pub exhausted_on : i < most → may_exhaust_memory u ≡ true → Stops ends.NoMemory shelf.name (file_asked u) mid.requests last → Ran ends.NoMemory shelf start (b + most) t old (outside last mid.bytes mid.pieces)
-    exhausted_on h may stops = record {
-      said = on.said;
-      k = b + i;
-      made = exhausted shelf on.said start u (b + most) (b + i) old.requests mid.requests on.run t last same (omega (arith, h)) may stops;
-      written = record { gained = on.written; pieces = on.pieces };
-    }
-
-    pub unread_on : i < most → IsSome (file_asked u) → Stops ends.ReadFault shelf.name (file_asked u) mid.requests last → Ran ends.ReadFault shelf start (b + most) t old (outside last mid.bytes mid.pieces)
-    unread_on h asked stops = record {
-      said = on.said;
-      k = b + i;
-      made = unread shelf on.said start u (b + most) (b + i) old.requests mid.requests on.run t last same (omega (arith, h)) asked stops;
-      written = record { gained = on.written; pieces = on.pieces };
-    }
+  -- no further step is made, and nothing changed
+  pub halted_on : (t : State) (last : Option (List Request)) → t ≡ u → i < most → (end : RunEnd) → IsHalt end u → Stops end shelf.name (file_asked u) mid.requests last → Ran end shelf start (b + most) t old (outside last mid.bytes mid.pieces)
+  halted_on t last same h end halt stops =
+      let put : IsPut on.said start (b + i) old (outside last mid.bytes mid.pieces) = record { gained = on.written; pieces = on.pieces } in
+      record {
+        said = on.said;
+        k = b + i;
+        made = halted shelf on.said start u (b + most) (b + i) old.requests mid.requests on.run t last same (omega (arith, h)) end halt stops;
+        written = at_halt (λ e. IsWritten e on.said start (b + i) old (outside last mid.bytes mid.pieces)) u end halt put put put;
+      }
 
   -- as many steps as the limit were made
   pub limit_on : i ≡ most → Ran ends.Limit shelf start (b + most) u old mid
@@ -142,14 +127,7 @@ at_start shelf s old fresh =
     record {
       said = nothing_said;
       k = 0;
-      made = record {
-        counted = none.counted;
-        answers = none.answers;
-        part = none.part;
-        state = none.state;
-        ended = sym fresh;
-        fetches = record { last = []; last_is = refl; requests = none.requests };
-      };
+      made = closed shelf nothing_said s s s.steps 0 old.requests old.requests none ends.Limit (sym fresh) refl;
       written = record { gained = appended_none old.bytes; pieces = grows_none old.pieces };
     }
 

@@ -23,7 +23,7 @@ module _ (first : List Request) (old : Outside) (mid : Option (List Request)) (g
   abbrev pub there : Outside
   there = record old { requests = option_map (λ xs. xs ++ first) old.requests }
 
-  made_there : (end : RunEnd) (shelf : Shelf) (said : Answers) (s : State) (n k : ℕ) (board : State) (new : Option (List Request)) → Made end shelf said s n k board mid new → Made end shelf said s n k board there.requests new
+  pub made_there : (end : RunEnd) (shelf : Shelf) (said : Answers) (s : State) (n k : ℕ) (board : State) (new : Option (List Request)) → Made end shelf said s n k board mid new → Made end shelf said s n k board there.requests new
   made_there end shelf said s n k board new made = record {
     counted = made.counted;
     answers = made.answers;

@@ -1,25 +1,29 @@
 -- What the program leaves.
-use Rattle.std.proofs.Common.{◌≡◌, ◌≢◌, ℕ, List, Option, None, Some, refl, sym, ap, subst, inl, inr}
+use Rattle.std.proofs.Common.{◌≡◌, ◌≢◌, ℕ, List, Option, None, Some, refl, subst, inl, inr}
 use Rattle.std.specs.Prelude.{◌⊎◌, Vec}
 use Rattle.std.specs.declared.dyn_box.DynBox.{DynBox}
 use Rattle.std.specs.declared.alloc.Global.{Global}
 use Rattle.wind_outside.specs.Devices.{DeviceState}
 use Rattle.wind_outside.specs.Files.{Files}
+use Rattle.wind_outside.specs.Requests.{GrowsBy, Request}
 use Rattle.board_player.specs.MachineState.{State}
 use Rattle.board_player.specs.declared.board.Board.{Board}
 use Rattle.wind_session.specs.Command.{CommandState}
-use Rattle.wind_session.specs.Fetches.{EndsWithInputs}
+use Rattle.wind_session.specs.Fetches.{rounds_requests}
 use Rattle.wind_session.specs.Headline.{IsComplete, IsKept, Leaves, NotPlayed}
 use Rattle.wind_session.specs.Modules.{Shelf}
 use Rattle.wind_session.specs.Outside.{Outside}
 use Rattle.wind_session.specs.Plan.{Plan}
-use Rattle.wind_session.specs.Program.{PlayedOn, Session}
+use Rattle.wind_session.specs.Program.{EndsAs, PlayedOn, Session}
+use Rattle.wind_session.specs.Status.{status_number}
+use Rattle.wind_session.specs.Texts.{IsPrinted, memory_text}
 use Rattle.wind_session.specs.declared.ending.Stand.{Stand}
 use Rattle.wind_session.specs.declared.ending.Stand.TheVariants as stands
 use Rattle.wind_session.specs.declared.ending.Status.{Status}
 use Rattle.wind_session.specs.declared.ending.Status.TheVariants as status
+use Rattle.wind_session.proofs.AppendingLemmas.{memory_is_text}
 use Rattle.wind_session.proofs.FailureLemmas.{unfetched}
-use Rattle.wind_session.proofs.FetchLemmas.{inputs_unread}
+use Rattle.wind_session.proofs.FetchLemmas.{inputs_unread, rounds_found}
 use Rattle.wind_session.proofs.PlanLemmas.{some_plan}
 
 -- what a session leaves, without its board
@@ -31,25 +35,38 @@ left_on state s (stands.Booted board) plan command shelf fault slots devices oth
     subst (λ d. NotPlayed s plan command fault old new ⊎ PlayedOn s plan command shelf d old new) same (inr (record { board = state board; played = leaves; good = kept.0; instant = kept.1 }))
 
 -- memory ran out before a session
-complete_unmade : (command : Option CommandState) (files : Option Files) (rose out_rose : Type 0) → IsComplete status.NoMemory command files rose out_rose
+pub complete_unmade : (command : Option CommandState) (files : Option Files) (rose out_rose : Type 0) → IsComplete status.NoMemory command files rose out_rose
 complete_unmade None files rose out_rose = tt
 complete_unmade (Some c) files rose out_rose = λ there fine out_fine. tt
 
-pub session_unmade : (command : Option CommandState) (files : Option Files) (rose out_rose : Type 0) (old new : Outside) → new ≡ old → Session status.NoMemory command files rose out_rose old new
-session_unmade command files rose out_rose old new same =
+pub unplayed : (plan : Plan) (command : Option CommandState) (fault : Type 0) (now : Outside) → NotPlayed status.NoMemory plan command fault now now
+unplayed plan command fault now = record { bytes = refl; pieces = refl; refusal = tt; fetches = inputs_unread command now.requests }
+
+-- memory ran out for the board, after the fetches of the command's files
+pub unbooted : (plan : Plan) (command : CommandState) (fault : Type 0) (old : Outside) (requests : Option (List Request)) → GrowsBy old.requests requests (rounds_requests command.generate command) → (command.generate ≢ 0 → requests ≡ old.requests)
+    → NotPlayed status.NoMemory plan (Some command) fault old (record old { requests = requests })
+unbooted plan command fault old requests grown unasked = record { bytes = refl; pieces = refl; refusal = tt; fetches = rounds_found command.generate command old.requests requests grown unasked }
+
+pub session_unmade : (command : Option CommandState) (files : Option Files) (rose out_rose : Type 0) (now : Outside) → Session status.NoMemory command files rose out_rose now now
+session_unmade command files rose out_rose now =
     let some = some_plan files command in
     record {
       plan = some.0;
       planned = some.1;
-      leaves = inl (record {
-        bytes = ap (λ (o : Outside). o.bytes) same;
-        pieces = ap (λ (o : Outside). o.pieces) same;
-        refusal = tt;
-        fetches = subst (EndsWithInputs command status.NoMemory old.requests) (sym (ap (λ (o : Outside). o.requests) same)) (inputs_unread command old.requests);
-      });
+      leaves = inl (unplayed some.0 command _ now);
       usage = λ ne. absurd (ne refl);
       complete = complete_unmade command files rose out_rose;
-      fails_last = unfetched status.NoMemory old.requests new.requests (λ e. cc) (ap (λ (o : Outside). o.requests) same);
+      fails_last = unfetched status.NoMemory now.requests now.requests (λ e. cc) refl;
       read_fault = λ e. cc;
       write_fault = λ e. cc;
     }
+
+-- that memory ran out was reported
+pub out_of_memory : (program : List ℕ) (number : ℕ) (IsSession : Status → Type 0) (command : Option CommandState) (old new : Option (List ℕ)) (rose : Type 0) → number ≡ status_number status.NoMemory → IsSession status.NoMemory → IsPrinted old new (memory_text program) rose
+    → EndsAs program number IsSession command old new rose
+out_of_memory program number IsSession command old new rose number_is session printed = record {
+  ended = status.NoMemory;
+  number_is = number_is;
+  session = session;
+  tells = record { text = memory_text program; text_is = memory_is_text program command; printed = printed };
+}

@@ -1,5 +1,5 @@
 -- Laws on the runs of the wind machine.
-use Rattle.std.proofs.Common.{◌≡◌, ◌≢◌, ℕ, suc, ◌+◌, ◌<◌, List, [], ◌++◌, Option, Some, IsSome, true, refl, sym, ◌∙◌, ap, subst, arith, add-one, length, length-append}
+use Rattle.std.proofs.Common.{◌≡◌, ◌≢◌, ℕ, suc, ◌+◌, ◌<◌, List, [], ◌++◌, Option, Some, refl, sym, ◌∙◌, ap, subst, arith, add-one, length, length-append}
 use Rattle.std.specs.Prelude.{take}
 use Rattle.std.proofs.lemmas.List.{append-nil}
 use Rattle.wind_outside.specs.Files.{Files}
@@ -8,14 +8,14 @@ use Rattle.wind_outside.specs.Appending.{Appended, AppendedPrefix}
 use Rattle.wind_outside.specs.declared.sink.Put.TheVariants as puts
 use Rattle.board_player.specs.Said.{FileSaid, Missing}
 use Rattle.board_player.specs.MachineState.{State}
-use Rattle.board_player.specs.Machine.{IsOver, file_asked, machine_step, may_exhaust_memory}
+use Rattle.board_player.specs.Machine.{IsOver, file_asked, machine_step}
 use Rattle.board_player.specs.Run.{Answers, after, text, IsPart}
 use Rattle.wind_session.specs.Modules.{Shelf, IsSaid, AreSaid}
 use Rattle.wind_session.specs.Fetches.{IsLastRequest, Stops, outcome_said, requests_of, step_request}
 use Rattle.wind_session.specs.Outside.{outside}
 use Rattle.wind_session.specs.Pieces.{output_piece, pieces_of}
-use Rattle.wind_session.specs.Runs.{IsEnd, Made, Ran}
-use Rattle.wind_session.proofs.FetchLemmas.{grows_both, grows_none, stops_quiet}
+use Rattle.wind_session.specs.Runs.{IsEnd, IsHalt, Made, Ran}
+use Rattle.wind_session.proofs.FetchLemmas.{grows_both, grows_none}
 use Rattle.wind_session.proofs.Saying.{saying, state_now, part_now, answers_now, text_now, same_before, requests_now, pieces_now, same_pieces_before}
 use Rattle.wind_session.proofs.AppendingLemmas.{appended_both}
 use Rattle.wind_session.specs.declared.run.RunEnd.{RunEnd}
@@ -47,6 +47,40 @@ begun shelf s n old fresh = record { counted = fresh; answers = none_asked shelf
 abbrev pub Makes : Option Files → List ℕ → State → State → Option (List Request) → Option (List Request) → Type 0
 Makes files name u t old new =
     (said : FileSaid) × IsSaid (record { files = files; name = name }) u said × (machine_step said u ≡ Some t) × GrowsBy old new (step_request name (file_asked u) (outcome_said said))
+
+-- ---- a run ends after i steps, and the last request was that of a step
+pub closed : (shelf : Shelf) (said : Answers) (s u : State) (n i : ℕ) (first mid : Option (List Request)) → After shelf said s n i u first mid → (end : RunEnd) → IsEnd end said s n i → IsLastRequest end shelf.name (file_asked (after said s i)) [] → Made end shelf said s n i u first mid
+closed shelf said s u n i first mid run end h none = record {
+  counted = run.counted;
+  answers = run.answers;
+  part = run.part;
+  state = run.state;
+  ended = h;
+  fetches = record { last = []; last_is = none; requests = subst (GrowsBy first mid) (sym (append-nil (requests_of shelf.name said s i))) run.requests };
+}
+
+-- ---- no step is made from a state: this holds of the end if it does of each end of that kind
+pub at_halt : (P : RunEnd → Type 0) (u : State) (end : RunEnd) → IsHalt end u → P ends.Quiet → P ends.ReadFault → P ends.NoMemory → P end
+at_halt P u ends.Quiet halt quiet unread exhausted = quiet
+at_halt P u ends.Limit halt quiet unread exhausted = absurd halt
+at_halt P u ends.ReadFault halt quiet unread exhausted = unread
+at_halt P u ends.WriteFault halt quiet unread exhausted = absurd halt
+at_halt P u ends.NoMemory halt quiet unread exhausted = exhausted
+
+-- so the run isn't cut off
+pub not_cut : (u : State) (end : RunEnd) → IsHalt end u → end ≢ ends.WriteFault
+not_cut u end halt = at_halt (λ e. e ≢ ends.WriteFault) u end halt (λ e. cc) (λ e. cc) (λ e. cc)
+
+-- and if it is quiet, no step is left
+pub halts_quiet : (u : State) (end : RunEnd) → IsHalt end u → end ≡ ends.Quiet → IsOver u
+halts_quiet u end halt quiet = subst (λ (e : RunEnd). IsHalt e u) quiet halt
+
+is_end : (said : Answers) (s : State) (n k : ℕ) → k < n → (end : RunEnd) → IsHalt end (after said s k) → IsEnd end said s n k
+is_end said s n k h ends.Quiet halt = (h, halt)
+is_end said s n k h ends.Limit halt = absurd halt
+is_end said s n k h ends.ReadFault halt = (h, halt)
+is_end said s n k h ends.WriteFault halt = absurd halt
+is_end said s n k h ends.NoMemory halt = (h, halt)
 
 module _ (shelf : Shelf) (said : Answers) (s u : State) (n i : ℕ) (first mid : Option (List Request)) (run : After shelf said s n i u first mid) where
   -- ---- after i steps another one was made, and the folder keeps its files
@@ -99,14 +133,7 @@ module _ (shelf : Shelf) (said : Answers) (s u : State) (n i : ℕ) (first mid :
         record {
           said = said_on;
           k = suc i;
-          made = record {
-            counted = on.counted;
-            answers = on.answers;
-            part = on.part;
-            state = on.state;
-            ended = tt;
-            fetches = record { last = []; last_is = refl; requests = subst (GrowsBy first last) (sym (append-nil (requests_of shelf.name said_on s (suc i)))) on.requests };
-          };
+          made = closed shelf said_on s t n (suc i) first last on ends.WriteFault tt refl;
           written = record {
             before = i;
             last = refl;
@@ -120,40 +147,21 @@ module _ (shelf : Shelf) (said : Answers) (s u : State) (n i : ℕ) (first mid :
           };
         }
 
-  -- ---- after i steps the run ended, and nothing changed
-  module _ (t : State) (last : Option (List Request)) (same : t ≡ u) where
-    ended : (end : RunEnd) → IsEnd end said s n i → Stops end shelf.name (file_asked u) mid last → Made end shelf said s n i t first last
-    ended end h stops = record {
-      counted = ap (λ (v : State). v.steps) same ∙ run.counted;
-      answers = run.answers;
-      part = run.part;
-      state = same ∙ run.state;
-      ended = h;
-      fetches = record {
-        last = stops.last;
-        last_is = subst (λ (v : State). IsLastRequest end shelf.name (file_asked v) stops.last) run.state stops.last_is;
-        requests = grows_both first mid last (requests_of shelf.name said s i) stops.last run.requests stops.requests;
-      };
-    }
-
-    pub quiet : i < n → IsOver u → last ≡ mid → Made ends.Quiet shelf said s n i t first last
-    quiet h over kept = ended ends.Quiet (h, subst (λ (v : State). IsOver v) run.state over) (stops_quiet shelf.name (file_asked u) mid last kept)
-
-    -- memory ran out
-    pub exhausted : i < n → may_exhaust_memory u ≡ true → Stops ends.NoMemory shelf.name (file_asked u) mid last → Made ends.NoMemory shelf said s n i t first last
-    exhausted h may stops = ended ends.NoMemory (h, subst (λ (v : State). may_exhaust_memory v ≡ true) run.state may) stops
-
-    -- a file could not be read
-    pub unread : i < n → IsSome (file_asked u) → Stops ends.ReadFault shelf.name (file_asked u) mid last → Made ends.ReadFault shelf said s n i t first last
-    unread h asked stops = ended ends.ReadFault (h, subst (λ (v : State). IsSome (file_asked v)) run.state asked) stops
+  -- after i steps no further one was made, and nothing changed
+  pub halted : (t : State) (last : Option (List Request)) → t ≡ u → i < n → (end : RunEnd) → IsHalt end u → Stops end shelf.name (file_asked u) mid last → Made end shelf said s n i t first last
+  halted t last same h end halt stops = record {
+    counted = ap (λ (v : State). v.steps) same ∙ run.counted;
+    answers = run.answers;
+    part = run.part;
+    state = same ∙ run.state;
+    ended = is_end said s n i h end (subst (IsHalt end) run.state halt);
+    fetches = record {
+      last = stops.last;
+      last_is = subst (λ (v : State). IsLastRequest end shelf.name (file_asked v) stops.last) run.state stops.last_is;
+      requests = grows_both first mid last (requests_of shelf.name said s i) stops.last run.requests stops.requests;
+    };
+  }
 
   -- as many steps as the limit were made
   pub at_limit : i ≡ n → Made ends.Limit shelf said s n i u first mid
-  at_limit e = record {
-    counted = run.counted;
-    answers = run.answers;
-    part = run.part;
-    state = run.state;
-    ended = e;
-    fetches = record { last = []; last_is = refl; requests = subst (GrowsBy first mid) (sym (append-nil (requests_of shelf.name said s i))) run.requests };
-  }
+  at_limit e = closed shelf said s u n i first mid run ends.Limit e refl

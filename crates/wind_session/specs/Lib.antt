@@ -2,6 +2,7 @@ pub mod Command
 pub mod Fetches
 pub mod Generated
 pub mod Headline
+pub mod Keeping
 pub mod Laws
 pub mod Live
 pub mod Modules

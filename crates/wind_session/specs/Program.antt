@@ -43,9 +43,14 @@ pub record Session (s : Status) (command : Option CommandState) (files : Option 
   pub read_fault : s ≡ status.ReadFault → rose
   pub write_fault : s ≡ status.WriteFault → out_rose
 
--- the program plays the session of these arguments, reports how it ended, and ends with the number of its status
-pub record Ends (number : ℕ) (command : Option CommandState) (files : Option Files) (rose out_rose : Type 0) (old new : Outside) (err_old err_new : Option (List ℕ)) (err_rose : Type 0) : Type 0 where
+-- a program with this name ends a session, reports how it ended, and gives the number of its status
+pub record EndsAs (program : List ℕ) (number : ℕ) (IsSession : Status → Type 0) (command : Option CommandState) (err_old err_new : Option (List ℕ)) (err_rose : Type 0) : Type 0 where
   pub ended : Status
   pub number_is : number ≡ status_number ended
-  pub session : Session ended command files rose out_rose old new
-  pub tells : Tells (codes "windplay") ended command err_old err_new err_rose
+  pub session : IsSession ended
+  pub tells : Tells program ended command err_old err_new err_rose
+
+-- the program plays the session of these arguments, reports how it ended, and ends with the number of its status
+abbrev pub Ends : ℕ → Option CommandState → Option Files → Type 0 → Type 0 → Outside → Outside → Option (List ℕ) → Option (List ℕ) → Type 0 → Type 0
+Ends number command files rose out_rose old new err_old err_new err_rose =
+    EndsAs (codes "windplay") number (λ s. Session s command files rose out_rose old new) command err_old err_new err_rose

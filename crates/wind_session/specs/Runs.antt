@@ -13,14 +13,18 @@ use Rattle.wind_session.specs.Pieces.{output_piece, pieces_of}
 use Rattle.wind_session.specs.declared.run.RunEnd.{RunEnd}
 use Rattle.wind_session.specs.declared.run.RunEnd.TheVariants as ends
 
--- how a run of at most n steps from s ends after k steps: with no step left, with n steps made, because the next
--- step's file can't be read, or because memory runs out and the next step permits it
+-- why no step is made from a state: none is left, its file can't be read, or memory runs out and the step permits it
+abbrev pub IsHalt : RunEnd → State → Type 0
+IsHalt ends.Quiet s = IsOver s
+IsHalt ends.ReadFault s = IsSome (file_asked s)
+IsHalt ends.NoMemory s = may_exhaust_memory s ≡ true
+IsHalt end s = ⊥
+
+-- how a run of at most n steps from s ends after k steps: with n steps made, by a put that failed, or because no further step is made
 abbrev pub IsEnd : RunEnd → Answers → State → ℕ → ℕ → Type 0
-IsEnd ends.Quiet said s n k = (k < n) × IsOver (after said s k)
 IsEnd ends.Limit said s n k = k ≡ n
-IsEnd ends.ReadFault said s n k = (k < n) × IsSome (file_asked (after said s k))
 IsEnd ends.WriteFault said s n k = Unit {0}
-IsEnd ends.NoMemory said s n k = (k < n) × (may_exhaust_memory (after said s k) ≡ true)
+IsEnd end said s n k = (k < n) × IsHalt end (after said s k)
 
 -- the last of k steps wrote something; the sink gained a part of it, after all that the steps before wrote, and the
 -- put of its piece failed

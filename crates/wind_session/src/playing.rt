@@ -1,25 +1,15 @@
 //! Plays a session.
 
 ghost use Rattle.std.specs.Prelude.{◌≡◌, ◌≢◌, ℕ, ◌<◌, ◌≤◌, ◌^◌, ◌↔◌, List, [], ◌∷◌, Some, None, OnOk, IfOk, IfErr, map, length, codes};
-ghost use Rattle.wind_base.specs.Limits.{most_steps};
-ghost use Rattle.wind_outside.specs.Counts.{Rose};
-ghost use Rattle.wind_outside.specs.Devices.{slots_of};
+ghost use Rattle.wind_base.specs.Limits.{most_slots, most_steps};
+ghost use Rattle.wind_outside.specs.{Counts.Rose, Devices.slots_of, Requests.GrowsBy};
 ghost use Rattle.board_player.specs.Seen.{seen};
 ghost use Rattle.generated_session.specs.Session.{most_rounds, summary_line};
-ghost use Rattle.wind_outside.specs.Requests.{GrowsBy};
 ghost use Rattle.wind_outside.specs.declared.folder.FetchOutcome.{FetchOutcome};
 ghost use Rattle.wind_outside.specs.declared.folder.FetchOutcome.TheVariants as outcomes;
-ghost use Rattle.wind_session.specs.Command.{command_of as command_of_lem};
-ghost use Rattle.wind_session.specs.Fetches.{LeadsTo, IsAfterFiles, EndsWithFiles, EndsWithRounds, FailsLast, file_requests, rounds_requests, text_request};
-ghost use Rattle.wind_session.specs.Outside.{outside};
-ghost use Rattle.wind_session.specs.Words.{command_state};
-ghost use Rattle.wind_session.specs.Plan.{Start, IsFilePlan, IsPlanOf, IsHeld, plan_ticks, generated_plan};
-ghost use Rattle.wind_session.specs.Headline.{Plays, IsRefusal, IsUnread, RefusesFiles, Refuses, IsComplete, IsKept, IsLeft, IsSummed, status_of as status_of_lem};
-ghost use Rattle.wind_session.specs.Runs.{is_given_up as is_given_up_lem};
-ghost use Rattle.wind_session.specs.Status.{status_number};
+ghost use Rattle.wind_session.specs.{Keeping.KeepsFiles, Command.{command_of as command_of_lem}, Fetches.{LeadsTo, IsAfterFiles, EndsWithFiles, EndsWithRounds, FailsLast, file_requests, rounds_requests, text_request}, Outside.outside, Words.command_state, Plan.{Start, IsFilePlan, IsPlanOf, IsHeld, plan_ticks, generated_plan}, Headline.{Plays, IsRefusal, IsUnread, RefusesFiles, Refuses, IsComplete, IsKept, IsLeft, IsSummed, status_of as status_of_lem}, Runs.{is_given_up as is_given_up_lem}, Status.status_number, Texts.Tells};
 ghost use Rattle.wind_session.specs.declared.run.RunEnd.{RunEnd};
 ghost use Rattle.wind_session.specs.declared.run.RunEnd.TheVariants as ends;
-ghost use Rattle.wind_session.specs.Texts.{Tells};
 ghost use Rattle.wind_session.specs.declared.ending.Status.TheVariants as status;
 ghost use Rattle.wind_session.specs.declared.ending.Stand.TheVariants as stands;
 
@@ -217,9 +207,7 @@ fn played<F: Folder, O: Sink>(
         (outside (F.requests folder.new) (O.bytes out.new) (O.pieces out.new)) }
     ensures read_fault { result ≡ status.ReadFault → Rose (F.faults folder.old) (F.faults folder.new) }
     ensures fault { result ≡ status.WriteFault → Rose (O.faults out.old) (O.faults out.new) }
-    ensures files { F.files folder.new ≡ F.files folder.old }
-    ensures folder_faults { F.faults folder.old ≤ F.faults folder.new }
-    ensures faults { O.faults out.old ≤ O.faults out.new }
+    ensures keeps { KeepsFiles ⟦<F as Folder>⟧ ⟦<O as Sink>⟧ folder.old out.old folder.new out.new }
 {
     if command.generate == 0 {
         return status_of(run_board(alloc, board, folder, command.modules, out, command.limit));
@@ -236,7 +224,7 @@ fn session<F: Folder, O: Sink>(
     out: &mut O,
     devices: Slots,
 ) -> Ending
-    requires devices { length devices.items ≤ 16 }
+    requires devices { length devices.items ≤ most_slots }
     requires limit { command.now.limit ≤ most_steps }
     requires rounds { command.now.generate ≤ most_rounds }
     ensures machine { Plays (seen ⟦<dyn Device as Device>⟧) result (Some (command_state command.now)) (F.files folder.old) (Rose (F.faults folder.old) (F.faults folder.new)) devices (slots_of kind_of words_of devices.items)
@@ -248,23 +236,15 @@ fn session<F: Folder, O: Sink>(
     ensures kept { IsKept (seen ⟦<dyn Device as Device>⟧) result.stand }
     ensures read_fault { result.status ≡ status.ReadFault → Rose (F.faults folder.old) (F.faults folder.new) }
     ensures write_fault { result.status ≡ status.WriteFault → Rose (O.faults out.old) (O.faults out.new) }
-    ensures files { F.files folder.new ≡ F.files folder.old }
-    ensures folder_faults { F.faults folder.old ≤ F.faults folder.new }
-    ensures out_faults { O.faults out.old ≤ O.faults out.new }
+    ensures keeps { KeepsFiles ⟦<F as Folder>⟧ ⟦<O as Sink>⟧ folder.old out.old folder.new out.new }
 {
     let inputs = match inputs_of(alloc, command, folder) {
         Ok(inputs) => inputs,
         Err(status) => return refused(status, devices),
     };
     let Inputs { console, schedule } = inputs;
-    let mut board = match Board::boot(
-        alloc,
-        devices,
-        console,
-        schedule,
-        command.profile,
-        command.board,
-    ) {
+    let (profile, kind) = (command.profile, command.board);
+    let mut board = match Board::boot(alloc, devices, console, schedule, profile, kind) {
         Ok(board) => board,
         Err(devices) => return refused(Status::NoMemory, devices),
     };
@@ -289,7 +269,7 @@ pub fn play<'a, F: Folder, O: Sink, E: Sink>(
     err: &mut E,
     devices: Slots,
 ) -> Ending
-    requires { length devices.items ≤ 16 }
+    requires { length devices.items ≤ most_slots }
     ensures machine { Plays (seen ⟦<dyn Device as Device>⟧) result (command_of_lem (map (λ w. w.now) words.now)) (F.files folder.old) (Rose (F.faults folder.old) (F.faults folder.new)) devices (slots_of kind_of words_of devices.items)
         (outside (F.requests folder.old) (O.bytes out.old) (O.pieces out.old))
         (outside (F.requests folder.new) (O.bytes out.new) (O.pieces out.new)) }
@@ -301,9 +281,7 @@ pub fn play<'a, F: Folder, O: Sink, E: Sink>(
     ensures kept { IsKept (seen ⟦<dyn Device as Device>⟧) result.stand }
     ensures read_fault { result.status ≡ status.ReadFault → Rose (F.faults folder.old) (F.faults folder.new) }
     ensures write_fault { result.status ≡ status.WriteFault → Rose (O.faults out.old) (O.faults out.new) }
-    ensures files { F.files folder.new ≡ F.files folder.old }
-    ensures folder_faults { F.faults folder.old ≤ F.faults folder.new }
-    ensures out_faults { O.faults out.old ≤ O.faults out.new }
+    ensures keeps { KeepsFiles ⟦<F as Folder>⟧ ⟦<O as Sink>⟧ folder.old out.old folder.new out.new }
     ensures err_faults { E.faults err.old ≤ E.faults err.new }
     ensures err { Tells (codes "windplay") result.status (command_of_lem (map (λ w. w.now) words.now)) (E.bytes err.old) (E.bytes err.new) (Rose (E.faults err.old) (E.faults err.new)) }
 {

@@ -3,15 +3,11 @@
 ghost use Rattle.std.specs.Prelude.{◌≡◌, ◌≤◌, ℕ, ◌+◌};
 ghost use Rattle.wind_base.specs.Limits.{most_steps};
 ghost use Rattle.wind_outside.specs.Counts.{Rose};
-ghost use Rattle.board_player.specs.Seen.{seen};
-ghost use Rattle.board_player.specs.MachineState.{State};
-ghost use Rattle.board_player.specs.Machine.{IsOver};
-ghost use Rattle.board_player.specs.Extending.{IsRoom};
-ghost use Rattle.wind_session.specs.Outside.{Outside, outside};
-ghost use Rattle.wind_session.specs.Runs.{Ran};
+ghost use Rattle.board_player.specs.{Seen.seen, MachineState.State, Machine.IsOver, Extending.IsRoom};
+ghost use Rattle.wind_session.specs.{Keeping.KeepsFiles, Outside.{Outside, outside}, Runs.Ran};
 ghost use Rattle.wind_session.specs.declared.run.RunEnd.TheVariants as ends;
 
-use crate::modules::{Move, step};
+use crate::modules::step;
 use crate::run::{RunEnd, put_some};
 use board_player::{Board, extend_law, silent_law};
 use std::alloc::Global;
@@ -43,9 +39,7 @@ pub fn resume_board<F: Folder, O: Sink>(
         → IsRoom time line (seen ⟦<dyn Device as Device>⟧ board.new) }
     ensures read_fault { result ≡ ends.ReadFault → Rose (F.faults folder.old) (F.faults folder.new) }
     ensures fault { result ≡ ends.WriteFault → Rose (O.faults out.old) (O.faults out.new) }
-    ensures files { F.files folder.new ≡ F.files folder.old }
-    ensures folder_faults { F.faults folder.old ≤ F.faults folder.new }
-    ensures faults { O.faults out.old ≤ O.faults out.new }
+    ensures keeps { KeepsFiles ⟦<F as Folder>⟧ ⟦<O as Sink>⟧ folder.old out.old folder.new out.new }
 {
     silent_law();
     extend_law();
@@ -56,10 +50,8 @@ pub fn resume_board<F: Folder, O: Sink>(
             return RunEnd::Limit;
         }
         match step(alloc, board, folder, modules) {
-            Move::Made => made += 1,
-            Move::Quiet => return RunEnd::Quiet,
-            Move::ReadFault => return RunEnd::ReadFault,
-            Move::NoMemory => return RunEnd::NoMemory,
+            Ok(()) => made += 1,
+            Err(end) => return end,
         }
         match put_some(out, board.output()) {
             Put::Done => {}

@@ -2,17 +2,13 @@
 
 ghost use Rattle.std.specs.Prelude.{◌≡◌, ◌≢◌, ◌^◌, ◌≤◌, []};
 ghost use Rattle.wind_base.specs.Limits.{most_steps};
-ghost use Rattle.wind_outside.specs.Counts.{Rose};
-ghost use Rattle.wind_outside.specs.Appending.{Appended, AppendedPrefix};
+ghost use Rattle.wind_outside.specs.{Counts.Rose, Appending.{Appended, AppendedPrefix}, Requests.GrowsBy};
 ghost use Rattle.wind_outside.specs.declared.sink.Put.TheVariants as puts;
 ghost use Rattle.board_player.specs.Seen.{seen};
-ghost use Rattle.wind_outside.specs.Requests.{GrowsBy};
-ghost use Rattle.wind_session.specs.Outside.{outside};
-ghost use Rattle.wind_session.specs.Pieces.{output_piece};
-ghost use Rattle.wind_session.specs.Runs.{Ran, Counted};
+ghost use Rattle.wind_session.specs.{Keeping.KeepsFiles, Outside.outside, Pieces.output_piece, Runs.{Ran, Counted}};
 ghost use Rattle.wind_session.specs.declared.run.RunEnd.TheVariants as ends;
 
-use crate::modules::{Move, step};
+use crate::modules::step;
 use crate::resuming::resume_board;
 use board_player::{Board, silent_law};
 use std::alloc::Global;
@@ -66,9 +62,7 @@ pub fn run_board<F: Folder, O: Sink>(
         (outside (F.requests folder.new) (O.bytes out.new) (O.pieces out.new)) }
     ensures read_fault { result ≡ ends.ReadFault → Rose (F.faults folder.old) (F.faults folder.new) }
     ensures fault { result ≡ ends.WriteFault → Rose (O.faults out.old) (O.faults out.new) }
-    ensures files { F.files folder.new ≡ F.files folder.old }
-    ensures folder_faults { F.faults folder.old ≤ F.faults folder.new }
-    ensures faults { O.faults out.old ≤ O.faults out.new }
+    ensures keeps { KeepsFiles ⟦<F as Folder>⟧ ⟦<O as Sink>⟧ folder.old out.old folder.new out.new }
 {
     resume_board(alloc, board, folder, modules, out, limit)
 }
@@ -84,7 +78,7 @@ pub struct Tally {
 
 /// Makes steps, at most `limit`, and counts what each of them writes. The modules that the steps
 /// need are fetched from the folder.
-#[tactic(auto, using(crate::proofs::RunLemmas::quiet, crate::proofs::RunLemmas::at_limit))]
+#[tactic(auto, using(crate::proofs::RunLemmas::at_limit))]
 pub fn count_board<F: Folder>(
     alloc: Global,
     board: &mut Board,
@@ -113,28 +107,11 @@ pub fn count_board<F: Folder>(
             };
         }
         match step(alloc, board, folder, modules) {
-            Move::Made => {
+            Ok(()) => {
                 made += 1;
                 bytes += board.output().len() as u128;
             }
-            Move::Quiet => {
-                return Tally {
-                    end: RunEnd::Quiet,
-                    bytes,
-                };
-            }
-            Move::ReadFault => {
-                return Tally {
-                    end: RunEnd::ReadFault,
-                    bytes,
-                };
-            }
-            Move::NoMemory => {
-                return Tally {
-                    end: RunEnd::NoMemory,
-                    bytes,
-                };
-            }
+            Err(end) => return Tally { end, bytes },
         }
     }
     Tally {

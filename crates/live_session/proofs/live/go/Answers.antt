@@ -3,13 +3,17 @@ use Rattle.live_session.proofs.Flow.{went}
 use Rattle.live_session.proofs.live.go.Goals as goal
 
 -- the record is the same, and the board keeps room for a further event
-pub returns-clause-sound : goal.returns-clause-sound
-returns-clause-sound g c = record {
-  kept = c.requires.kept;
-  console = c.requires.console;
-  room = c.resume_board.ensures.room _ _ c.requires.room;
-  few = omega (arith, c.resume_board.ensures.steps, c.requires.few);
+pub returns-clause-runs : goal.returns-clause-runs
+returns-clause-runs g c = record {
+  sound = record {
+    kept = c.requires.kept;
+    console = c.requires.console;
+    room = c.resume_board.ensures.room _ _ c.requires.room;
+    few = omega (arith, c.resume_board.ensures.steps, c.requires.few);
+  };
+  goes = went _ _ _ _ _ _ _ c.resume_board.ensures.ran;
+  quiet = c.resume_board.ensures.quiet;
+  read_fault = c.resume_board.ensures.read_fault;
+  write_fault = c.resume_board.ensures.fault;
+  keeps = record { same_files = c.resume_board.ensures.keeps.0; folder_keeps = c.resume_board.ensures.keeps.1; sink_keeps = c.resume_board.ensures.keeps.2 };
 }
-
-pub returns-clause-run : goal.returns-clause-run
-returns-clause-run g c = went _ _ _ _ _ _ _ c.resume_board.ensures.ran

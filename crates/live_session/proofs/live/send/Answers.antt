@@ -1,30 +1,11 @@
 use Rattle.std.proofs.Common.{length, ap, ◌∙◌, arith}
-use Rattle.live_session.proofs.Sending.{sent_at, sent_sound}
+use Rattle.live_session.proofs.Sending.{sent_stays}
 use Rattle.live_session.proofs.live.send.Goals as goal
 
 -- the record has the event, and the board has taken it
-pub returns-clause-sound : goal.returns-clause-sound
-returns-clause-sound g c =
-    sent_sound c.writing_law.ensures.more _ _ c.in-Some.time c.args.event c.args.bytes.now c.deref.result.now c.requires.sound
-    (record {
-      console = c.add_event.ensures.console;
-      ticks = c.add_event.ensures.ticks;
-      lines = c.add_event.ensures.lines;
-      last = c.add_event.ensures.last;
-      board = c.in-Ok.ensures.ok;
-      late = omega (arith, c.in-Some.ensures.some.0);
-      later = omega (arith, c.in-Some.ensures.some.0, c.time.ensures);
-      fits = c.in-Some.ensures.some.1;
-      range = c.requires.range;
-      asked = c.requires.asked;
-      line_is = c.deref.ensures.value ∙ c.in_ok-line.ensures;
-      console_room = omega (arith, c.if-room-bytes.false, c.room.ensures);
-      ticks_room = omega (arith, c.if-room-len.false, c.len.ensures, c.room-2.ensures, ap length c.deref.ensures.value);
-    })
-
-pub returns-clause-live : goal.returns-clause-live
-returns-clause-live g c = λ shelf setup old now live.
-    sent_at c.writing_law.ensures.more _ (record { console = c.add_event.new.record.console; ticks = c.add_event.new.record.ticks; lines = c.add_event.new.record.lines; last = c.add_event.new.record.last; board = _ })
+pub returns-clause-stays : goal.returns-clause-stays
+returns-clause-stays g c =
+    sent_stays c.writing_law.ensures.more _ (record { console = c.add_event.new.record.console; ticks = c.add_event.new.record.ticks; lines = c.add_event.new.record.lines; last = c.add_event.new.record.last; board = _ })
     c.in-Some.time c.args.event c.args.bytes.now c.deref.result.now c.requires.sound
     (record {
       console = c.add_event.ensures.console;
@@ -41,4 +22,4 @@ returns-clause-live g c = λ shelf setup old now live.
       console_room = omega (arith, c.if-room-bytes.false, c.room.ensures);
       ticks_room = omega (arith, c.if-room-len.false, c.len.ensures, c.room-2.ensures, ap length c.deref.ensures.value);
     })
-    c.growing_law.ensures shelf setup old now live
+    c.growing_law.ensures

@@ -1,25 +1,74 @@
-use Rattle.std.proofs.Common.{Option, inr, rules, subst, sym}
+use Rattle.std.proofs.Common.{◌≡◌, ◌≢◌, ◌∙◌, [], Option, arith, eqb-true, inr, length, rules, subst, sym}
+use Rattle.std.proofs.lemmas.List.{nil_from_length}
 use Rattle.wind_outside.specs.Files.{Files}
+use Rattle.live_session.specs.Around.{around}
 use Rattle.wind_session.proofs.AppendingLemmas.{rose_earlier}
-use Rattle.live_session.specs.Session.{IsPermitted}
+use Rattle.live_session.specs.Saving.{WritesOnly}
 use Rattle.live_session.specs.Words.{command_state}
-use Rattle.live_session.proofs.Outcomes.{never_usage}
-use Rattle.live_session.proofs.Whole.{played_after}
+use Rattle.live_session.specs.declared.status.Status.TheVariants as status
+use Rattle.live_session.proofs.OtherFiles.{writes_both, writes_record}
+use Rattle.live_session.proofs.Outcomes.{IsAfter, after_failed, after_recorded, after_same, after_status, after_typed, ended_going, never_usage}
+use Rattle.live_session.proofs.Whole.{plays}
 use Rattle.live_session.proofs.playing.session.Goals as goal
 
--- the session was played
+-- ---- no record is asked for
+pub returns-then-is_empty-clause-leaves : goal.returns-then-is_empty-clause-leaves
+returns-then-is_empty-clause-leaves g c =
+    let closing = c.converse-closing in
+    let folder = c.args.target.command.now.record.now in
+    let none : folder ≡ [] = nil_from_length folder (eqb-true (length folder) 0 (sym c.is_empty.ensures ∙ c.if-is_empty.true)) in
+    inr (plays c.writing_law.ensures.written closing.result.status (command_state c.args.target.command.now) closing.result.end _ _
+    (around g.F.Folder g.O.Sink c.args.folder.now c.args.out.now) (around g.F.Folder g.O.Sink closing.new.folder closing.new.out)
+    _ _ _ (g.D.RecordFolder.files c.args.records.now) _ _
+    (record {
+      runs = closing.ensures.runs;
+      status_is = closing.ensures.status_is.0;
+      typed = closing.ensures.typed;
+      writes = subst (λ (f : Option Files). WritesOnly folder f (g.D.RecordFolder.files closing.new.records)) c.may_record.ensures.files closing.ensures.writes;
+      saved = λ e named. absurd (named none);
+      unrecorded = λ e. absurd (closing.ensures.status_is.1 e);
+    })
+    _ (c.may_record.ensures.permitted (search rules)) (c.in-Ok.ensures.begins.live _ _))
+
+pub returns-then-is_empty-clause-known : goal.returns-then-is_empty-clause-known
+returns-then-is_empty-clause-known g c = never_usage c.converse-closing.result.end c.converse-closing.result.status c.converse-closing.ensures.status_is.0
+
+-- ---- the record was written, or not
 pub returns-clause-leaves : goal.returns-clause-leaves
 returns-clause-leaves g c =
-    let cmd = command_state c.args.target.command.now in
-    let asked = c.may_record in
-    let permitted = subst (λ (f : Option Files). IsPermitted cmd f) (sym asked.ensures.files) (asked.ensures.permitted (search rules)) in
-    inr (played_after c.played.result cmd _ _ _ _ _ _ _ _ _ _ _ asked.ensures.files
-    (λ rose. rose_earlier _ _ _ asked.ensures.never_falls c.played.ensures.record_faults rose)
-    (c.played.ensures.played _ permitted (c.in-Ok.ensures.live _ _)))
+    let closing = c.converse-closing in
+    let writing = c.write_record-written in
+    let folder = c.args.target.command.now.record.now in
+    let named : folder ≢ [] = search rules in
+    let after : IsAfter writing.result closing.result.status c.status_after.result = record { ok = c.status_after.ensures.ok; err = c.status_after.ensures.err } in
+    inr (plays c.writing_law.ensures.written c.status_after.result (command_state c.args.target.command.now) closing.result.end _ _
+    (around g.F.Folder g.O.Sink c.args.folder.now c.args.out.now) (around g.F.Folder g.O.Sink closing.new.folder closing.new.out)
+    _ _ _ (g.D.RecordFolder.files closing.new.records) _ _
+    (record {
+      runs = closing.ensures.runs;
+      status_is = after_status writing.result closing.result.status c.status_after.result closing.result.end after closing.ensures.status_is.0;
+      typed = after_typed writing.result closing.result.status c.status_after.result _ _ _ after closing.ensures.typed;
+      writes =
+          writes_both _ _ _ _
+          (subst (λ (f : Option Files). WritesOnly folder f (g.D.RecordFolder.files closing.new.records)) c.may_record.ensures.files closing.ensures.writes)
+          (writes_record _ _ _ named writing.ensures.others);
+      saved = λ e some. (
+        ended_going closing.result.end closing.result.status closing.ensures.status_is.0
+            (after_same writing.result closing.result.status c.status_after.result status.Ended after e (λ x. cc) (λ x. cc)),
+        after_recorded writing.result closing.result.status c.status_after.result _ after writing.ensures.ok e,
+      );
+      unrecorded = λ e. (
+        named,
+        rose_earlier _ _ _ (omega (arith, c.may_record.ensures.never_falls, closing.ensures.record_faults)) writing.ensures.never_falls
+            (writing.ensures.failed (after_failed writing.result closing.result.status c.status_after.result after closing.ensures.status_is.1 e)),
+      );
+    })
+    _ (c.may_record.ensures.permitted (search rules)) (c.in-Ok.ensures.begins.live _ _))
 
 pub returns-clause-known : goal.returns-clause-known
 returns-clause-known g c =
-    let cmd = command_state c.args.target.command.now in
-    let permitted = subst (λ (f : Option Files). IsPermitted cmd f) (sym c.may_record.ensures.files) (c.may_record.ensures.permitted (search rules)) in
-    let played = c.played.ensures.played _ permitted (c.in-Ok.ensures.live _ _) in
-    never_usage played.end c.played.result played.status_is
+    let closing = c.converse-closing in
+    let writing = c.write_record-written in
+    let after : IsAfter writing.result closing.result.status c.status_after.result = record { ok = c.status_after.ensures.ok; err = c.status_after.ensures.err } in
+    never_usage closing.result.end c.status_after.result
+    (after_status writing.result closing.result.status c.status_after.result closing.result.end after closing.ensures.status_is.0)

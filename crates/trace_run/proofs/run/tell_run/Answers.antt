@@ -3,9 +3,9 @@ use Rattle.std.proofs.lemmas.Result.{err_from_is_err_and}
 use Rattle.wind_session.specs.Modules.{Shelf}
 use Rattle.wind_session.specs.declared.run.RunEnd.TheVariants as ends
 use Rattle.wind_session.proofs.Bursts.{runs_on}
-use Rattle.wind_session.proofs.RunLemmas.{at_limit, begun, exhausted, further, nothing_said, quiet, unread}
+use Rattle.wind_session.proofs.RunLemmas.{at_limit, begun, further, halted, nothing_said}
 use Rattle.wind_session.proofs.Saying.{as_before, saying}
-use Rattle.trace_run.proofs.Telling.{given_up, goes_on, stopped, told_end}
+use Rattle.trace_run.proofs.Telling.{given_up, goes_on, stopped, told_end, told_halt}
 use Rattle.trace_run.proofs.run.tell_run.Goals as goal
 
 -- before the first step
@@ -23,33 +23,33 @@ loop-made-init g c = record {
 -- instructions and a step were made and told
 pub loop-made-preserved : goal.loop-made-preserved
 loop-made-preserved g c =
-    let made = c.in-Made.ensures.made refl in
+    let made = c.in-Ok.ensures.made in
     let shelf : Shelf = record { files = g.F.Folder.files c.args.folder.now; name = c.args.modules.now } in
     let few : c.loop-made.made + c.in_ok-count.count ≤ c.args.limit = omega (arith, c.in_ok-count.ensures.within) in
     let run = runs_on c.silent_law.ensures shelf _ _ _ _ _ _ _ c.loop-made.invariant.run c.in_ok-count.count few _ c.in_ok-count.ensures.made in
     record {
       said = saying c.loop-made.invariant.said (c.loop-made.made + c.in_ok-count.count) made.0;
-      run = further shelf _ _ _ _ _ _ _ run _ c.loop-made.invariant.files _ _ made (omega arith) (c.in-Made.ensures.counted refl);
+      run = further shelf _ _ _ _ _ _ _ run _ c.loop-made.invariant.files _ _ made (omega arith) c.in-Ok.ensures.counted;
       told = c.in_ok-put.ensures.tells c.in-Done.is _ _ _ _ _ _ c.in_ok-before_step.ensures.value c.in_ok-count.ensures.ready (goes_on shelf _ _ _ _ _ made.0 run.state made.2) (c.in_ok-count.ensures.tells _ _ _ _ _ c.loop-made.invariant.run.state c.loop-made.invariant.told);
       ready = c.in_ok-put.ensures.ready;
-      files = c.in-Made.ensures.files ∙ c.loop-made.invariant.files;
-      folder_faults = omega (arith, c.in-Made.ensures.faults, c.loop-made.invariant.folder_faults);
+      files = c.in-Ok.ensures.files ∙ c.loop-made.invariant.files;
+      folder_faults = omega (arith, c.in-Ok.ensures.faults, c.loop-made.invariant.folder_faults);
       faults = omega (arith, c.in_ok-put.ensures.faults, c.loop-made.invariant.faults);
     }
 
 pub loop-made-preserved-in-Done : goal.loop-made-preserved-in-Done
 loop-made-preserved-in-Done g c =
-    let made = c.in-Made.ensures.made refl in
+    let made = c.in-Ok.ensures.made in
     let shelf : Shelf = record { files = g.F.Folder.files c.args.folder.now; name = c.args.modules.now } in
     let few : c.loop-made.made + c.in_ok-count.count ≤ c.args.limit = omega (arith, c.in_ok-count.ensures.within) in
     let run = runs_on c.silent_law.ensures shelf _ _ _ _ _ _ _ c.loop-made.invariant.run c.in_ok-count.count few _ c.in_ok-count.ensures.made in
     record {
       said = saying c.loop-made.invariant.said (c.loop-made.made + c.in_ok-count.count) made.0;
-      run = further shelf _ _ _ _ _ _ _ run _ c.loop-made.invariant.files _ _ made (omega arith) (c.in-Made.ensures.counted refl);
+      run = further shelf _ _ _ _ _ _ _ run _ c.loop-made.invariant.files _ _ made (omega arith) c.in-Ok.ensures.counted;
       told = c.in_ok-put.ensures.tells c.in-Done.is _ _ _ _ _ _ c.in_ok-before_step.ensures.value c.in_ok-count.ensures.ready (goes_on shelf _ _ _ _ _ made.0 run.state made.2) (c.in_ok-count.ensures.tells _ _ _ _ _ c.loop-made.invariant.run.state c.loop-made.invariant.told);
       ready = c.in_ok-put.ensures.ready;
-      files = c.in-Made.ensures.files ∙ c.loop-made.invariant.files;
-      folder_faults = omega (arith, c.in-Made.ensures.faults, c.loop-made.invariant.folder_faults);
+      files = c.in-Ok.ensures.files ∙ c.loop-made.invariant.files;
+      folder_faults = omega (arith, c.in-Ok.ensures.faults, c.loop-made.invariant.folder_faults);
       faults = omega (arith, c.in_ok-put.ensures.faults, c.loop-made.invariant.faults);
     }
 
@@ -73,7 +73,7 @@ tell-requires-clause-few g c =
     let shelf : Shelf = record { files = g.F.Folder.files c.args.folder.now; name = c.args.modules.now } in
     let few : c.loop-made.made + c.in_ok-count.count ≤ c.args.limit = omega (arith, c.in_ok-count.ensures.within) in
     let run = runs_on c.silent_law.ensures shelf _ _ _ _ _ _ _ c.loop-made.invariant.run c.in_ok-count.count few _ c.in_ok-count.ensures.made in
-    omega (arith, run.counted, c.requires.bound, c.in_ok-count.ensures.within, c.if-made-limit.false, c.in-Made.ensures.counted refl)
+    omega (arith, run.counted, c.requires.bound, c.in_ok-count.ensures.within, c.if-made-limit.false, c.in-Ok.ensures.counted)
 
 -- ---- the ends of a run
 pub returns-then-made-limit-clause-told : goal.returns-then-made-limit-clause-told
@@ -83,34 +83,22 @@ returns-then-made-limit-clause-told g c =
     let run = runs_on c.silent_law.ensures shelf _ _ _ _ _ _ _ c.loop-made.invariant.run c.in_ok-count.count few _ c.in_ok-count.ensures.made in
     told_end _ _ ends.Limit shelf _ _ _ _ _ _ _ (at_limit shelf _ _ _ _ _ _ _ run (omega arith)) (c.in_ok-count.ensures.tells _ _ _ _ _ c.loop-made.invariant.run.state c.loop-made.invariant.told)
 
-pub returns-in-Quiet-clause-told : goal.returns-in-Quiet-clause-told
-returns-in-Quiet-clause-told g c =
+pub returns-in-Err-clause-told : goal.returns-in-Err-clause-told
+returns-in-Err-clause-told g c =
     let shelf : Shelf = record { files = g.F.Folder.files c.args.folder.now; name = c.args.modules.now } in
     let few : c.loop-made.made + c.in_ok-count.count ≤ c.args.limit = omega (arith, c.in_ok-count.ensures.within) in
     let run = runs_on c.silent_law.ensures shelf _ _ _ _ _ _ _ c.loop-made.invariant.run c.in_ok-count.count few _ c.in_ok-count.ensures.made in
-    told_end _ _ ends.Quiet shelf _ _ _ _ _ _ _ (quiet shelf _ _ _ _ _ _ _ run _ _ (c.in-Quiet.ensures.unchanged (λ e. cc)) (omega arith) (c.in-Quiet.ensures.quiet refl) (c.in-Quiet.ensures.no_request refl)) (c.in_ok-count.ensures.tells _ _ _ _ _ c.loop-made.invariant.run.state c.loop-made.invariant.told)
-
-pub returns-in-ReadFault-clause-told : goal.returns-in-ReadFault-clause-told
-returns-in-ReadFault-clause-told g c =
-    let shelf : Shelf = record { files = g.F.Folder.files c.args.folder.now; name = c.args.modules.now } in
-    let few : c.loop-made.made + c.in_ok-count.count ≤ c.args.limit = omega (arith, c.in_ok-count.ensures.within) in
-    let run = runs_on c.silent_law.ensures shelf _ _ _ _ _ _ _ c.loop-made.invariant.run c.in_ok-count.count few _ c.in_ok-count.ensures.made in
-    told_end _ _ ends.ReadFault shelf _ _ _ _ _ _ _ (unread shelf _ _ _ _ _ _ _ run _ _ (c.in-ReadFault.ensures.unchanged (λ e. cc)) (omega arith) (c.in-ReadFault.ensures.asked refl) (c.in-ReadFault.ensures.stops refl)) (c.in_ok-count.ensures.tells _ _ _ _ _ c.loop-made.invariant.run.state c.loop-made.invariant.told)
-
-pub returns-in-NoMemory-clause-told : goal.returns-in-NoMemory-clause-told
-returns-in-NoMemory-clause-told g c =
-    let shelf : Shelf = record { files = g.F.Folder.files c.args.folder.now; name = c.args.modules.now } in
-    let few : c.loop-made.made + c.in_ok-count.count ≤ c.args.limit = omega (arith, c.in_ok-count.ensures.within) in
-    let run = runs_on c.silent_law.ensures shelf _ _ _ _ _ _ _ c.loop-made.invariant.run c.in_ok-count.count few _ c.in_ok-count.ensures.made in
-    told_end _ _ ends.NoMemory shelf _ _ _ _ _ _ _ (exhausted shelf _ _ _ _ _ _ _ run _ _ (c.in-NoMemory.ensures.unchanged (λ e. cc)) (omega arith) (c.in-NoMemory.ensures.no_memory refl) (c.in-NoMemory.ensures.gives_up refl)) (c.in_ok-count.ensures.tells _ _ _ _ _ c.loop-made.invariant.run.state c.loop-made.invariant.told)
+    told_halt _ _ c.in-Err.end shelf _ _ _ _ _ _ _ _ c.in-Err.ensures.halts
+    (halted shelf _ _ _ _ _ _ _ run _ _ c.in-Err.ensures.unchanged (omega arith) c.in-Err.end c.in-Err.ensures.halts c.in-Err.ensures.stops)
+    (c.in_ok-count.ensures.tells _ _ _ _ _ c.loop-made.invariant.run.state c.loop-made.invariant.told)
 
 pub returns-in-Failed-clause-told : goal.returns-in-Failed-clause-told
 returns-in-Failed-clause-told g c =
-    let made = c.in-Made.ensures.made refl in
+    let made = c.in-Ok.ensures.made in
     let shelf : Shelf = record { files = g.F.Folder.files c.args.folder.now; name = c.args.modules.now } in
     let few : c.loop-made.made + c.in_ok-count.count ≤ c.args.limit = omega (arith, c.in_ok-count.ensures.within) in
     let run = runs_on c.silent_law.ensures shelf _ _ _ _ _ _ _ c.loop-made.invariant.run c.in_ok-count.count few _ c.in_ok-count.ensures.made in
-    told_end _ _ ends.WriteFault shelf _ _ _ _ _ _ _ (stopped shelf _ _ _ _ _ _ _ (further shelf _ _ _ _ _ _ _ run _ c.loop-made.invariant.files _ _ made (omega arith) (c.in-Made.ensures.counted refl)))
+    told_end _ _ ends.WriteFault shelf _ _ _ _ _ _ _ (stopped shelf _ _ _ _ _ _ _ (further shelf _ _ _ _ _ _ _ run _ c.loop-made.invariant.files _ _ made (omega arith) c.in-Ok.ensures.counted))
     (c.in_ok-put.ensures.lost c.in-Failed.is _ _ _ _ _ _ c.in_ok-before_step.ensures.value c.in_ok-count.ensures.ready (goes_on shelf _ _ _ _ _ made.0 run.state made.2) (c.in_ok-count.ensures.tells _ _ _ _ _ c.loop-made.invariant.run.state c.loop-made.invariant.told))
 
 pub returns-clause-told : goal.returns-clause-told
@@ -139,11 +127,11 @@ returns-in_err-before_step-clause-given_up g c =
 
 pub returns-in_err-put-clause-given_up : goal.returns-in_err-put-clause-given_up
 returns-in_err-put-clause-given_up g c =
-    let made = c.in-Made.ensures.made refl in
+    let made = c.in-Ok.ensures.made in
     let shelf : Shelf = record { files = g.F.Folder.files c.args.folder.now; name = c.args.modules.now } in
     let few : c.loop-made.made + c.in_ok-count.count ≤ c.args.limit = omega (arith, c.in_ok-count.ensures.within) in
     let run = runs_on c.silent_law.ensures shelf _ _ _ _ _ _ _ c.loop-made.invariant.run c.in_ok-count.count few _ c.in_ok-count.ensures.made in
     let p = err_from_is_err_and c.from_residual-in_err-put.result c.from_residual-in_err-put.ensures.1 in
     rw p.1 (given_up g.T.Teller.part _ _ shelf _ _ _ _ c.loop-made.made _ _ _
     (rw c.in_err-put.ensures.given_up (c.part_law.ensures _ _ c.loop-made.invariant.said (saying c.loop-made.invariant.said (c.loop-made.made + c.in_ok-count.count) made.0) _ c.loop-made.made (λ j below. as_before c.loop-made.invariant.said (c.loop-made.made + c.in_ok-count.count) made.0 j (omega arith)) c.loop-made.invariant.told)) (omega arith)
-    (further shelf _ _ _ _ _ _ _ run _ c.loop-made.invariant.files _ _ made (omega arith) (c.in-Made.ensures.counted refl)))
+    (further shelf _ _ _ _ _ _ _ run _ c.loop-made.invariant.files _ _ made (omega arith) c.in-Ok.ensures.counted))

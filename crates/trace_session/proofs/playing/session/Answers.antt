@@ -5,7 +5,7 @@ use Rattle.wind_outside.specs.Counts.{Rose}
 use Rattle.wind_session.specs.Fetches.{rounds_requests}
 use Rattle.wind_session.specs.Outside.{outside}
 use Rattle.wind_session.specs.Words.{command_state}
-use Rattle.wind_session.proofs.FetchLemmas.{rounds_found}
+use Rattle.wind_session.proofs.ProgramLemmas.{unbooted}
 use Rattle.wind_session.proofs.PlanLemmas.{complete_refused}
 use Rattle.wind_session.proofs.AppendingLemmas.{rose_earlier}
 use Rattle.trace_session.proofs.LeftLemmas.{complete_left, known_left, left_after}
@@ -34,21 +34,9 @@ returns-clause-machine g c =
 -- memory ran out for the board
 pub returns-in-Err-boot-clause-machine : goal.returns-in-Err-boot-clause-machine
 returns-in-Err-boot-clause-machine g c =
-    let session = c.args.command.now.session in
+    let outside_now = outside (g.F.Folder.requests c.args.folder.now) (g.O.Sink.bytes c.args.out.now) (g.O.Sink.pieces c.args.out.now) in
     rw c.refusal-in-Err-boot.ensures
-    (record {
-      plan = _;
-      planned = c.in-Ok.ensures.start;
-      leaves = (
-        c.in-Err-boot.ensures.err,
-        record {
-          bytes = refl;
-          pieces = refl;
-          refusal = tt;
-          fetches = rounds_found session.generate (command_state session) _ _ c.in-Ok.ensures.found c.inputs_of.ensures.unasked;
-        },
-      );
-    })
+    (record { plan = _; planned = c.in-Ok.ensures.start; leaves = (c.in-Err-boot.ensures.err, unbooted _ (command_state c.args.command.now.session) _ outside_now _ c.in-Ok.ensures.found c.inputs_of.ensures.unasked) })
 
 -- what is refused had no plan to start, or a fault came
 pub returns-in-Err-clause-complete : goal.returns-in-Err-clause-complete
@@ -67,7 +55,7 @@ returns-clause-complete g c =
     (command_state c.args.command.now.session) (g.F.Folder.files c.args.folder.now)
     (Rose (g.F.Folder.faults c.args.folder.now) (g.F.Folder.faults c.play_board-outcome.new.folder))
     (Rose (g.O.Sink.faults c.args.out.now) (g.O.Sink.faults c.play_board-outcome.new.out))
-    (λ e. rose_earlier _ _ _ c.inputs_of.ensures.faults c.play_board-outcome.ensures.folder_faults (c.play_board-outcome.ensures.read_fault e))
+    (λ e. rose_earlier _ _ _ c.inputs_of.ensures.faults c.play_board-outcome.ensures.keeps.1 (c.play_board-outcome.ensures.read_fault e))
     c.play_board-outcome.ensures.fault c.play_board-outcome.ensures.left
 
 -- the arguments were a command

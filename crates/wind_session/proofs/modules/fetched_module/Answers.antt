@@ -72,15 +72,15 @@ returns-in-Failed-clause-stops g c =
     let before = g.F.Folder.requests c.args.folder.now in
     let after = g.F.Folder.requests c.fetch.new.self in
     let at = c.deref.ensures ∙ c.in-Ok-module_path.ensures ∙ ap (module_path c.args.modules.now) (c.in-Ok.ensures.cases.0 ∙ c.bytes.ensures.value) in
-    λ e. stops_unread c.args.modules.now c.args.name.now before after (subst IsUtf8 c.bytes.ensures.value c.in-Ok.ensures.cases.1)
+    stops_unread c.args.modules.now c.args.name.now before after (subst IsUtf8 c.bytes.ensures.value c.in-Ok.ensures.cases.1)
     (subst (λ path. GrowsBy before after (path_request path outcomes.Failed ∷ [])) at c.in-Failed.ensures.requested)
 
 -- memory ran out in the fetch
-pub returns-clause-gives_up : goal.returns-clause-gives_up
-returns-clause-gives_up g c =
+pub returns-clause-stops : goal.returns-clause-stops
+returns-clause-stops g c =
     let before = g.F.Folder.requests c.args.folder.now in
     let after = g.F.Folder.requests c.fetch.new.self in
     let at = c.deref.ensures ∙ c.in-Ok-module_path.ensures ∙ ap (module_path c.args.modules.now) (c.in-Ok.ensures.cases.0 ∙ c.bytes.ensures.value) in
-    λ e. stops_after c.args.modules.now (Some c.args.name.now) outcomes.NoMemory before after (λ e. cc)
+    stops_after c.args.modules.now (Some c.args.name.now) outcomes.NoMemory before after (λ e. cc)
     (requested c.args.modules.now c.args.name.now before after outcomes.NoMemory (subst IsUtf8 c.bytes.ensures.value c.in-Ok.ensures.cases.1)
     (subst (λ path. GrowsBy before after (path_request path outcomes.NoMemory ∷ [])) at c.in-NoMemory.ensures.requested))

@@ -7,6 +7,7 @@ use Rattle.wind_session.specs.Outside.{outside}
 use Rattle.wind_session.specs.Words.{command_state}
 use Rattle.wind_session.specs.declared.ending.Status.TheVariants as status
 use Rattle.wind_session.proofs.FetchLemmas.{rounds_found}
+use Rattle.wind_session.proofs.ProgramLemmas.{unbooted}
 use Rattle.wind_session.proofs.FailureLemmas.{fails_after, left_fails, rounds_fail}
 use Rattle.wind_session.proofs.InputLemmas.{left_after}
 use Rattle.wind_session.proofs.PlanLemmas.{complete_refused}
@@ -35,20 +36,9 @@ returns-clause-machine g c =
 -- memory ran out for the board
 pub returns-in-Err-boot-clause-machine : goal.returns-in-Err-boot-clause-machine
 returns-in-Err-boot-clause-machine g c =
+    let outside_now = outside (g.F.Folder.requests c.args.folder.now) (g.O.Sink.bytes c.args.out.now) (g.O.Sink.pieces c.args.out.now) in
     rw c.refused-in-Err-boot.ensures
-    (record {
-      plan = _;
-      planned = c.in-Ok.ensures.start;
-      leaves = (
-        c.in-Err-boot.ensures.err,
-        record {
-          bytes = refl;
-          pieces = refl;
-          refusal = tt;
-          fetches = rounds_found c.args.command.now.generate (command_state c.args.command.now) _ _ c.in-Ok.ensures.found c.inputs_of.ensures.unasked;
-        },
-      );
-    })
+    (record { plan = _; planned = c.in-Ok.ensures.start; leaves = (c.in-Err-boot.ensures.err, unbooted _ (command_state c.args.command.now) _ outside_now _ c.in-Ok.ensures.found c.inputs_of.ensures.unasked) })
 
 -- what is refused had no plan to start, or a fault came
 pub returns-in-Err-clause-complete : goal.returns-in-Err-clause-complete

@@ -1,7 +1,8 @@
 use Rattle.std.proofs.Common.{◌+◌, ◌∙◌, ◌≤◌, subst, sym, arith, refl, ap}
 use Rattle.board_player.specs.MachineState.{State}
 use Rattle.board_player.specs.Extending.{IsRoom}
-use Rattle.wind_session.proofs.Continuing.{resumed, burst_counted, burst_room, burst_on, step_on, cut_on, quiet_on, exhausted_on, unread_on, limit_on}
+use Rattle.wind_session.proofs.Continuing.{resumed, burst_counted, burst_room, burst_on, step_on, cut_on, halted_on, limit_on}
+use Rattle.wind_session.proofs.RunLemmas.{halts_quiet}
 use Rattle.wind_session.proofs.resuming.resume_board.Goals as goal
 
 -- before the first further step
@@ -19,20 +20,20 @@ loop-made-init g c = record {
 -- a burst and a step were made, and what the step wrote was put
 pub loop-made-preserved : goal.loop-made-preserved
 loop-made-preserved g c =
-    let made = c.in-Made.ensures.made refl in
+    let made = c.in-Ok.ensures.made in
     let few : c.loop-made.made + c.burst-made.result ≤ c.args.most = omega (arith, c.burst-made.ensures.within) in
     record {
       run = λ start first ran.
           step_on _ start _ c.args.most _ _ first _
           (burst_on _ start _ c.args.most _ _ first _ (c.loop-made.invariant.run start first ran) c.silent_law.ensures c.burst-made.result few _ c.burst-made.ensures.made)
-          _ c.loop-made.invariant.files _ _ made (omega arith) (c.in-Made.ensures.counted refl) _ _
+          _ c.loop-made.invariant.files _ _ made (omega arith) c.in-Ok.ensures.counted _ _
           (rw c.output.ensures at c.in-Done.ensures.done refl) (rw c.output.ensures at c.in-Done.ensures.pieces);
-      counted = omega (arith, c.in-Made.ensures.counted refl, burst_counted c.silent_law.ensures _ _ c.burst-made.result c.burst-made.ensures.made, c.loop-made.invariant.counted);
+      counted = omega (arith, c.in-Ok.ensures.counted, burst_counted c.silent_law.ensures _ _ c.burst-made.result c.burst-made.ensures.made, c.loop-made.invariant.counted);
       within = omega (arith, few);
       room = λ time line h.
           c.extend_law.ensures.room time line made.0 _ _ (burst_room c.silent_law.ensures time line _ _ c.burst-made.result c.burst-made.ensures.made (c.loop-made.invariant.room time line h)) made.2;
-      files = c.in-Made.ensures.files ∙ c.loop-made.invariant.files;
-      folder_faults = omega (arith, c.in-Made.ensures.faults, c.loop-made.invariant.folder_faults);
+      files = c.in-Ok.ensures.files ∙ c.loop-made.invariant.files;
+      folder_faults = omega (arith, c.in-Ok.ensures.faults, c.loop-made.invariant.folder_faults);
       faults = omega (arith, c.put_some.ensures.never_falls, c.loop-made.invariant.faults);
     }
 
@@ -53,36 +54,32 @@ returns-then-made-most-clause-steps g c = omega (arith, burst_counted c.silent_l
 pub returns-then-made-most-clause-room : goal.returns-then-made-most-clause-room
 returns-then-made-most-clause-room g c = λ time line h. burst_room c.silent_law.ensures time line _ _ c.burst-made.result c.burst-made.ensures.made (c.loop-made.invariant.room time line h)
 
--- ---- no step is left
-pub returns-in-Quiet-clause-ran : goal.returns-in-Quiet-clause-ran
-returns-in-Quiet-clause-ran g c = λ start first ran.
+-- ---- no further step was made
+pub returns-in-Err-clause-ran : goal.returns-in-Err-clause-ran
+returns-in-Err-clause-ran g c = λ start first ran.
     let few : c.loop-made.made + c.burst-made.result ≤ c.args.most = omega (arith, c.burst-made.ensures.within) in
-    quiet_on _ start _ c.args.most _ _ first _ (burst_on _ start _ c.args.most _ _ first _ (c.loop-made.invariant.run start first ran) c.silent_law.ensures c.burst-made.result few _ c.burst-made.ensures.made)
-    _ _ (c.in-Quiet.ensures.unchanged (λ e. cc)) (omega arith) (c.in-Quiet.ensures.quiet refl) (c.in-Quiet.ensures.no_request refl)
+    halted_on _ start _ c.args.most _ _ first _ (burst_on _ start _ c.args.most _ _ first _ (c.loop-made.invariant.run start first ran) c.silent_law.ensures c.burst-made.result few _ c.burst-made.ensures.made)
+    _ _ c.in-Err.ensures.unchanged (omega arith) c.in-Err.end c.in-Err.ensures.halts c.in-Err.ensures.stops
+
+pub returns-in-Err-clause-quiet : goal.returns-in-Err-clause-quiet
+returns-in-Err-clause-quiet g c = λ e. rw c.in-Err.ensures.unchanged (halts_quiet _ c.in-Err.end c.in-Err.ensures.halts e)
+
+pub returns-in-Err-clause-steps : goal.returns-in-Err-clause-steps
+returns-in-Err-clause-steps g c = omega (arith, ap (λ (v : State). v.steps) c.in-Err.ensures.unchanged, burst_counted c.silent_law.ensures _ _ c.burst-made.result c.burst-made.ensures.made, c.loop-made.invariant.counted, c.burst-made.ensures.within)
+
+pub returns-in-Err-clause-room : goal.returns-in-Err-clause-room
+returns-in-Err-clause-room g c = λ time line h.
+    subst (IsRoom time line) (sym c.in-Err.ensures.unchanged) (burst_room c.silent_law.ensures time line _ _ c.burst-made.result c.burst-made.ensures.made (c.loop-made.invariant.room time line h))
 
 -- ---- a put failed, so the last step wrote something
 pub returns-in-Failed-clause-ran : goal.returns-in-Failed-clause-ran
 returns-in-Failed-clause-ran g c = λ start first ran.
     let few : c.loop-made.made + c.burst-made.result ≤ c.args.most = omega (arith, c.burst-made.ensures.within) in
     cut_on _ start _ c.args.most _ _ first _ (burst_on _ start _ c.args.most _ _ first _ (c.loop-made.invariant.run start first ran) c.silent_law.ensures c.burst-made.result few _ c.burst-made.ensures.made)
-    _ c.loop-made.invariant.files _ _ (c.in-Made.ensures.made refl) (omega arith) (c.in-Made.ensures.counted refl) _ _
+    _ c.loop-made.invariant.files _ _ c.in-Ok.ensures.made (omega arith) c.in-Ok.ensures.counted _ _
     (rw c.output.ensures at c.in-Failed.ensures.part refl)
     (λ e. c.in-Failed.ensures.some refl (c.output.ensures ∙ e))
     (rw c.output.ensures at c.in-Failed.ensures.pieces)
-
--- ---- a file could not be read
-pub returns-in-ReadFault-clause-ran : goal.returns-in-ReadFault-clause-ran
-returns-in-ReadFault-clause-ran g c = λ start first ran.
-    let few : c.loop-made.made + c.burst-made.result ≤ c.args.most = omega (arith, c.burst-made.ensures.within) in
-    unread_on _ start _ c.args.most _ _ first _ (burst_on _ start _ c.args.most _ _ first _ (c.loop-made.invariant.run start first ran) c.silent_law.ensures c.burst-made.result few _ c.burst-made.ensures.made)
-    _ _ (c.in-ReadFault.ensures.unchanged (λ e. cc)) (omega arith) (c.in-ReadFault.ensures.asked refl) (c.in-ReadFault.ensures.stops refl)
-
--- ---- memory ran out
-pub returns-in-NoMemory-clause-ran : goal.returns-in-NoMemory-clause-ran
-returns-in-NoMemory-clause-ran g c = λ start first ran.
-    let few : c.loop-made.made + c.burst-made.result ≤ c.args.most = omega (arith, c.burst-made.ensures.within) in
-    exhausted_on _ start _ c.args.most _ _ first _ (burst_on _ start _ c.args.most _ _ first _ (c.loop-made.invariant.run start first ran) c.silent_law.ensures c.burst-made.result few _ c.burst-made.ensures.made)
-    _ _ (c.in-NoMemory.ensures.unchanged (λ e. cc)) (omega arith) (c.in-NoMemory.ensures.no_memory refl) (c.in-NoMemory.ensures.gives_up refl)
 
 -- ---- the loop ends
 pub returns-clause-ran : goal.returns-clause-ran
@@ -94,29 +91,11 @@ returns-clause-steps g c = omega (arith, c.loop-made.invariant.counted, c.loop-m
 pub returns-clause-room : goal.returns-clause-room
 returns-clause-room g c = c.loop-made.invariant.room
 
--- ---- steps and room at each other end
-pub returns-in-Quiet-clause-steps : goal.returns-in-Quiet-clause-steps
-returns-in-Quiet-clause-steps g c = omega (arith, ap (λ (v : State). v.steps) (c.in-Quiet.ensures.unchanged (λ e. cc)), burst_counted c.silent_law.ensures _ _ c.burst-made.result c.burst-made.ensures.made, c.loop-made.invariant.counted, c.burst-made.ensures.within)
-
-pub returns-in-ReadFault-clause-steps : goal.returns-in-ReadFault-clause-steps
-returns-in-ReadFault-clause-steps g c = omega (arith, ap (λ (v : State). v.steps) (c.in-ReadFault.ensures.unchanged (λ e. cc)), burst_counted c.silent_law.ensures _ _ c.burst-made.result c.burst-made.ensures.made, c.loop-made.invariant.counted, c.burst-made.ensures.within)
-
-pub returns-in-NoMemory-clause-steps : goal.returns-in-NoMemory-clause-steps
-returns-in-NoMemory-clause-steps g c = omega (arith, ap (λ (v : State). v.steps) (c.in-NoMemory.ensures.unchanged (λ e. cc)), burst_counted c.silent_law.ensures _ _ c.burst-made.result c.burst-made.ensures.made, c.loop-made.invariant.counted, c.burst-made.ensures.within)
-
+-- ---- steps and room after a put that failed
 pub returns-in-Failed-clause-steps : goal.returns-in-Failed-clause-steps
-returns-in-Failed-clause-steps g c = omega (arith, c.in-Made.ensures.counted refl, burst_counted c.silent_law.ensures _ _ c.burst-made.result c.burst-made.ensures.made, c.loop-made.invariant.counted, c.burst-made.ensures.within, c.if-made-most.false)
-
-pub returns-in-Quiet-clause-room : goal.returns-in-Quiet-clause-room
-returns-in-Quiet-clause-room g c = λ time line h. subst (λ v. IsRoom time line v) (sym (c.in-Quiet.ensures.unchanged (λ e. cc))) (burst_room c.silent_law.ensures time line _ _ c.burst-made.result c.burst-made.ensures.made (c.loop-made.invariant.room time line h))
-
-pub returns-in-ReadFault-clause-room : goal.returns-in-ReadFault-clause-room
-returns-in-ReadFault-clause-room g c = λ time line h. subst (λ v. IsRoom time line v) (sym (c.in-ReadFault.ensures.unchanged (λ e. cc))) (burst_room c.silent_law.ensures time line _ _ c.burst-made.result c.burst-made.ensures.made (c.loop-made.invariant.room time line h))
-
-pub returns-in-NoMemory-clause-room : goal.returns-in-NoMemory-clause-room
-returns-in-NoMemory-clause-room g c = λ time line h. subst (λ v. IsRoom time line v) (sym (c.in-NoMemory.ensures.unchanged (λ e. cc))) (burst_room c.silent_law.ensures time line _ _ c.burst-made.result c.burst-made.ensures.made (c.loop-made.invariant.room time line h))
+returns-in-Failed-clause-steps g c = omega (arith, c.in-Ok.ensures.counted, burst_counted c.silent_law.ensures _ _ c.burst-made.result c.burst-made.ensures.made, c.loop-made.invariant.counted, c.burst-made.ensures.within, c.if-made-most.false)
 
 pub returns-in-Failed-clause-room : goal.returns-in-Failed-clause-room
 returns-in-Failed-clause-room g c = λ time line h.
-    let made = c.in-Made.ensures.made refl in
+    let made = c.in-Ok.ensures.made in
     c.extend_law.ensures.room time line made.0 _ _ (burst_room c.silent_law.ensures time line _ _ c.burst-made.result c.burst-made.ensures.made (c.loop-made.invariant.room time line h)) made.2

@@ -1,7 +1,7 @@
 use Rattle.std.proofs.Common.{◌+◌, ◌∙◌, ap, arith, refl, length}
 use Rattle.wind_session.specs.Modules.{Shelf}
 use Rattle.wind_session.proofs.Saying.{saying}
-use Rattle.wind_session.proofs.RunLemmas.{nothing_said, begun, further, bytes_on, quiet, exhausted, unread, at_limit}
+use Rattle.wind_session.proofs.RunLemmas.{nothing_said, begun, further, bytes_on, halted, not_cut, at_limit}
 use Rattle.wind_session.proofs.Bursts.{runs_on, as_written}
 use Rattle.wind_session.proofs.run.count_board.Goals as goal
 
@@ -19,16 +19,16 @@ loop-made-init g c = record {
 -- a burst and a step were made, and what the step wrote was counted
 pub loop-made-preserved : goal.loop-made-preserved
 loop-made-preserved g c =
-    let made = c.in-Made.ensures.made refl in
+    let made = c.in-Ok.ensures.made in
     let shelf : Shelf = record { files = g.F.Folder.files c.args.folder.now; name = c.args.modules.now } in
     let run = runs_on c.silent_law.ensures shelf _ _ _ _ _ _ _ c.loop-made.invariant.run c.burst-made.result (omega (arith, c.burst-made.ensures.within)) _ c.burst-made.ensures.made in
     record {
       said = saying c.loop-made.invariant.said (c.loop-made.made + c.burst-made.result) made.0;
-      run = further shelf _ _ _ _ _ _ _ run _ c.loop-made.invariant.files _ _ made (omega arith) (c.in-Made.ensures.counted refl);
+      run = further shelf _ _ _ _ _ _ _ run _ c.loop-made.invariant.files _ _ made (omega arith) c.in-Ok.ensures.counted;
       bytes = ap (λ written. c.loop-made.bytes + length written) c.output.ensures ∙ bytes_on shelf _ _ _ _ _ _ _ run _ c.loop-made.invariant.files _ _ made c.loop-made.bytes (c.loop-made.invariant.bytes ∙ ap length (as_written c.silent_law.ensures shelf _ _ _ _ _ _ _ c.loop-made.invariant.run _ _ c.burst-made.ensures.made));
       small = omega (arith, c.loop-made.invariant.small);
-      files = c.in-Made.ensures.files ∙ c.loop-made.invariant.files;
-      folder_faults = omega (arith, c.in-Made.ensures.faults, c.loop-made.invariant.folder_faults);
+      files = c.in-Ok.ensures.files ∙ c.loop-made.invariant.files;
+      folder_faults = omega (arith, c.in-Ok.ensures.faults, c.loop-made.invariant.folder_faults);
     }
 
 -- after a burst the steps are still below the bound
@@ -51,41 +51,15 @@ returns-then-made-limit-clause-counted g c =
       all_put = λ e. cc;
     }
 
--- no step is left
-pub returns-in-Quiet-clause-counted : goal.returns-in-Quiet-clause-counted
-returns-in-Quiet-clause-counted g c =
+-- no further step was made
+pub returns-in-Err-clause-counted : goal.returns-in-Err-clause-counted
+returns-in-Err-clause-counted g c =
     let shelf : Shelf = record { files = g.F.Folder.files c.args.folder.now; name = c.args.modules.now } in
     let run = runs_on c.silent_law.ensures shelf _ _ _ _ _ _ _ c.loop-made.invariant.run c.burst-made.result (omega (arith, c.burst-made.ensures.within)) _ c.burst-made.ensures.made in
     record {
       said = c.loop-made.invariant.said;
       k = c.loop-made.made + c.burst-made.result;
-      made = quiet shelf _ _ _ _ _ _ _ run _ _ (c.in-Quiet.ensures.unchanged (λ e. cc)) (omega arith) (c.in-Quiet.ensures.quiet refl) (c.in-Quiet.ensures.no_request refl);
+      made = halted shelf _ _ _ _ _ _ _ run _ _ c.in-Err.ensures.unchanged (omega arith) c.in-Err.end c.in-Err.ensures.halts c.in-Err.ensures.stops;
       bytes_are = c.loop-made.invariant.bytes ∙ ap length (as_written c.silent_law.ensures shelf _ _ _ _ _ _ _ c.loop-made.invariant.run _ _ c.burst-made.ensures.made);
-      all_put = λ e. cc;
-    }
-
--- a file could not be read
-pub returns-in-ReadFault-clause-counted : goal.returns-in-ReadFault-clause-counted
-returns-in-ReadFault-clause-counted g c =
-    let shelf : Shelf = record { files = g.F.Folder.files c.args.folder.now; name = c.args.modules.now } in
-    let run = runs_on c.silent_law.ensures shelf _ _ _ _ _ _ _ c.loop-made.invariant.run c.burst-made.result (omega (arith, c.burst-made.ensures.within)) _ c.burst-made.ensures.made in
-    record {
-      said = c.loop-made.invariant.said;
-      k = c.loop-made.made + c.burst-made.result;
-      made = unread shelf _ _ _ _ _ _ _ run _ _ (c.in-ReadFault.ensures.unchanged (λ e. cc)) (omega arith) (c.in-ReadFault.ensures.asked refl) (c.in-ReadFault.ensures.stops refl);
-      bytes_are = c.loop-made.invariant.bytes ∙ ap length (as_written c.silent_law.ensures shelf _ _ _ _ _ _ _ c.loop-made.invariant.run _ _ c.burst-made.ensures.made);
-      all_put = λ e. cc;
-    }
-
--- memory ran out
-pub returns-in-NoMemory-clause-counted : goal.returns-in-NoMemory-clause-counted
-returns-in-NoMemory-clause-counted g c =
-    let shelf : Shelf = record { files = g.F.Folder.files c.args.folder.now; name = c.args.modules.now } in
-    let run = runs_on c.silent_law.ensures shelf _ _ _ _ _ _ _ c.loop-made.invariant.run c.burst-made.result (omega (arith, c.burst-made.ensures.within)) _ c.burst-made.ensures.made in
-    record {
-      said = c.loop-made.invariant.said;
-      k = c.loop-made.made + c.burst-made.result;
-      made = exhausted shelf _ _ _ _ _ _ _ run _ _ (c.in-NoMemory.ensures.unchanged (λ e. cc)) (omega arith) (c.in-NoMemory.ensures.no_memory refl) (c.in-NoMemory.ensures.gives_up refl);
-      bytes_are = c.loop-made.invariant.bytes ∙ ap length (as_written c.silent_law.ensures shelf _ _ _ _ _ _ _ c.loop-made.invariant.run _ _ c.burst-made.ensures.made);
-      all_put = λ e. cc;
+      all_put = not_cut _ c.in-Err.end c.in-Err.ensures.halts;
     }
