@@ -62,6 +62,17 @@ pub after_same : {A : Type 0} (written : Result A Unsaved) (s after t : Status) 
 after_same (Ok a) s after t is e written memory = sym is.ok ∙ e
 after_same (Err failure) s after t is e written memory = unless_same failure s t (sym is.err ∙ e) written memory
 
+-- an end or a fault was there before the record was written
+module _ {A : Type 0} (written : Result A Unsaved) (s after : Status) (is : IsAfter written s after) where
+  pub ended_same : after ≡ status.Ended → s ≡ status.Ended
+  ended_same e = after_same written s after status.Ended is e (λ x. cc) (λ x. cc)
+
+  pub read_same : after ≡ status.ReadFault → s ≡ status.ReadFault
+  read_same e = after_same written s after status.ReadFault is e (λ x. cc) (λ x. cc)
+
+  pub put_same : after ≡ status.WriteFault → s ≡ status.WriteFault
+  put_same e = after_same written s after status.WriteFault is e (λ x. cc) (λ x. cc)
+
 -- ---- no session that was played has the status of invalid arguments
 pub never_usage : (end : RunEnd) (s : Status) → IsStatusOf end s → s ≢ status.Usage
 never_usage end s h e = subst (λ (t : Status). IsStatusOf end t) e h

@@ -14,3 +14,9 @@ returns-in-State-clause-runs g c = runs_none _ _ _ _ c.requires.going c.requires
 
 pub returns-in-Save-clause-runs : goal.returns-in-Save-clause-runs
 returns-in-Save-clause-runs g c = runs_none _ _ _ _ c.requires.going c.requires.sound (search rules)
+
+pub returns-then-is_ok-clause-runs : goal.returns-then-is_ok-clause-runs
+returns-then-is_ok-clause-runs g c = runs_none _ _ _ _ c.requires.going c.requires.sound (search rules)
+
+pub returns-else-is_ok-clause-runs : goal.returns-else-is_ok-clause-runs
+returns-else-is_ok-clause-runs g c = runs_none _ _ _ _ c.requires.going c.requires.sound (search rules)

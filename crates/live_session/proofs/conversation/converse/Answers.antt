@@ -10,15 +10,22 @@ use Rattle.live_session.proofs.OtherFiles.{writes_both}
 use Rattle.live_session.proofs.Typing.{typed_at, typed_more, typed_quit}
 use Rattle.live_session.proofs.conversation.converse.Goals as goal
 
--- the part asked for the end
-pub returns-then-eq-clause-runs : goal.returns-then-eq-clause-runs
-returns-then-eq-clause-runs g c =
+-- the last line had no end
+pub returns-in-Err-Ended-clause-runs : goal.returns-in-Err-Ended-clause-runs
+returns-in-Err-Ended-clause-runs g c =
     let going : IsGoing c.loop.end = search rules in
-    rw c.closing_of-then-eq.ensures
+    rw c.closing_of-in-Err-Ended.ensures
+    (runs_on c.loop.end _ _ _ _ _ _ _ _ _ going c.loop.invariant.runs (stays_same _ c.loop.invariant.runs.sound) c.run-last.ensures.runs)
+
+-- the part asked for the end
+pub returns-then-eq-2-clause-runs : goal.returns-then-eq-2-clause-runs
+returns-then-eq-2-clause-runs g c =
+    let going : IsGoing c.loop.end = search rules in
+    rw c.closing_of-then-eq-2.ensures
     (runs_on c.loop.end _ _ _ _ _ _ _ _ _ going c.loop.invariant.runs c.take_part-then.ensures.sent.stays c.act-end.ensures.runs)
 
-pub returns-then-eq-clause-typed : goal.returns-then-eq-clause-typed
-returns-then-eq-clause-typed g c =
+pub returns-then-eq-2-clause-typed : goal.returns-then-eq-2-clause-typed
+returns-then-eq-2-clause-typed g c =
     let live = live_by (λ d. (goal.Device-dyn g (d.vtable, d.value)).kind_of d.value) (λ d. (goal.Device-dyn g (d.vtable, d.value)).words_of d.value) in
     let old = g.I.Input.left c.args.input.now in
     let mid = g.I.Input.left c.loop.input in
@@ -26,7 +33,7 @@ returns-then-eq-clause-typed g c =
     let part = c.deref.result.now in
     let heard = subst (λ (b : List ℕ). Takes mid new b × IsPart b × IsLongest b new) (sym c.deref.ensures.value) c.in-Ok.ensures.part in
     let quits : c.take_part-then.result ≡ thens.Quit = search rules in
-    rw c.closing_of-then-eq.ensures
+    rw c.closing_of-then-eq-2.ensures
     (subst (λ (b : List ℕ). IsTyped (status_of c.act-end.result) old new b) (sym c.act-end.ensures.console)
     (typed_quit old mid new c.loop.place c.loop.counter part (live c.loop.live) (live c.take_part-then.new.live) c.loop.invariant.typing heard.0 heard.1 heard.2 c.take_part-then.ensures.sent.sent
     (status_of c.act-end.result) (c.take_part-then.ensures.quits quits)))

@@ -1,15 +1,19 @@
-use Rattle.std.proofs.Common.{◌≡◌, ◌≢◌, ◌∙◌, [], Option, arith, eqb-true, inr, length, rules, subst, sym}
+use Rattle.std.proofs.Common.{◌≡◌, ◌≢◌, ◌∙◌, ℕ, List, [], ◌∷◌, Option, arith, eqb, eqb-true, false, inr, length, rules, subst, sym}
 use Rattle.std.proofs.lemmas.List.{nil_from_length}
 use Rattle.wind_outside.specs.Files.{Files}
 use Rattle.live_session.specs.Around.{around}
 use Rattle.wind_session.proofs.AppendingLemmas.{rose_earlier}
 use Rattle.live_session.specs.Saving.{WritesOnly}
 use Rattle.live_session.specs.Words.{command_state}
-use Rattle.live_session.specs.declared.status.Status.TheVariants as status
 use Rattle.live_session.proofs.OtherFiles.{writes_both, writes_record}
-use Rattle.live_session.proofs.Outcomes.{IsAfter, after_failed, after_recorded, after_same, after_status, after_typed, ended_going, never_usage}
+use Rattle.live_session.proofs.Outcomes.{IsAfter, after_failed, after_recorded, after_status, after_typed, ended_going, ended_same, never_usage, put_same, read_same}
 use Rattle.live_session.proofs.Whole.{plays}
 use Rattle.live_session.proofs.playing.session.Goals as goal
+
+-- a name that has bytes isn't empty
+named_by : (name : List ℕ) → eqb (length name) 0 ≡ false → name ≢ []
+named_by [] e = absurd (cc)
+named_by (b ∷ bs) e = λ same. cc
 
 -- ---- no record is asked for
 pub returns-then-is_empty-clause-leaves : goal.returns-then-is_empty-clause-leaves
@@ -39,7 +43,7 @@ returns-clause-leaves g c =
     let closing = c.converse-closing in
     let writing = c.write_record-written in
     let folder = c.args.target.command.now.record.now in
-    let named : folder ≢ [] = search rules in
+    let named : folder ≢ [] = named_by folder (sym c.is_empty.ensures ∙ c.if-is_empty.false) in
     let after : IsAfter writing.result closing.result.status c.status_after.result = record { ok = c.status_after.ensures.ok; err = c.status_after.ensures.err } in
     inr (plays c.writing_law.ensures.written c.status_after.result (command_state c.args.target.command.now) closing.result.end _ _
     (around g.F.Folder g.O.Sink c.args.folder.now c.args.out.now) (around g.F.Folder g.O.Sink closing.new.folder closing.new.out)
@@ -54,7 +58,7 @@ returns-clause-leaves g c =
           (writes_record _ _ _ named writing.ensures.others);
       saved = λ e some. (
         ended_going closing.result.end closing.result.status closing.ensures.status_is.0
-            (after_same writing.result closing.result.status c.status_after.result status.Ended after e (λ x. cc) (λ x. cc)),
+            (ended_same writing.result closing.result.status c.status_after.result after e),
         after_recorded writing.result closing.result.status c.status_after.result _ after writing.ensures.ok e,
       );
       unrecorded = λ e. (
@@ -72,3 +76,16 @@ returns-clause-known g c =
     let after : IsAfter writing.result closing.result.status c.status_after.result = record { ok = c.status_after.ensures.ok; err = c.status_after.ensures.err } in
     never_usage closing.result.end c.status_after.result
     (after_status writing.result closing.result.status c.status_after.result closing.result.end after closing.ensures.status_is.0)
+
+pub returns-clause-read_fault : goal.returns-clause-read_fault
+returns-clause-read_fault g c = λ e.
+    let after : IsAfter c.write_record-written.result c.converse-closing.result.status c.status_after.result = record { ok = c.status_after.ensures.ok; err = c.status_after.ensures.err } in
+    c.converse-closing.ensures.read_fault (read_same c.write_record-written.result c.converse-closing.result.status c.status_after.result after e)
+
+pub returns-clause-fault : goal.returns-clause-fault
+returns-clause-fault g c = λ e.
+    let after : IsAfter c.write_record-written.result c.converse-closing.result.status c.status_after.result = record { ok = c.status_after.ensures.ok; err = c.status_after.ensures.err } in
+    c.converse-closing.ensures.fault (put_same c.write_record-written.result c.converse-closing.result.status c.status_after.result after e)
+
+pub returns-clause-keeps : goal.returns-clause-keeps
+returns-clause-keeps g c = c.converse-closing.ensures.runs.keeps
