@@ -1,5 +1,5 @@
 -- What a folder and a sink keep.
-use Rattle.std.proofs.Common.{◌≡◌, ◌≤◌, ◌∙◌, refl, arith}
+use Rattle.std.proofs.Common.{◌∙◌, refl, arith}
 use Rattle.live_session.specs.Around.{Around, KeepsFiles}
 
 pub keeps_same : (now : Around) → KeepsFiles now now
