@@ -53,6 +53,7 @@ fn put_refusal(task: &mut Task, errno: Errno)
 }
 
 // Makes a change of the task.
+#[inline(always)]
 fn put_change(task: &mut Task, change: Change)
     ensures { task.new ≡ with_change change task.old }
 {
@@ -73,6 +74,7 @@ fn put_change(task: &mut Task, change: Change)
 
 impl Kern {
     // Makes a change of the task that leaves it where it is in every queue.
+    #[inline(always)]
     fn put(&mut self, who: Ident, change: Change)
         requires { Lives self.old who }
         ensures { self.new ≡ change_task self.old who (with_change change) }
