@@ -21,7 +21,7 @@ pub use ending::{Ending, Stand, Status, Which};
 pub use laws::{growing_law, words_law};
 pub use modules::step;
 pub use playing::{Inputs, inputs_of, play, status_of};
-pub use program::{opening_slots, play_program};
+pub use program::play_program;
 pub use report::{put_pieces, tell, tell_no_memory, tell_usage};
 pub use resuming::resume_board;
 pub use run::{RunEnd, Tally, count_board, run_board};
