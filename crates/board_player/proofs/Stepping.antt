@@ -36,7 +36,7 @@ by_instruction shell w who r b ex =
     ∙ ap (λ o. word_part o shell w who) ex.there
     ∙ ap (λ o. executed o shell w who) ex.done
 
--- the gate at an address is the same in the world of the turn
+-- the gate at an address is the same in the world of the step
 turned_gate : (s : State) (who at : ℕ) (v : WorldState) → v ≡ at_step_start s.world who → gate_at (board_rules v.board).gates_start at ≡ gate_at (board_rules s.world.board).gates_start at
 turned_gate s who at v said_no = ap (λ (u : WorldState). gate_at (board_rules u.board).gates_start at) said_no
 

@@ -181,8 +181,8 @@ module _ {board : BoardKind} (k : KernState) (o : Objects) (is : IsKern k) (kept
       → KeepsObjects board (plain.take_found s who id n q).kern (other_semaphores o (plain.take_found s who id n q).semaphores)) [
         | None ↦ λ e semaphores live. kept
         | Some v ↦ λ e.
-            elim (eqb v.count 0) as (λ b. eqb v.count 0 ≡ b → KeepsSemaphores (cond b (plain.awaited s who id n v) (plain.written s id (plain.emptied v))) → WaitsLiveIn (is_live_beside o) (cond b (plain.awaited s who id n v) (plain.written s id (plain.emptied v)))
-            → KeepsObjects board (cond b (plain.awaited s who id n v) (plain.written s id (plain.emptied v))).kern (other_semaphores o (cond b (plain.awaited s who id n v) (plain.written s id (plain.emptied v))).semaphores)) [
+            elim (eqb v.count 0) as (λ b. eqb v.count 0 ≡ b → KeepsSemaphores (cond b (plain.awaited s who id n v) (plain.written s id (plain.counted_down v))) → WaitsLiveIn (is_live_beside o) (cond b (plain.awaited s who id n v) (plain.written s id (plain.counted_down v)))
+            → KeepsObjects board (cond b (plain.awaited s who id n v) (plain.written s id (plain.counted_down v))).kern (other_semaphores o (cond b (plain.awaited s who id n v) (plain.written s id (plain.counted_down v))).semaphores)) [
               | true ↦ λ b semaphores live.
                   let may = may_pend s id v (sem_place id) kept.waits.semaphores e (eqb-true v.count 0 b) (same_itself (sem_place id)) in
                   let there = or_left (is_some (object_of o.semaphores id)) (is_some (object_of o.mutexes.rows id) || (is_some (object_of o.queues.queues id) || false)) (ap is_some e) in
@@ -192,7 +192,7 @@ module _ {board : BoardKind} (k : KernState) (o : Objects) (is : IsKern k) (kept
                     (other, may.made),
                     λ side. (refl, found_below o.semaphores k.next_id id v kept.waits.semaphores.ids e, semaphore_no_queue id (ap is_some e)),
                   )
-              | false ↦ λ b semaphores live. by_others k (with_object o.semaphores id (plain.emptied v)) kept semaphores live (stays_write id (plain.emptied v))
+              | false ↦ λ b semaphores live. by_others k (with_object o.semaphores id (plain.counted_down v)) kept semaphores live (stays_write id (plain.counted_down v))
             ] refl
       ] refl (keeps.taking who id n) (lives.taking who id n)
 
@@ -202,7 +202,7 @@ module _ {board : BoardKind} (k : KernState) (o : Objects) (is : IsKern k) (kept
         | None ↦ λ semaphores live. kept
         | Some v ↦
             elim (plain.next_of s id) as (λ t. KeepsSemaphores (plain.handed s id v t) → WaitsLiveIn (is_live_beside o) (plain.handed s id v t) → KeepsObjects board (plain.handed s id v t).kern (other_semaphores o (plain.handed s id v t).semaphores)) [
-              | None ↦ λ semaphores live. by_others k (with_object o.semaphores id (plain.filled v)) kept semaphores live (stays_write id (plain.filled v))
+              | None ↦ λ semaphores live. by_others k (with_object o.semaphores id (plain.counted_up v)) kept semaphores live (stays_write id (plain.counted_up v))
               | Some t ↦ λ semaphores live. objects-move k o is kept (EndWait t.id 0 None) (tt, tt, tt, tt)
             ]
       ] (keeps.giving id) (lives.giving id)

@@ -103,9 +103,9 @@ module _ (k : KernState) (o : Objects) where
   plain_taken : (who id m : ℕ) (v : Option Semaphore) → NoneComes o (record o { semaphores = (plain.take_found (sems k o) who id m v).semaphores })
   plain_taken who id m None = none_comes o
   plain_taken who id m (Some v) =
-      elim (eqb v.count 0) as (λ b. NoneComes o (record o { semaphores = (cond b (plain.awaited (sems k o) who id m v) (plain.written (sems k o) id (plain.emptied v))).semaphores })) [
+      elim (eqb v.count 0) as (λ b. NoneComes o (record o { semaphores = (cond b (plain.awaited (sems k o) who id m v) (plain.written (sems k o) id (plain.counted_down v))).semaphores })) [
         | true ↦ none_comes o
-        | false ↦ semaphore_written o id (plain.emptied v)
+        | false ↦ semaphore_written o id (plain.counted_down v)
       ]
 
   taken_stays : (who id m : ℕ) (v : Mutex) (owner : Option ℕ) → NoneComes o (record o { mutexes = live_in (mutex.taken (mutexes k o) who id m v owner) })
@@ -128,7 +128,7 @@ module _ (k : KernState) (o : Objects) where
 
   -- ---- semGive
   plain_handed : (id : ℕ) (v : Semaphore) (t : Option TaskRecord) → NoneComes o (record o { semaphores = (plain.handed (sems k o) id v t).semaphores })
-  plain_handed id v None = semaphore_written o id (plain.filled v)
+  plain_handed id v None = semaphore_written o id (plain.counted_up v)
   plain_handed id v (Some t) = none_comes o
 
   plain_given : (id : ℕ) (v : Option Semaphore) → NoneComes o (record o { semaphores = (plain.give_found (sems k o) id v).semaphores })

@@ -136,7 +136,7 @@ module _ (k : KernState) (o : Objects) (n : ℕ) (is : IsKern k) (within : Count
   plain_take_found : (who id m : ℕ) (v : Option Semaphore) → plain.take_refused m v ≡ None → GoesTo (plain.take_found (sems k o) who id m v).kern
   plain_take_found who id m None fine = stays
   plain_take_found who id m (Some v) fine =
-      elim (eqb v.count 0) as (λ b. cond (b && eqb m 0) (Some errors.ObjUnavailable) None ≡ None → GoesTo (cond b (plain.awaited (sems k o) who id m v) (plain.written (sems k o) id (plain.emptied v))).kern) [
+      elim (eqb v.count 0) as (λ b. cond (b && eqb m 0) (Some errors.ObjUnavailable) None ≡ None → GoesTo (cond b (plain.awaited (sems k o) who id m v) (plain.written (sems k o) id (plain.counted_down v))).kern) [
         | true ↦ λ q. within_call (plain.awaited (sems k o) who id m v).kern 1 (omega arith) (goes-move k n is within (Pend who (sem_place id) (not (is_priority v.options)) m) (above m errors.ObjUnavailable q))
         | false ↦ λ q. stays
       ] fine

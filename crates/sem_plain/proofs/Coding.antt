@@ -11,7 +11,7 @@ use Rattle.wind_core.proofs.Waking.{woken_first}
 use Rattle.sem_plain.specs.declared.semaphore.Semaphore.{Semaphore}
 use Rattle.wind_core.specs.declared.took.Took.TheVariants.{Taken, Pended}
 use Rattle.sem_plain.specs.State.{SemState, both}
-use Rattle.sem_plain.specs.Calls.{create, live, written, emptied, awaited, take_refused, take_refusal, took_of, took, take_found, take}
+use Rattle.sem_plain.specs.Calls.{create, live, written, counted_down, awaited, take_refused, take_refusal, took_of, took, take_found, take}
 use Rattle.sem_plain.proofs.Keeping.{below_create}
 
 -- the first waiting task is live
@@ -28,7 +28,7 @@ pended_take s who id number n v k same e zero some waits =
       ap (take_refused n) there ∙ ap (λ b. cond (b && eqb n 0) (Some errors.ObjUnavailable) None) none ∙ ap (λ b. cond b (Some errors.ObjUnavailable) None) (ne_eqb n 0 some),
       sym (ap took_of there ∙ ap (λ b. cond b Pended Taken) none),
       waits ∙ ap (λ i. awaited s who i n v) same
-          ∙ sym (ap (take_found s who number n) there ∙ ap (λ b. cond b (awaited s who number n v) (written s number (emptied v))) none),
+          ∙ sym (ap (take_found s who number n) there ∙ ap (λ b. cond b (awaited s who number n v) (written s number (counted_down v))) none),
     )
 
 -- after a semaphore is made, the ids are put back, and all are below the next

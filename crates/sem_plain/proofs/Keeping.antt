@@ -20,7 +20,7 @@ use Rattle.wind_core.specs.Moves.{pend, end_wait, wake_all}
 use Rattle.wind_core.proofs.Passes.{waits_before-order}
 use Rattle.sem_plain.specs.declared.semaphore.Semaphore.{Semaphore}
 use Rattle.sem_plain.specs.State.{SemState, both, sem_place, may_hold}
-use Rattle.sem_plain.specs.Calls.{live, written, new_semaphore, create, emptied, awaited, take_found, take, filled_count, filled, next_of, handed, give_found, give}
+use Rattle.sem_plain.specs.Calls.{live, written, new_semaphore, create, counted_down, awaited, take_found, take, count_after_give, counted_up, next_of, handed, give_found, give}
 use Rattle.sem_plain.specs.Kept.{IsCount, IsForEmpty, IsForMade, KeepsSemaphores, BeginsOnly}
 use Rattle.sem_plain.specs.Laws.{nowhere, MayBegin, BesideLaw, CallsLaw}
 use Rattle.sem_plain.proofs.Beginning.{all_old}
@@ -93,15 +93,15 @@ write_keeps s id y kept count none = record {
 }
 
 -- ---- counts
-emptied_count : (kind : SemKind) (n : ℕ) → may_hold kind n ≡ true → may_hold kind (n - 1) ≡ true
-emptied_count kinds.Binary n h = le-leb (n - 1) 1 (omega (arith, leb-true n 1 h))
-emptied_count kinds.Counting n h = refl
-emptied_count kinds.Mutex n h = absurd (cc)
+count_down_may : (kind : SemKind) (n : ℕ) → may_hold kind n ≡ true → may_hold kind (n - 1) ≡ true
+count_down_may kinds.Binary n h = le-leb (n - 1) 1 (omega (arith, leb-true n 1 h))
+count_down_may kinds.Counting n h = refl
+count_down_may kinds.Mutex n h = absurd (cc)
 
-filled_may : (kind : SemKind) (n : ℕ) → may_hold kind n ≡ true → may_hold kind (filled_count kind n) ≡ true
-filled_may kinds.Binary n h = refl
-filled_may kinds.Counting n h = refl
-filled_may kinds.Mutex n h = absurd (cc)
+count_up_may : (kind : SemKind) (n : ℕ) → may_hold kind n ≡ true → may_hold kind (count_after_give kind n) ≡ true
+count_up_may kinds.Binary n h = refl
+count_up_may kinds.Counting n h = refl
+count_up_may kinds.Mutex n h = absurd (cc)
 
 -- ---- the calls
 -- no task waits for a new one
@@ -143,12 +143,12 @@ take_keeps s who id n kept =
     elim (live s id) as (λ o. live s id ≡ o → KeepsSemaphores (take_found s who id n o)) [
       | None ↦ λ e. kept
       | Some v ↦ λ e.
-          elim (eqb v.count 0) as (λ b. eqb v.count 0 ≡ b → KeepsSemaphores (cond b (awaited s who id n v) (written s id (emptied v)))) [
+          elim (eqb v.count 0) as (λ b. eqb v.count 0 ≡ b → KeepsSemaphores (cond b (awaited s who id n v) (written s id (counted_down v)))) [
             | true ↦ λ b.
                 beside s (same_place (sem_place id)) (pend s.kern who (sem_place id) (not (is_priority v.options)) n) kept
                 (begins-pend s.kern who (sem_place id) (not (is_priority v.options)) n) (λ p here. may_pend s id v p kept e (eqb-true v.count 0 b) here)
             | false ↦ λ b.
-                write_keeps s id (emptied v) kept (emptied_count v.kind v.count (found_has IsCount s.semaphores id v kept.counts e))
+                write_keeps s id (counted_down v) kept (count_down_may v.kind v.count (found_has IsCount s.semaphores id v kept.counts e))
                 (λ i d within. nobody_waits s.semaphores id v (get_or s.kern.tasks i d).wait e (eqb-false v.count 0 b) (kept.empty i d within))
           ] refl
     ] refl
@@ -160,7 +160,7 @@ give_keeps s id kept =
       | Some v ↦ λ e.
           elim (next_of s id) as (λ o. next_of s id ≡ o → KeepsSemaphores (handed s id v o)) [
             | None ↦ λ none.
-                write_keeps s id (filled v) kept (filled_may v.kind v.count (found_has IsCount s.semaphores id v kept.counts e))
+                write_keeps s id (counted_up v) kept (count_up_may v.kind v.count (found_has IsCount s.semaphores id v kept.counts e))
                 (none_passes task_id waits_before waits_before-order (waits_at (sem_place id)) s.kern.tasks none)
             | Some t ↦ λ some. calmly s (end_wait s.kern t.id 0 None) kept (begins-end_wait s.kern t.id 0 None)
           ] refl

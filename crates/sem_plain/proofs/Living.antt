@@ -20,7 +20,7 @@ use Rattle.wind_core.proofs.Passes.{waits_before-order}
 use Rattle.wind_core.proofs.Lawful.{none_left}
 use Rattle.sem_plain.specs.declared.semaphore.Semaphore.{Semaphore}
 use Rattle.sem_plain.specs.State.{SemState, both, sem_place}
-use Rattle.sem_plain.specs.Calls.{live, written, new_semaphore, emptied, awaited, take_found, take, filled, next_of, handed, give_found, give}
+use Rattle.sem_plain.specs.Calls.{live, written, new_semaphore, counted_down, awaited, take_found, take, counted_up, next_of, handed, give_found, give}
 use Rattle.sem_plain.specs.Kept.{WaitsLive, live_with, BeginsOnly}
 use Rattle.sem_plain.specs.Laws.{nowhere, LiveBesideLaw, WaitsLiveIn, LiveCallsLaw, HandLaw, WokenLaw}
 use Rattle.sem_plain.proofs.Beginning.{all_old}
@@ -74,11 +74,11 @@ module _ (others : Place → Bool) where
       elim (live s id) as (λ o. live s id ≡ o → WaitsLiveIn others (take_found s who id n o)) [
         | None ↦ λ e. all
         | Some v ↦ λ e.
-            elim (eqb v.count 0) as (λ b. WaitsLiveIn others (cond b (awaited s who id n v) (written s id (emptied v)))) [
+            elim (eqb v.count 0) as (λ b. WaitsLiveIn others (cond b (awaited s who id n v) (written s id (counted_down v)))) [
               | true ↦
                   live_beside (live_with others s.semaphores) (same_place (sem_place id)) s.kern (pend s.kern who (sem_place id) (not (is_priority v.options)) n) all
                   (begins-pend s.kern who (sem_place id) (not (is_priority v.options)) n) (λ p here. lives_there s id v p e here)
-              | false ↦ all_grow s.kern s.semaphores (with_object s.semaphores id (emptied v)) (more_written s.semaphores id (emptied v)) all
+              | false ↦ all_grow s.kern s.semaphores (with_object s.semaphores id (counted_down v)) (more_written s.semaphores id (counted_down v)) all
             ]
       ] refl
 
@@ -88,7 +88,7 @@ module _ (others : Place → Bool) where
         | None ↦ all
         | Some v ↦
             elim (next_of s id) as (λ o. WaitsLiveIn others (handed s id v o)) [
-              | None ↦ all_grow s.kern s.semaphores (with_object s.semaphores id (filled v)) (more_written s.semaphores id (filled v)) all
+              | None ↦ all_grow s.kern s.semaphores (with_object s.semaphores id (counted_up v)) (more_written s.semaphores id (counted_up v)) all
               | Some t ↦ live_calmly s (end_wait s.kern t.id 0 None) all (begins-end_wait s.kern t.id 0 None)
             ]
       ]

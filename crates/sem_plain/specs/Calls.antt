@@ -42,8 +42,8 @@ create s v = record {
 
 -- ---- take
 -- the semaphore's count is one lower
-abbrev pub emptied : Semaphore → Semaphore
-emptied v = record v { count = v.count - 1 }
+abbrev pub counted_down : Semaphore → Semaphore
+counted_down v = record v { count = v.count - 1 }
 
 -- there is no such semaphore, or its count is 0 and the caller doesn't wait
 abbrev pub take_refused : ℕ → Option Semaphore → Option Errno
@@ -70,7 +70,7 @@ awaited s who id n v = record s { kern = pend s.kern who (sem_place id) (not (is
 -- a take by this task with this timeout, given the live semaphore
 abbrev pub take_found : SemState → ℕ → ℕ → ℕ → Option Semaphore → SemState
 take_found s who id n None = s
-take_found s who id n (Some v) = if v.count == 0 then awaited s who id n v else written s id (emptied v)
+take_found s who id n (Some v) = if v.count == 0 then awaited s who id n v else written s id (counted_down v)
 
 -- the state after this task's take with this timeout, which isn't refused
 abbrev pub take : SemState → ℕ → ℕ → ℕ → SemState
@@ -78,14 +78,14 @@ take s who id n = take_found s who id n (live s id)
 
 -- ---- give
 -- the count after a give: 1 for a binary semaphore, one more for a counting one
-abbrev pub filled_count : SemKind → ℕ → ℕ
-filled_count kinds.Binary n = 1
-filled_count kinds.Counting n = n + 1
-filled_count kinds.Mutex n = n + 1
+abbrev pub count_after_give : SemKind → ℕ → ℕ
+count_after_give kinds.Binary n = 1
+count_after_give kinds.Counting n = n + 1
+count_after_give kinds.Mutex n = n + 1
 
 -- the semaphore after a give that no task waits for
-abbrev pub filled : Semaphore → Semaphore
-filled v = record v { count = filled_count v.kind v.count }
+abbrev pub counted_up : Semaphore → Semaphore
+counted_up v = record v { count = count_after_give v.kind v.count }
 
 -- the task that gets the semaphore next
 abbrev pub next_of : SemState → ℕ → Option Task
@@ -107,7 +107,7 @@ give_refusal s id = give_refused (next_of s id) (live s id)
 
 -- the first waiting task gets it, and its call ends with the result 0; if no task waits, the count rises
 abbrev pub handed : SemState → ℕ → Semaphore → Option Task → SemState
-handed s id v None = written s id (filled v)
+handed s id v None = written s id (counted_up v)
 handed s id v (Some t) = record s { kern = end_wait s.kern t.id ok_word None }
 
 -- a give, given the live semaphore

@@ -6,9 +6,9 @@ ghost use Rattle.wind_base.specs.SemBits.{is_priority};
 ghost use Rattle.id_table.specs.Rows.{object_of, with_object, IdsBelow};
 ghost use Rattle.wind_core.specs.State.{Lives};
 ghost use Rattle.sem_plain.specs.State.{both, may_hold, sem_place, IsEarly};
-ghost use Rattle.sem_plain.specs.Calls.{create, create_refusal, new_semaphore, take, take_refusal, took, awaited, emptied, filled, give, give_refusal, flush, flush_refusal, delete, delete_refusal};
+ghost use Rattle.sem_plain.specs.Calls.{create, create_refusal, new_semaphore, take, take_refusal, took, awaited, counted_down, counted_up, give, give_refusal, flush, flush_refusal, delete, delete_refusal};
 
-use crate::semaphore::{Semaphore, empty, fill};
+use crate::semaphore::{Semaphore, count_down, count_up};
 use id_table::sides::OBJECT;
 use id_table::{Ident, Place, Table};
 use std::alloc::Global;
@@ -152,7 +152,7 @@ impl Plain {
             return Err(Errno::ObjIdError);
         };
         if self.semaphore(id).count > 0 {
-            empty(self.table.object_mut(id));
+            count_down(self.table.object_mut(id));
             return Ok(Took::Taken);
         }
         if timeout == NO_WAIT {
@@ -188,7 +188,7 @@ impl Plain {
         if self.semaphore(id).count == u32::MAX {
             return Err(Errno::CountOver);
         }
-        fill(self.table.object_mut(id));
+        count_up(self.table.object_mut(id));
         Ok(())
     }
 

@@ -2,7 +2,7 @@
 
 ghost use Rattle.std.specs.Prelude.{◌≡◌, ◌+◌, ◌<◌, ◌^◌};
 ghost use Rattle.sem_plain.specs.State.{may_hold as may_hold_lem};
-ghost use Rattle.sem_plain.specs.Calls.{emptied, filled, filled_count};
+ghost use Rattle.sem_plain.specs.Calls.{counted_down, counted_up, count_after_give as count_after_give_lem};
 
 use wind_base::{SemKind, SemOptions};
 
@@ -30,17 +30,17 @@ pub fn may_hold(kind: SemKind, count: u32) -> bool
     }
 }
 
-// Lowers the count by 1.
-pub(crate) fn empty(semaphore: &mut Semaphore)
-    ensures { semaphore.new ≡ emptied semaphore.old }
+// Counts a take: the count falls by 1.
+pub(crate) fn count_down(semaphore: &mut Semaphore)
+    ensures { semaphore.new ≡ counted_down semaphore.old }
 {
     semaphore.count = semaphore.count.saturating_sub(1);
 }
 
 // The count after a give: 1 for a binary semaphore, one more for a counting one.
-fn more(kind: SemKind, count: u32) -> u32
+fn count_after_give(kind: SemKind, count: u32) -> u32
     requires { count + 1 < 2 ^ 32 }
-    ensures { result ≡ filled_count kind count }
+    ensures { result ≡ count_after_give_lem kind count }
 {
     match kind {
         SemKind::Binary => 1,
@@ -48,10 +48,11 @@ fn more(kind: SemKind, count: u32) -> u32
     }
 }
 
-// Fills a binary semaphore, or raises the count of a counting one by 1.
-pub(crate) fn fill(semaphore: &mut Semaphore)
+// Counts a give that no task waits for: a binary semaphore's count becomes 1, and a counting one's
+// rises by 1.
+pub(crate) fn count_up(semaphore: &mut Semaphore)
     requires { semaphore.old.count + 1 < 2 ^ 32 }
-    ensures { semaphore.new ≡ filled semaphore.old }
+    ensures { semaphore.new ≡ counted_up semaphore.old }
 {
-    semaphore.count = more(semaphore.kind, semaphore.count);
+    semaphore.count = count_after_give(semaphore.kind, semaphore.count);
 }

@@ -52,7 +52,7 @@ next-raised p k ms = next-repried k (lifted p k ms) k.tasks
 -- ---- semaphores
 pub next-sem_take : (s : SemState) (who id n : ℕ) (o : Option Semaphore) → NextSame s.kern (plain.take_found s who id n o).kern
 next-sem_take s who id n None = refl
-next-sem_take s who id n (Some v) = elim (eqb v.count 0) as (λ b. NextSame s.kern (cond b (plain.awaited s who id n v) (plain.written s id (plain.emptied v))).kern) [ true ↦ refl | false ↦ refl ]
+next-sem_take s who id n (Some v) = elim (eqb v.count 0) as (λ b. NextSame s.kern (cond b (plain.awaited s who id n v) (plain.written s id (plain.counted_down v))).kern) [ true ↦ refl | false ↦ refl ]
 
 next-handed : (s : SemState) (id : ℕ) (v : Semaphore) (o : Option Task) → NextSame s.kern (plain.handed s id v o).kern
 next-handed s id v None = refl
