@@ -10,9 +10,9 @@ use Rattle.wind_session.specs.Runs.{Ran}
 use Rattle.wind_session.specs.declared.run.RunEnd.{RunEnd}
 use Rattle.wind_session.specs.declared.run.RunEnd.TheVariants as ends
 use Rattle.wind_session.proofs.AppendingLemmas.{rose_earlier}
-use Rattle.live_session.proofs.KeepingLemmas.{keeps_both, keeps_same}
+use Rattle.wind_session.proofs.KeepingLemmas.{keeps_both, keeps_same}
 use Rattle.live_session.proofs.Limits.{under_limit}
-use Rattle.live_session.specs.Around.{Around}
+use Rattle.wind_session.specs.Keeping.{Around}
 use Rattle.live_session.specs.Ending.{IsGoing}
 use Rattle.live_session.specs.Seen.{LiveState, IsLiveAt, IsRun, IsSound, GoesOn, Runs, StaysLive}
 
@@ -52,7 +52,7 @@ stays_same l sound = record { sound = sound; live = λ shelf setup old now live.
 -- the board runs, something is sent, and the board runs again, while the folder keeps its files
 module _ (end next : RunEnd) (modules : List ℕ) (k l m n : LiveState) (a b c : Around) (going : IsGoing end) (first : Runs end modules k a l b) (sent : StaysLive l m) (second : Runs next modules m b n c) where
   here : GoesOn next (record { files = a.files; name = modules }) m b.logged n c.logged
-  here = subst (λ (files : Option Files). GoesOn next (record { files = files; name = modules }) m b.logged n c.logged) first.keeps.same_files second.goes
+  here = subst (λ (files : Option Files). GoesOn next (record { files = files; name = modules }) m b.logged n c.logged) first.keeps.0.0 second.goes
 
   pub runs_on : Runs next modules k a n c
   runs_on = record {
@@ -63,8 +63,8 @@ module _ (end next : RunEnd) (modules : List ℕ) (k l m n : LiveState) (a b c :
           (is_live end (record { files = a.files; name = modules }) setup l old b.logged going (first.goes.goes setup old live)));
     };
     quiet = second.quiet;
-    read_fault = λ e. rose_earlier _ _ _ first.keeps.folder_keeps second.keeps.folder_keeps (second.read_fault e);
-    write_fault = λ e. rose_earlier _ _ _ first.keeps.sink_keeps second.keeps.sink_keeps (second.write_fault e);
+    read_fault = λ e. rose_earlier _ _ _ first.keeps.0.1 second.keeps.0.1 (second.read_fault e);
+    write_fault = λ e. rose_earlier _ _ _ first.keeps.1 second.keeps.1 (second.write_fault e);
     keeps = keeps_both a b c first.keeps second.keeps;
   }
 

@@ -1,7 +1,6 @@
 pub mod Closings
 pub mod CommandLemmas
 pub mod Flow
-pub mod KeepingLemmas
 pub mod Limits
 pub mod OtherFiles
 pub mod Outcomes

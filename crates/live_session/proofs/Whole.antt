@@ -8,7 +8,7 @@ use Rattle.wind_machine.specs.Machine.{IsOver}
 use Rattle.wind_machine.specs.Extending.{Setup}
 use Rattle.wind_session.specs.Modules.{Shelf}
 use Rattle.wind_session.specs.Outside.{Outside}
-use Rattle.live_session.specs.Around.{Around}
+use Rattle.wind_session.specs.Keeping.{Around}
 use Rattle.wind_session.specs.declared.run.RunEnd.{RunEnd}
 use Rattle.wind_session.specs.declared.run.RunEnd.TheVariants as ends
 use Rattle.live_session.specs.Command.{CommandState}

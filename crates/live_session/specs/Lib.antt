@@ -1,4 +1,3 @@
-pub mod Around
 pub mod Command
 pub mod DotLines
 pub mod Ending

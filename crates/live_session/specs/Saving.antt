@@ -7,22 +7,19 @@ use Rattle.wind_base.specs.declared.board_kind.BoardKind.TheVariants as boards
 use Rattle.wind_base.specs.declared.profile.Profile.{Profile}
 use Rattle.wind_base.specs.declared.profile.Profile.TheVariants as profiles
 use Rattle.wind_outside.specs.Files.{Files}
+use Rattle.wind_session.specs.Paths.{path_in}
 use Rattle.live_session.specs.Command.{CommandState}
 use Rattle.live_session.specs.Folder.{Replaced}
 
--- the path of a file in a folder
-abbrev pub path_of : List ℕ → List ℕ → List ℕ
-path_of folder file = folder ++ 47 ∷ file
-
 -- the paths of the three files of a record in a folder
 abbrev pub console_path : List ℕ → List ℕ
-console_path folder = path_of folder (codes "console.txt")
+console_path folder = path_in folder (codes "console.txt")
 
 abbrev pub ticks_path : List ℕ → List ℕ
-ticks_path folder = path_of folder (codes "ticks.txt")
+ticks_path folder = path_in folder (codes "ticks.txt")
 
 abbrev pub command_path : List ℕ → List ℕ
-command_path folder = path_of folder (codes "command.txt")
+command_path folder = path_in folder (codes "command.txt")
 
 pub record ArePaths (folder console ticks command : List ℕ) : Type 0 where
   pub console_is : console ≡ console_path folder

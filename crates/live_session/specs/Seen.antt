@@ -16,7 +16,7 @@ use Rattle.wind_session.specs.Modules.{Shelf}
 use Rattle.wind_session.specs.Outside.{Outside}
 use Rattle.wind_session.specs.declared.run.RunEnd.{RunEnd}
 use Rattle.wind_session.specs.declared.run.RunEnd.TheVariants as ends
-use Rattle.live_session.specs.Around.{Around, KeepsFiles}
+use Rattle.wind_session.specs.Keeping.{Around, Keeps}
 use Rattle.live_session.specs.Ending.{IsAfterRun}
 use Rattle.live_session.specs.Record.{IsRecord, IsWithinFile}
 use Rattle.live_session.specs.declared.live.Live.{Live}
@@ -95,4 +95,4 @@ pub record Runs (end : RunEnd) (modules : List ℕ) (l : LiveState) (before : Ar
   pub quiet : end ≡ ends.Quiet → IsOver m.board
   pub read_fault : end ≡ ends.ReadFault → Rose before.folder_faults after.folder_faults
   pub write_fault : end ≡ ends.WriteFault → Rose before.sink_faults after.sink_faults
-  pub keeps : KeepsFiles before after
+  pub keeps : Keeps before after

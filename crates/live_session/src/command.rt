@@ -4,7 +4,7 @@ ghost use Rattle.std.specs.Prelude.{◌≡◌, ◌≢◌, ◌≤◌, false, IfOk
 ghost use Rattle.std.specs.Str.{bytes_eq};
 ghost use Rattle.clap.specs.Words.{app_of, found_of, rows_of, rule_of};
 ghost use Rattle.wind_base.specs.Limits.{most_steps};
-ghost use Rattle.live_session.specs.Command.{app as app_lem, command_of as command_of_lem, command_of_rows, flag_rule};
+ghost use Rattle.live_session.specs.Command.{app as app_lem, command_of as command_of_lem, flag_rule};
 ghost use Rattle.live_session.specs.Words.{command_state};
 ghost use Rattle.wind_session.specs.Command.{value_of as value_of_lem};
 ghost use Rattle.wind_session.specs.declared.command.CommandErr.TheVariants as errors;
@@ -76,29 +76,6 @@ fn is_given(matches: &ArgMatches, name: &str) -> bool
     value_of(matches, name) == "true"
 }
 
-// The command of what clap found, with this command line.
-fn command_found<'a>(
-    alloc: Global,
-    mut app: clap::Command<'a>,
-    matches: &ArgMatches<'a>,
-) -> Result<Command<'a>, CommandErr>
-    ensures value { IfOk result (λ c. command_of_rows (rows_of (found_of matches.now)) ≡ Some (command_state c)) }
-    ensures usage { IfErr result (λ e. e ≢ errors.NoMemory → command_of_rows (rows_of (found_of matches.now)) ≡ None) }
-    ensures within { IfOk result (λ c. c.quiet_after ≤ most_steps) }
-{
-    let steps = number_of(matches, "quiet-after", STEPS);
-    let quiet_after = valid(alloc, &mut app, steps, BAD_STEPS)?;
-    let Machine { profile, board } = machine_of(alloc, &mut app, matches)?;
-    Ok(Command {
-        modules: value_of(matches, "modules"),
-        record: value_of(matches, "record"),
-        force: is_given(matches, "force"),
-        quiet_after,
-        profile,
-        board,
-    })
-}
-
 /// The command of these words; the first word is the program's name.
 #[tactic(auto, unfolding(crate::specs::Command::command_of))]
 pub fn command_of<'a>(alloc: Global, words: &'a [&'a str]) -> Result<Command<'a>, CommandErr>
@@ -108,5 +85,15 @@ pub fn command_of<'a>(alloc: Global, words: &'a [&'a str]) -> Result<Command<'a>
 {
     let mut app = app(alloc)?;
     let matches = matches_of(alloc, &mut app, words)?;
-    command_found(alloc, app, &matches)
+    let steps = number_of(&matches, "quiet-after", STEPS);
+    let quiet_after = valid(alloc, &mut app, steps, BAD_STEPS)?;
+    let Machine { profile, board } = machine_of(alloc, &mut app, &matches)?;
+    Ok(Command {
+        modules: value_of(&matches, "modules"),
+        record: value_of(&matches, "record"),
+        force: is_given(&matches, "force"),
+        quiet_after,
+        profile,
+        board,
+    })
 }

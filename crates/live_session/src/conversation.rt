@@ -3,7 +3,7 @@
 ghost use Rattle.std.specs.Prelude.{◌≡◌, ◌≢◌, ◌⊎◌, ◌≤◌, ◌↔◌, [], IsTrue, Err, IfOk, IfErr, OnErr, IfSome};
 ghost use Rattle.wind_outside.specs.Counts.{Rose};
 ghost use Rattle.wind_machine.specs.Machine.{IsOver};
-ghost use Rattle.live_session.specs.Around.{around};
+ghost use Rattle.wind_session.specs.Keeping.{around};
 ghost use Rattle.wind_session.specs.declared.run.RunEnd.TheVariants as ends;
 ghost use Rattle.live_session.specs.Ending.{IsGoing};
 ghost use Rattle.live_session.specs.Input.{Takes, IsPart, IsLongest};

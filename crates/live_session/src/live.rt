@@ -4,7 +4,7 @@ ghost use Rattle.std.specs.Prelude.{◌≡◌, ◌+◌, ◌<◌, ◌++◌, Err, 
 ghost use Rattle.wind_base.specs.Limits.{greatest_word};
 ghost use Rattle.tick_file.specs.Writing.{event_line, IsInRange};
 ghost use Rattle.wind_machine.specs.Extending.{bytes_asked};
-ghost use Rattle.live_session.specs.Around.{around};
+ghost use Rattle.wind_session.specs.Keeping.{around};
 ghost use Rattle.live_session.specs.Seen.{live_seen, IsSound, Runs, StaysLive};
 ghost use Rattle.live_session.specs.declared.record.Refusal.TheVariants as refusals;
 

@@ -1,10 +1,11 @@
 //! Plays a live session.
 
 ghost use Rattle.std.specs.Prelude.{◌≡◌, ◌≢◌, ◌⊎◌, ◌≤◌, Some, IfOk, IfErr, OnOk, length, map};
+ghost use Rattle.wind_base.specs.Limits.{most_slots};
 ghost use Rattle.wind_outside.specs.Counts.{Rose};
 ghost use Rattle.wind_outside.specs.Devices.{slots_of};
 ghost use Rattle.wind_session.specs.Outside.{outside};
-ghost use Rattle.live_session.specs.Around.{KeepsFiles, around};
+ghost use Rattle.wind_session.specs.Keeping.{KeepsFiles};
 ghost use Rattle.live_session.specs.Command.{command_of as command_of_lem};
 ghost use Rattle.live_session.specs.Seen.{live_seen, Begins};
 ghost use Rattle.live_session.specs.Session.{IsSession, Leaves, setup_of, status_unless};
@@ -51,7 +52,7 @@ fn status_after(status: Status, written: Result<(), Unsaved>) -> Status
 
 // A board with an empty record.
 fn boot(alloc: Global, command: &Command, devices: Slots) -> Result<Live, NoMemory>
-    requires { length devices.items ≤ 16 }
+    requires { length devices.items ≤ most_slots }
     ensures begins { IfOk result (λ live. Begins
         (setup_of (command_state command.now) (slots_of kind_of words_of devices.items))
         (live_seen ⟦<dyn Device as Device>⟧ live)) }
@@ -80,7 +81,7 @@ fn session<I: Input, F: Folder, O: Sink, E: Sink, D: RecordFolder>(
     err: &mut E,
     records: &mut D,
 ) -> Status
-    requires devices { length devices.items ≤ 16 }
+    requires devices { length devices.items ≤ most_slots }
     requires target { IsTarget target }
     ensures leaves { Leaves result (Some (command_state target.entry.command.now)) (F.files folder.old)
         (slots_of kind_of words_of devices.items)
@@ -92,8 +93,7 @@ fn session<I: Input, F: Folder, O: Sink, E: Sink, D: RecordFolder>(
         → Rose (I.faults input.old) (I.faults input.new) ⊎ Rose (F.faults folder.old) (F.faults folder.new) }
     ensures fault { result ≡ status.WriteFault → Rose (O.faults out.old) (O.faults out.new) }
     ensures known { result ≢ status.Usage }
-    ensures keeps { KeepsFiles (around ⟦<F as Folder>⟧ ⟦<O as Sink>⟧ folder.old out.old)
-        (around ⟦<F as Folder>⟧ ⟦<O as Sink>⟧ folder.new out.new) }
+    ensures keeps { KeepsFiles ⟦<F as Folder>⟧ ⟦<O as Sink>⟧ folder.old out.old folder.new out.new }
     ensures input_faults { I.faults input.old ≤ I.faults input.new }
     ensures record_faults { D.faults records.old ≤ D.faults records.new }
 {
@@ -127,7 +127,7 @@ pub fn play_live<'a, I: Input, F: Folder, O: Sink, E: Sink, D: RecordFolder>(
     records: &mut D,
     devices: Slots,
 ) -> Status
-    requires { length devices.items ≤ 16 }
+    requires { length devices.items ≤ most_slots }
     ensures session { IsSession result (command_of_lem (map (λ w. w.now) words.now)) (F.files folder.old)
         (slots_of kind_of words_of devices.items)
         (outside (F.requests folder.old) (O.bytes out.old) (O.pieces out.old))
@@ -135,10 +135,8 @@ pub fn play_live<'a, I: Input, F: Folder, O: Sink, E: Sink, D: RecordFolder>(
         (I.left input.old) (I.left input.new) (D.files records.old) (D.files records.new)
         (Rose (I.faults input.old) (I.faults input.new) ⊎ Rose (F.faults folder.old) (F.faults folder.new))
         (Rose (O.faults out.old) (O.faults out.new)) (Rose (D.faults records.old) (D.faults records.new)) }
-    ensures files { F.files folder.new ≡ F.files folder.old }
+    ensures keeps { KeepsFiles ⟦<F as Folder>⟧ ⟦<O as Sink>⟧ folder.old out.old folder.new out.new }
     ensures input_faults { I.faults input.old ≤ I.faults input.new }
-    ensures folder_faults { F.faults folder.old ≤ F.faults folder.new }
-    ensures faults { O.faults out.old ≤ O.faults out.new }
     ensures record_faults { D.faults records.old ≤ D.faults records.new }
 {
     let command = match command_of(alloc, words) {

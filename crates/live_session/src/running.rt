@@ -1,7 +1,7 @@
 //! Runs of the board between two lines.
 
 ghost use Rattle.std.specs.Prelude.{◌≡◌};
-ghost use Rattle.live_session.specs.Around.{around};
+ghost use Rattle.wind_session.specs.Keeping.{around};
 ghost use Rattle.live_session.specs.Seen.{live_seen, IsSound, Runs};
 
 use crate::command::Command;

@@ -4,7 +4,7 @@ ghost use Rattle.std.specs.Prelude.{◌≡◌, ◌≤◌, ◌++◌, Err, IfOk, O
 ghost use Rattle.wind_base.specs.Limits.{most_steps};
 ghost use Rattle.wind_outside.specs.Counts.{Rose};
 ghost use Rattle.live_session.specs.Folder.{Replaced};
-ghost use Rattle.live_session.specs.Saving.{path_of as path_of_lem, command_text as command_text_lem, replay_limit as replay_limit_lem, profile_digit as profile_digit_lem, board_digit as board_digit_lem, word_line, ArePaths, IsFree, IsTaken, IsSaved, KeepsOthers};
+ghost use Rattle.live_session.specs.Saving.{command_text as command_text_lem, replay_limit as replay_limit_lem, profile_digit as profile_digit_lem, board_digit as board_digit_lem, word_line, ArePaths, IsFree, IsTaken, IsSaved, KeepsOthers};
 ghost use Rattle.live_session.specs.Words.{command_state, IsTarget};
 ghost use Rattle.live_session.specs.declared.saving.Claim.TheVariants as claims;
 ghost use Rattle.live_session.specs.declared.saving.Unsaved.TheVariants as unsaved;
@@ -17,6 +17,7 @@ use std::alloc::{AllocError, Global};
 use wind_base::limits::STEPS;
 use wind_base::{BoardKind, Profile};
 use wind_outside::Put;
+use wind_session::path_in;
 
 /// The paths of a record's files.
 #[derive(Drop)]
@@ -34,25 +35,15 @@ pub(crate) struct Target<'a> {
     pub(crate) paths: &'a Paths,
 }
 
-// The path of a file in a folder.
-fn path_of(alloc: Global, folder: &str, file: &str) -> Result<String, AllocError>
-    ensures { IfOk result (λ path. string_bytes path ≡ path_of_lem folder.now file.now) }
-{
-    let mut path = folder.to_string(alloc)?;
-    path.push_str("/")?;
-    path.push_str(file)?;
-    Ok(path)
-}
-
 /// The paths of the files of the record in this folder.
 pub(crate) fn paths_of(alloc: Global, folder: &str) -> Result<Paths, AllocError>
     ensures { IfOk result (λ paths. ArePaths folder.now (string_bytes paths.console) (string_bytes paths.ticks)
         (string_bytes paths.command)) }
 {
     Ok(Paths {
-        console: path_of(alloc, folder, "console.txt")?,
-        ticks: path_of(alloc, folder, "ticks.txt")?,
-        command: path_of(alloc, folder, "command.txt")?,
+        console: path_in(alloc, folder, "console.txt")?,
+        ticks: path_in(alloc, folder, "ticks.txt")?,
+        command: path_in(alloc, folder, "command.txt")?,
     })
 }
 

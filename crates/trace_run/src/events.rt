@@ -44,7 +44,8 @@ fn put_full<O: Sink>(page: &mut Page, out: &mut O) -> Put
     ensures done { result ≡ puts.Done → (first : Option (List ℕ)) (lines : List Line)
         → HoldsLines first (O.bytes out.old) page.old lines → HoldsLines first (O.bytes out.new) page.new lines }
     ensures part { result ≡ puts.Failed → (first : Option (List ℕ)) (lines : List Line)
-        → HoldsLines first (O.bytes out.old) page.old lines → AppendedPrefix first (O.bytes out.new) (lines_text lines) }
+        → HoldsLines first (O.bytes out.old) page.old lines
+        → AppendedPrefix first (O.bytes out.new) (lines_text lines) }
     ensures growing { page.new.growing ≡ page.old.growing }
     ensures failed { result ≡ puts.Failed → Rose (O.faults out.old) (O.faults out.new) }
     ensures faults { O.faults out.old ≤ O.faults out.new }

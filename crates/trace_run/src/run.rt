@@ -64,11 +64,13 @@ pub(crate) trait Teller {
     ) -> Result<Put, NoMemory>
         requires few { (seen ⟦<dyn Device as Device>⟧ board.now).steps ≤ most_steps }
         requires told { StepFrom (ready self.old) before_step.now (seen ⟦<dyn Device as Device>⟧ board.now) }
-        ensures tells { IfOk result (λ put. put ≡ puts.Done → (first : Option (List ℕ)) (said next : Answers) (s u : State) (i : ℕ)
+        ensures tells { IfOk result (λ put. put ≡ puts.Done
+            → (first : Option (List ℕ)) (said next : Answers) (s u : State) (i : ℕ)
             → before_step.now ≡ before_step_lem u → ready self.old u
             → GoesOn said next s u (seen ⟦<dyn Device as Device>⟧ board.now) i
             → tells self.old first (O.bytes out.old) said s i → tells self.new first (O.bytes out.new) next s (i + 1)) }
-        ensures lost { IfOk result (λ put. put ≡ puts.Failed → (first : Option (List ℕ)) (said next : Answers) (s u : State) (i : ℕ)
+        ensures lost { IfOk result (λ put. put ≡ puts.Failed
+            → (first : Option (List ℕ)) (said next : Answers) (s u : State) (i : ℕ)
             → before_step.now ≡ before_step_lem u → ready self.old u
             → GoesOn said next s u (seen ⟦<dyn Device as Device>⟧ board.now) i
             → tells self.old first (O.bytes out.old) said s i → lost first (O.bytes out.new) next s (i + 1)) }

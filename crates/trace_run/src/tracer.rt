@@ -42,7 +42,8 @@ fn add_lines(
 ) -> Result<(), NoMemory>
     requires { count_in page.old.growing + sum_by count_of list.now < 2 ^ 64 }
     ensures lines { OnOk result ((given : List ℕ) (made : List Line) → Ends given page.old made → Ends given page.new
-        (with_lines (map (line_of before_step.now (snapshot_state before.now) (snapshot_state after.now)) list.now) made)) }
+        (with_lines
+        (map (line_of before_step.now (snapshot_state before.now) (snapshot_state after.now)) list.now) made)) }
     ensures waits { OnOk result (count_in page.new.growing ≤ count_in page.old.growing + sum_by count_of list.now) }
 {
     for happening in list {

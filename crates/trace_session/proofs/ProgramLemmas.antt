@@ -1,5 +1,5 @@
 -- What the program leaves.
-use Rattle.std.proofs.Common.{◌≡◌, List, Option, refl, sym, subst, inl, inr}
+use Rattle.std.proofs.Common.{◌≡◌, List, Option, refl, subst, inl, inr}
 use Rattle.std.specs.Prelude.{◌⊎◌, Vec}
 use Rattle.std.specs.declared.dyn_box.DynBox.{DynBox}
 use Rattle.std.specs.declared.alloc.Global.{Global}
@@ -30,8 +30,8 @@ left_on state s (stands.Booted board) spans plan command files fault slots devic
     inr (record { board = state board; spans = spans; traced = subst (λ d. IsTraced s plan command spans files d (state board) old new) same leaves; good = kept.0; instant = kept.1 })
 
 -- memory ran out before a session
-unmade_now : (command : Option TraceState) (files : Option Files) (rose out_rose : Type 0) (now : Outside) → Session status.NoMemory command files rose out_rose now now
-unmade_now command files rose out_rose now =
+pub session_unmade : (command : Option TraceState) (files : Option Files) (rose out_rose : Type 0) (now : Outside) → Session status.NoMemory command files rose out_rose now now
+session_unmade command files rose out_rose now =
     let some = some_plan files (session_of command) in
     record {
       plan = some.0;
@@ -42,6 +42,3 @@ unmade_now command files rose out_rose now =
       read_fault = λ e. cc;
       write_fault = λ e. cc;
     }
-
-pub session_unmade : (command : Option TraceState) (files : Option Files) (rose out_rose : Type 0) (old new : Outside) → new ≡ old → Session status.NoMemory command files rose out_rose old new
-session_unmade command files rose out_rose old new same = subst (λ (now : Outside). Session status.NoMemory command files rose out_rose old now) (sym same) (unmade_now command files rose out_rose old)

@@ -8,8 +8,7 @@ use Rattle.tick_file.specs.Schedule.{Timetable}
 use Rattle.wind_session.specs.MachineState.{State}
 use Rattle.wind_session.specs.Machine.{opening}
 use Rattle.wind_session.specs.Board.{Board}
-use Rattle.wind_session.specs.Headline.{NotPlayed, board_of, fetch_fault, limit_of, profile_of, rounds_of, shelf_of, status_of}
-use Rattle.wind_session.specs.Command.{CommandState}
+use Rattle.wind_session.specs.Headline.{NotPlayed, fetch_fault, rounds_of, shelf_of, status_of}
 use Rattle.wind_session.specs.Modules.{Shelf}
 use Rattle.wind_session.specs.Outside.{Outside, with_inputs}
 use Rattle.wind_session.specs.Plan.{Plan, Start, IsPlan}
@@ -23,7 +22,6 @@ use Rattle.trace_run.specs.Forms.{TellsForm, TellsLess}
 use Rattle.trace_run.specs.Traced.{Traced}
 use Rattle.trace_run.specs.declared.forms.Form.{Form}
 use Rattle.trace_session.specs.Command.{TraceState, session_of}
-use Rattle.trace_session.specs.declared.ending.TraceEnding.{TraceEnding}
 
 -- the status is that of the run, or of a failed put; or memory ran out for the trace
 abbrev pub IsLeft : Form → Option SpanState → Status → Shelf → State → ℕ → State → Outside → Outside → Type 0

@@ -1,14 +1,13 @@
 //! The arguments of the command line.
 
 ghost use Rattle.std.specs.Prelude.{◌≡◌, ◌≢◌, ◌≤◌, IfOk, IfErr, Some, None, map};
-ghost use Rattle.clap.specs.Words.{app_of, found_of, rows_of};
+ghost use Rattle.clap.specs.Words.{app_of};
 ghost use Rattle.generated_session.specs.Session.{most_rounds};
-ghost use Rattle.trace_session.specs.Command.{app as app_lem, command_of as command_of_lem, command_of_rows, form_named as form_named_lem};
+ghost use Rattle.trace_session.specs.Command.{app as app_lem, command_of as command_of_lem, form_named as form_named_lem};
 ghost use Rattle.trace_session.specs.Words.{trace_state};
 ghost use Rattle.wind_base.specs.Limits.{most_steps};
 ghost use Rattle.wind_session.specs.declared.command.CommandErr.TheVariants as errors;
 
-use clap::ArgMatches;
 use std::alloc::{AllocError, Global};
 use trace_run::Form;
 use wind_session::{
@@ -60,22 +59,6 @@ fn app<'a>(alloc: Global) -> Result<clap::Command<'a>, AllocError>
     with_session_options(alloc, command)
 }
 
-// The command of what clap found, with this command line.
-fn command_found<'a>(
-    alloc: Global,
-    app: &mut clap::Command<'_>,
-    matches: &ArgMatches<'a>,
-) -> Result<TraceCommand<'a>, CommandErr>
-    ensures value { IfOk result (λ c. command_of_rows (rows_of (found_of matches.now)) ≡ Some (trace_state c)) }
-    ensures usage { IfErr result (λ e. e ≢ errors.NoMemory → command_of_rows (rows_of (found_of matches.now)) ≡ None) }
-    ensures within { IfOk result (λ c. (c.session.limit ≤ most_steps) × (c.session.generate ≤ most_rounds)) }
-{
-    let named = form_named(value_of(matches, "as"));
-    let form = valid(alloc, app, named, BAD_FORM)?;
-    let session = command_of_matches(alloc, app, matches)?;
-    Ok(TraceCommand { form, session })
-}
-
 /// The command of these words; the first word is the program's name.
 #[tactic(auto, unfolding(crate::specs::Command::command_of))]
 pub fn trace_command_of<'a>(
@@ -88,5 +71,8 @@ pub fn trace_command_of<'a>(
 {
     let mut app = app(alloc)?;
     let matches = matches_of(alloc, &mut app, words)?;
-    command_found(alloc, &mut app, &matches)
+    let named = form_named(value_of(&matches, "as"));
+    let form = valid(alloc, &mut app, named, BAD_FORM)?;
+    let session = command_of_matches(alloc, &mut app, &matches)?;
+    Ok(TraceCommand { form, session })
 }

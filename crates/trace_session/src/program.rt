@@ -1,6 +1,6 @@
 //! The program: a traced session on a board with the program's devices.
 
-ghost use Rattle.std.specs.Prelude.{◌≡◌, IfErr, IfOk, codes, map};
+ghost use Rattle.std.specs.Prelude.{◌≡◌, codes, map};
 ghost use Rattle.wind_outside.specs.Counts.{Rose};
 ghost use Rattle.wind_outside.specs.Devices.{slots_of};
 ghost use Rattle.wind_session.specs.Outside.{outside};
@@ -11,9 +11,9 @@ ghost use Rattle.trace_session.specs.Program.{Ends, Session};
 
 use crate::command::PROGRAM;
 use crate::playing::trace;
-use std::alloc::{AllocError, Global};
-use wind_outside::{ByteFifo, Device, EventCounter, Folder, Latch, Sink, Slots};
-use wind_session::{Status, tell_no_memory};
+use std::alloc::Global;
+use wind_outside::{Device, Folder, Sink, Slots};
+use wind_session::{OpeningDevices, Status, tell_no_memory};
 
 // Plays a session for a trace, on a board with the program's devices.
 fn trace_on<F: Folder, O: Sink, E: Sink>(
@@ -35,36 +35,6 @@ fn trace_on<F: Folder, O: Sink, E: Sink>(
     trace(alloc, words, folder, out, err, devices).status
 }
 
-// Makes the program's devices, and plays a session for a trace with them. If memory runs out for the
-// devices, nothing is played.
-fn trace_with_devices<F: Folder, O: Sink, E: Sink>(
-    alloc: Global,
-    words: &[&str],
-    folder: &mut F,
-    out: &mut O,
-    err: &mut E,
-) -> Result<Status, AllocError>
-    ensures session { IfOk result (λ s. Session s (command_of (map (λ w. w.now) words.now)) (F.files folder.old)
-        (Rose (F.faults folder.old) (F.faults folder.new)) (Rose (O.faults out.old) (O.faults out.new))
-        (outside (F.requests folder.old) (O.bytes out.old) (O.pieces out.old))
-        (outside (F.requests folder.new) (O.bytes out.new) (O.pieces out.new))) }
-    ensures tells { IfOk result (λ s. Tells (codes "windtrace") s (session_of (command_of (map (λ w. w.now) words.now)))
-        (E.bytes err.old) (E.bytes err.new) (Rose (E.faults err.old) (E.faults err.new))) }
-    ensures unchanged { IfErr result (λ e. outside (F.requests folder.new) (O.bytes out.new) (O.pieces out.new)
-        ≡ outside (F.requests folder.old) (O.bytes out.old) (O.pieces out.old)) }
-    ensures unprinted { IfErr result (λ e. E.bytes err.new ≡ E.bytes err.old) }
-    ensures unfailed { IfErr result (λ e. E.faults err.new ≡ E.faults err.old) }
-{
-    let latch = Box::new(alloc, Latch::new())?;
-    let fifo = Box::new(alloc, ByteFifo::new())?;
-    let counter = Box::new(alloc, EventCounter::new())?;
-    let mut devices: Slots = Vec::with_capacity(alloc, 3)?;
-    devices.push(Some(latch)).unwrap();
-    devices.push(Some(fifo)).unwrap();
-    devices.push(Some(counter)).unwrap();
-    Ok(trace_on(alloc, words, folder, out, err, devices))
-}
-
 /// Plays the session that the arguments ask for, and puts what happened. The board has a latch, a
 /// queue of bytes and a counter of events in slots 0, 1 and 2. Returns the exit status.
 pub fn trace_program<F: Folder, O: Sink, E: Sink>(
@@ -80,11 +50,13 @@ pub fn trace_program<F: Folder, O: Sink, E: Sink>(
         (outside (F.requests folder.new) (O.bytes out.new) (O.pieces out.new))
         (E.bytes err.old) (E.bytes err.new) (Rose (E.faults err.old) (E.faults err.new)) }
 {
-    match trace_with_devices(alloc, words, folder, out, err) {
-        Ok(status) => status.number(),
-        Err(AllocError) => {
-            tell_no_memory(PROGRAM, err);
-            Status::NoMemory.number()
-        }
-    }
+    let Ok(devices) = OpeningDevices::new(alloc) else {
+        tell_no_memory(PROGRAM, err);
+        return Status::NoMemory.number();
+    };
+    let (latch, fifo, counter, mut slots) = devices.into_parts();
+    slots.push(Some(latch)).unwrap();
+    slots.push(Some(fifo)).unwrap();
+    slots.push(Some(counter)).unwrap();
+    trace_on(alloc, words, folder, out, err, slots).number()
 }

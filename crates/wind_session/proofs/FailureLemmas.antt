@@ -22,7 +22,7 @@ use Rattle.wind_session.specs.declared.ending.Status.{Status}
 use Rattle.wind_session.specs.declared.ending.Status.TheVariants as status
 use Rattle.wind_session.specs.declared.ending.Which.TheVariants as which
 use Rattle.wind_session.proofs.FetchLemmas.{grows_both, grows_same, path_request, said_fine}
-use Rattle.wind_session.specs.Modules.{module_path}
+use Rattle.wind_session.specs.Paths.{path_in}
 
 one_fine : (r : Request) → IsFine r → All IsFine (r ∷ [])
 one_fine r fine = All-cons IsFine r [] fine (All-nil IsFine)
@@ -30,8 +30,8 @@ one_fine r fine = All-cons IsFine r [] fine (All-nil IsFine)
 -- ---- requests that didn't fail
 module_fine : (folder name : List ℕ) (o : FetchOutcome) → o ≢ outcomes.Failed → All IsFine (module_request folder name o)
 module_fine folder name o fine =
-    elim (is_utf8 name) as (λ b. All IsFine (cond b (path_request (module_path folder name) o ∷ []) [])) [
-      | true ↦ one_fine (path_request (module_path folder name) o) fine
+    elim (is_utf8 name) as (λ b. All IsFine (cond b (path_request (path_in folder name) o ∷ []) [])) [
+      | true ↦ one_fine (path_request (path_in folder name) o) fine
       | false ↦ All-nil IsFine
     ]
 
@@ -136,8 +136,8 @@ module _ (folder : List ℕ) (said : Answers) (start : State) (k : ℕ) (old new
   one_failed : (asked : Option (List ℕ)) → step_request folder asked outcomes.Failed ≢ [] → (r : Request) × (step_request folder asked outcomes.Failed ≡ r ∷ []) × (r.outcome ≡ outcomes.Failed)
   one_failed None some = absurd (some refl)
   one_failed (Some name) some =
-      elim (is_utf8 name) as (λ b. cond b (path_request (module_path folder name) outcomes.Failed ∷ []) [] ≢ [] → (r : Request) × (cond b (path_request (module_path folder name) outcomes.Failed ∷ []) [] ≡ r ∷ []) × (r.outcome ≡ outcomes.Failed)) [
-        | true ↦ λ h. (path_request (module_path folder name) outcomes.Failed, refl, refl)
+      elim (is_utf8 name) as (λ b. cond b (path_request (path_in folder name) outcomes.Failed ∷ []) [] ≢ [] → (r : Request) × (cond b (path_request (path_in folder name) outcomes.Failed ∷ []) [] ≡ r ∷ []) × (r.outcome ≡ outcomes.Failed)) [
+        | true ↦ λ h. (path_request (path_in folder name) outcomes.Failed, refl, refl)
         | false ↦ λ h. absurd (h refl)
       ] some
 

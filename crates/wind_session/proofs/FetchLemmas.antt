@@ -13,7 +13,7 @@ use Rattle.board_player.specs.MachineState.{State}
 use Rattle.board_player.specs.Machine.{file_asked}
 use Rattle.board_player.specs.Run.{Answers, after}
 use Rattle.wind_session.specs.Command.{CommandState}
-use Rattle.wind_session.specs.Modules.{module_path}
+use Rattle.wind_session.specs.Paths.{path_in}
 use Rattle.wind_session.specs.Fetches.{LeadsTo, IsAfterFiles, EndsWithFiles, EndsWithRounds, EndsWithInputs, Stops, file_requests, module_request, outcome_said, requests_of, rounds_requests, step_request, text_request}
 use Rattle.wind_session.specs.declared.run.RunEnd.TheVariants as ends
 use Rattle.wind_session.specs.declared.ending.Status.{Status}
@@ -50,12 +50,12 @@ abbrev pub path_request : List ℕ → FetchOutcome → Request
 path_request path o = record { name = path; limit = longest_module_file; outcome = o }
 
 -- its name is a text, and it isn't
-pub text_module : (folder name : List ℕ) (o : FetchOutcome) → IsUtf8 name → module_request folder name o ≡ path_request (module_path folder name) o ∷ []
-text_module folder name o text = ap (λ b. cond b (path_request (module_path folder name) o ∷ []) []) (is_utf8-from_IsUtf8 name text)
+pub text_module : (folder name : List ℕ) (o : FetchOutcome) → IsUtf8 name → module_request folder name o ≡ path_request (path_in folder name) o ∷ []
+text_module folder name o text = ap (λ b. cond b (path_request (path_in folder name) o ∷ []) []) (is_utf8-from_IsUtf8 name text)
 
 pub no_text_module : (folder name : List ℕ) (o : FetchOutcome) → (IsUtf8 name → ⊥) → module_request folder name o ≡ []
 no_text_module folder name o none =
-    elim (is_utf8 name) as (λ b. is_utf8 name ≡ b → cond b (path_request (module_path folder name) o ∷ []) [] ≡ []) [
+    elim (is_utf8 name) as (λ b. is_utf8 name ≡ b → cond b (path_request (path_in folder name) o ∷ []) [] ≡ []) [
       | true ↦ λ e. absurd (none (IsUtf8-from_is_utf8 name e))
       | false ↦ λ e. refl
     ] refl
@@ -68,13 +68,13 @@ said_fine TooLong = λ e. cc
 
 module _ (folder name : List ℕ) (old new : Option (List Request)) where
   -- the request is that of a name that is a text
-  pub requested : (o : FetchOutcome) → IsUtf8 name → GrowsBy old new (path_request (module_path folder name) o ∷ []) → GrowsBy old new (module_request folder name o)
+  pub requested : (o : FetchOutcome) → IsUtf8 name → GrowsBy old new (path_request (path_in folder name) o ∷ []) → GrowsBy old new (module_request folder name o)
   requested o text grown = subst (GrowsBy old new) (sym (text_module folder name o text)) grown
 
   -- it failed
-  pub stops_unread : IsUtf8 name → GrowsBy old new (path_request (module_path folder name) outcomes.Failed ∷ []) → Stops ends.ReadFault folder (Some name) old new
+  pub stops_unread : IsUtf8 name → GrowsBy old new (path_request (path_in folder name) outcomes.Failed ∷ []) → Stops ends.ReadFault folder (Some name) old new
   stops_unread text grown = record {
-    last = path_request (module_path folder name) outcomes.Failed ∷ [];
+    last = path_request (path_in folder name) outcomes.Failed ∷ [];
     last_is = (sym (text_module folder name outcomes.Failed text), λ e. cc);
     requests = grown;
   }

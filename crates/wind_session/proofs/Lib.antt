@@ -1,6 +1,7 @@
 pub mod CommandLemmas
 pub mod FetchLemmas
 pub mod InputLemmas
+pub mod KeepingLemmas
 pub mod FailureLemmas
 pub mod LeftLemmas
 pub mod PlanLemmas

@@ -1,5 +1,5 @@
 -- What the program leaves.
-use Rattle.std.proofs.Common.{◌≡◌, ◌≢◌, ℕ, List, Option, None, Some, refl, sym, subst, inl, inr}
+use Rattle.std.proofs.Common.{◌≡◌, ◌≢◌, ℕ, List, Option, None, Some, refl, subst, inl, inr}
 use Rattle.std.specs.Prelude.{◌⊎◌, Vec}
 use Rattle.std.specs.declared.dyn_box.DynBox.{DynBox}
 use Rattle.std.specs.declared.alloc.Global.{Global}
@@ -34,7 +34,7 @@ left_on state s (stands.NotBooted back) plan command shelf fault slots devices o
 left_on state s (stands.Booted board) plan command shelf fault slots devices other old new leaves kept same =
     subst (λ d. NotPlayed s plan command fault old new ⊎ PlayedOn s plan command shelf d old new) same (inr (record { board = state board; played = leaves; good = kept.0; instant = kept.1 }))
 
--- memory ran out before a session
+-- memory ran out before a session: what is complete, and what is left
 pub complete_unmade : (command : Option CommandState) (files : Option Files) (rose out_rose : Type 0) → IsComplete status.NoMemory command files rose out_rose
 complete_unmade None files rose out_rose = tt
 complete_unmade (Some c) files rose out_rose = λ there fine out_fine. tt
@@ -47,8 +47,9 @@ pub unbooted : (plan : Plan) (command : CommandState) (fault : Type 0) (old : Ou
     → NotPlayed status.NoMemory plan (Some command) fault old (record old { requests = requests })
 unbooted plan command fault old requests grown unasked = record { bytes = refl; pieces = refl; refusal = tt; fetches = rounds_found command.generate command old.requests requests grown unasked }
 
-unmade_now : (command : Option CommandState) (files : Option Files) (rose out_rose : Type 0) (now : Outside) → Session status.NoMemory command files rose out_rose now now
-unmade_now command files rose out_rose now =
+-- memory ran out before a session
+pub session_unmade : (command : Option CommandState) (files : Option Files) (rose out_rose : Type 0) (now : Outside) → Session status.NoMemory command files rose out_rose now now
+session_unmade command files rose out_rose now =
     let some = some_plan files command in
     record {
       plan = some.0;
@@ -60,9 +61,6 @@ unmade_now command files rose out_rose now =
       read_fault = λ e. cc;
       write_fault = λ e. cc;
     }
-
-pub session_unmade : (command : Option CommandState) (files : Option Files) (rose out_rose : Type 0) (old new : Outside) → new ≡ old → Session status.NoMemory command files rose out_rose old new
-session_unmade command files rose out_rose old new same = subst (λ (now : Outside). Session status.NoMemory command files rose out_rose old now) (sym same) (unmade_now command files rose out_rose old)
 
 -- that memory ran out was reported
 pub out_of_memory : (program : List ℕ) (number : ℕ) (IsSession : Status → Type 0) (command : Option CommandState) (old new : Option (List ℕ)) (rose : Type 0) → number ≡ status_number status.NoMemory → IsSession status.NoMemory → IsPrinted old new (memory_text program) rose

@@ -12,7 +12,7 @@ use Rattle.board_player.specs.MachineState.{State}
 use Rattle.board_player.specs.Machine.{file_asked}
 use Rattle.board_player.specs.Run.{Answers, after}
 use Rattle.wind_session.specs.Command.{CommandState}
-use Rattle.wind_session.specs.Modules.{module_path}
+use Rattle.wind_session.specs.Paths.{path_in}
 use Rattle.wind_session.specs.declared.run.RunEnd.{RunEnd}
 use Rattle.wind_session.specs.declared.run.RunEnd.TheVariants as ends
 use Rattle.wind_session.specs.declared.ending.Status.{Status}
@@ -85,7 +85,7 @@ outcome_said TooLong = outcomes.TooLong
 -- the request for a module, at its path in the folder of modules; there is none for a name that is not UTF-8
 abbrev pub module_request : List ℕ → List ℕ → FetchOutcome → List Request
 module_request folder name outcome =
-    if is_utf8 name then record { name = module_path folder name; limit = longest_module_file; outcome = outcome } ∷ [] else []
+    if is_utf8 name then record { name = path_in folder name; limit = longest_module_file; outcome = outcome } ∷ [] else []
 
 -- the request of a step that needs this file; if it needs none, there is no request
 abbrev pub step_request : List ℕ → Option (List ℕ) → FetchOutcome → List Request

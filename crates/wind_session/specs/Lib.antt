@@ -7,6 +7,7 @@ pub mod Laws
 pub mod Live
 pub mod Modules
 pub mod Outside
+pub mod Paths
 pub mod Pieces
 pub mod Plan
 pub mod Program

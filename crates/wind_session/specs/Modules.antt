@@ -1,11 +1,12 @@
 -- What a folder says of the files that a run needs.
-use Rattle.std.specs.Prelude.{◌≡◌, ℕ, ◌<◌, Bool, true, false, List, ◌∷◌, ◌++◌, Option, Some}
+use Rattle.std.specs.Prelude.{◌≡◌, ℕ, ◌<◌, Bool, true, false, List, Option, Some}
 use Rattle.std.specs.Str.{is_utf8}
 use Rattle.wind_outside.specs.Files.{Files}
 use Rattle.board_player.specs.Said.{FileSaid, Missing, said_by}
 use Rattle.board_player.specs.MachineState.{State}
 use Rattle.board_player.specs.Machine.{file_asked}
 use Rattle.board_player.specs.Run.{Answers, after}
+use Rattle.wind_session.specs.Paths.{path_in}
 use Rattle.wind_session.specs.Plan.{IsEntry}
 
 -- the folder of modules: its files, which it may leave untold, and the name that the arguments give it
@@ -13,17 +14,13 @@ pub record Shelf : Type 0 where
   pub files : Option Files
   pub name : List ℕ
 
--- the path of a module: the name of its folder, `/`, and its own
-abbrev pub module_path : List ℕ → List ℕ → List ℕ
-module_path folder name = folder ++ 47 ∷ name
-
 -- what is said of a module is what the file at its path is; for a name that is not UTF-8 there is no file
 abbrev pub IsSaidBy : Bool → Option Files → List ℕ → FileSaid → Type 0
 IsSaidBy true files path said = (file : Option (List ℕ)) × IsEntry files path file × (said ≡ said_by file)
 IsSaidBy false files path said = said ≡ Missing
 
 abbrev pub IsSaidOf : Shelf → List ℕ → FileSaid → Type 0
-IsSaidOf shelf name said = IsSaidBy (is_utf8 name) shelf.files (module_path shelf.name name) said
+IsSaidOf shelf name said = IsSaidBy (is_utf8 name) shelf.files (path_in shelf.name name) said
 
 -- the same of the file that the next step needs, if it needs one
 abbrev pub IsSaid : Shelf → State → FileSaid → Type 0

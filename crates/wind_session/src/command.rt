@@ -215,8 +215,10 @@ pub fn matches_of<'a>(
     words: &'a [&'a str],
 ) -> Result<ArgMatches<'a>, CommandErr>
     requires { is_simple_and_free (app_of app.old) ≡ true }
-    ensures ok { IfOk result (λ m. rows_given (app_of app.old) (map (λ w. w.now) words.now) ≡ Some (rows_of (found_of m))) }
-    ensures err { IfErr result (λ e. e ≢ errors.NoMemory → rows_given (app_of app.old) (map (λ w. w.now) words.now) ≡ None) }
+    ensures ok { IfOk result (λ m. rows_given (app_of app.old) (map (λ w. w.now) words.now)
+        ≡ Some (rows_of (found_of m))) }
+    ensures err { IfErr result (λ e. e ≢ errors.NoMemory → rows_given (app_of app.old) (map (λ w. w.now) words.now)
+        ≡ None) }
 {
     match app.try_get_matches_from_mut(words) {
         Ok(matches) => Ok(matches),

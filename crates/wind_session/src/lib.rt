@@ -6,6 +6,8 @@ mod command;
 mod ending;
 mod laws;
 mod modules;
+mod opening;
+mod paths;
 mod playing;
 mod program;
 mod report;
@@ -20,6 +22,8 @@ pub use command::{
 pub use ending::{Ending, Stand, Status, Which};
 pub use laws::{growing_law, words_law};
 pub use modules::step;
+pub use opening::OpeningDevices;
+pub use paths::path_in;
 pub use playing::{Inputs, inputs_of, play, status_of};
 pub use program::play_program;
 pub use report::{put_pieces, tell, tell_no_memory, tell_usage};

@@ -1,36 +1,25 @@
 //! The steps of a run, with the module files that they need.
 
-ghost use Rattle.std.specs.Prelude.{◌≡◌, ◌+◌, ◌<◌, ◌≤◌, true, Some, IfOk, IfErr, OnOk, OnErr, string_bytes};
+ghost use Rattle.std.specs.Prelude.{◌≡◌, ◌+◌, ◌<◌, ◌≤◌, true, Some, IfOk, IfErr, OnOk, OnErr};
 ghost use Rattle.wind_base.specs.Limits.{most_steps};
 ghost use Rattle.wind_outside.specs.Counts.{Rose};
 ghost use Rattle.board_player.specs.Said.{FileSaid, said_of};
 ghost use Rattle.board_player.specs.Machine.{file_asked, machine_step};
 ghost use Rattle.board_player.specs.Seen.{seen};
-ghost use Rattle.wind_session.specs.Modules.{IsSaid, IsSaidOf, module_path as module_path_lem};
+ghost use Rattle.wind_session.specs.Keeping.{KeepsFolder};
+ghost use Rattle.wind_session.specs.Modules.{IsSaid, IsSaidOf};
 ghost use Rattle.wind_outside.specs.Requests.{GrowsBy};
 ghost use Rattle.wind_session.specs.Fetches.{Stops, module_request, outcome_said, step_request};
 ghost use Rattle.wind_session.specs.Runs.{IsHalt, is_given_up};
 ghost use Rattle.wind_session.specs.declared.run.RunEnd.TheVariants as ends;
 
+use crate::paths::path_in;
 use crate::run::RunEnd;
 use board_player::{Board, FileAnswer, Step};
 use std::alloc::Global;
 use wind_base::limits::MODULE_FILE_BYTES;
 use wind_base::{Name, NoMemory};
 use wind_outside::{Device, Fetched, Folder};
-
-// The path of a module.
-fn module_path(alloc: Global, modules: &str, name: &str) -> Result<String, NoMemory>
-    ensures { IfOk result (λ path. string_bytes path ≡ module_path_lem modules.now name.now) }
-{
-    let Ok(mut path) = modules.to_string(alloc) else {
-        return Err(NoMemory);
-    };
-    if path.push_str("/").is_err() || path.push_str(name).is_err() {
-        return Err(NoMemory);
-    }
-    Ok(path)
-}
 
 // What the folder says of the module with this name; the error says why nothing is known of it.
 fn fetched_module<F: Folder>(
@@ -47,13 +36,12 @@ fn fetched_module<F: Folder>(
     ensures stops { IfErr result (λ end. Stops end modules.now (Some name.now)
         (F.requests folder.old) (F.requests folder.new)) }
     ensures fault { IfErr result (λ end. end ≡ ends.ReadFault → Rose (F.faults folder.old) (F.faults folder.new)) }
-    ensures files { F.files folder.new ≡ F.files folder.old }
-    ensures faults { F.faults folder.old ≤ F.faults folder.new }
+    ensures keeps { KeepsFolder (F.files folder.old) (F.files folder.new) (F.faults folder.old) (F.faults folder.new) }
 {
     let Ok(name) = str::from_utf8(name.bytes()) else {
         return Ok(FileAnswer::NoFile);
     };
-    let Ok(path) = module_path(alloc, modules, name) else {
+    let Ok(path) = path_in(alloc, modules, name) else {
         return Err(RunEnd::NoMemory);
     };
     match folder.fetch(alloc, &path, MODULE_FILE_BYTES) {
@@ -90,13 +78,9 @@ fn load_step<F: Folder>(
     ensures fault { IfErr result (λ end. end ≡ ends.ReadFault → Rose (F.faults folder.old) (F.faults folder.new)) }
     ensures unchanged { OnErr result (seen ⟦<dyn Device as Device>⟧ board.new
         ≡ seen ⟦<dyn Device as Device>⟧ board.old) }
-    ensures files { F.files folder.new ≡ F.files folder.old }
-    ensures faults { F.faults folder.old ≤ F.faults folder.new }
+    ensures keeps { KeepsFolder (F.files folder.old) (F.files folder.new) (F.faults folder.old) (F.faults folder.new) }
 {
-    let file = match fetched_module(alloc, folder, modules, name) {
-        Ok(file) => file,
-        Err(end) => return Err(end),
-    };
+    let file = fetched_module(alloc, folder, modules, name)?;
     match board.step_load(name, &file) {
         Ok(()) => Ok(()),
         Err(NoMemory) => Err(RunEnd::NoMemory),
@@ -120,7 +104,8 @@ pub fn step<F: Folder>(
 ) -> Result<(), RunEnd>
     requires { (seen ⟦<dyn Device as Device>⟧ board.old).steps < most_steps }
     ensures made { OnOk result ((said : FileSaid)
-        × IsSaid (record { files = F.files folder.old; name = modules.now }) (seen ⟦<dyn Device as Device>⟧ board.old) said
+        × IsSaid (record { files = F.files folder.old; name = modules.now })
+        (seen ⟦<dyn Device as Device>⟧ board.old) said
         × (machine_step said (seen ⟦<dyn Device as Device>⟧ board.old) ≡ Some (seen ⟦<dyn Device as Device>⟧ board.new))
         × GrowsBy (F.requests folder.old) (F.requests folder.new)
         (step_request modules.now (file_asked (seen ⟦<dyn Device as Device>⟧ board.old)) (outcome_said said))) }
@@ -132,8 +117,7 @@ pub fn step<F: Folder>(
     ensures fault { IfErr result (λ end. end ≡ ends.ReadFault → Rose (F.faults folder.old) (F.faults folder.new)) }
     ensures unchanged { OnErr result (seen ⟦<dyn Device as Device>⟧ board.new
         ≡ seen ⟦<dyn Device as Device>⟧ board.old) }
-    ensures files { F.files folder.new ≡ F.files folder.old }
-    ensures faults { F.faults folder.old ≤ F.faults folder.new }
+    ensures keeps { KeepsFolder (F.files folder.old) (F.files folder.new) (F.faults folder.old) (F.faults folder.new) }
 {
     match board.step() {
         Step::Stepped => Ok(()),

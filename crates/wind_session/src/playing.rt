@@ -7,7 +7,7 @@ ghost use Rattle.board_player.specs.Seen.{seen};
 ghost use Rattle.generated_session.specs.Session.{most_rounds, summary_line};
 ghost use Rattle.wind_outside.specs.declared.folder.FetchOutcome.{FetchOutcome};
 ghost use Rattle.wind_outside.specs.declared.folder.FetchOutcome.TheVariants as outcomes;
-ghost use Rattle.wind_session.specs.{Keeping.KeepsFiles, Command.{command_of as command_of_lem}, Fetches.{LeadsTo, IsAfterFiles, EndsWithFiles, EndsWithRounds, FailsLast, file_requests, rounds_requests, text_request}, Outside.outside, Words.command_state, Plan.{Start, IsFilePlan, IsPlanOf, IsHeld, plan_ticks, generated_plan}, Headline.{Plays, IsRefusal, IsUnread, RefusesFiles, Refuses, IsComplete, IsKept, IsLeft, IsSummed, status_of as status_of_lem}, Runs.{is_given_up as is_given_up_lem}, Status.status_number, Texts.Tells};
+ghost use Rattle.wind_session.specs.{Keeping.{KeepsFiles, KeepsFolder}, Command.{command_of as command_of_lem}, Fetches.{LeadsTo, IsAfterFiles, EndsWithFiles, EndsWithRounds, FailsLast, file_requests, rounds_requests, text_request}, Outside.outside, Words.command_state, Plan.{Start, IsFilePlan, IsPlanOf, IsHeld, plan_ticks, generated_plan}, Headline.{Plays, IsRefusal, IsUnread, RefusesFiles, Refuses, IsComplete, IsKept, IsLeft, IsSummed, status_of as status_of_lem}, Runs.{is_given_up as is_given_up_lem}, Status.status_number, Texts.Tells};
 ghost use Rattle.wind_session.specs.declared.run.RunEnd.{RunEnd};
 ghost use Rattle.wind_session.specs.declared.run.RunEnd.TheVariants as ends;
 ghost use Rattle.wind_session.specs.declared.ending.Status.TheVariants as status;
@@ -63,14 +63,14 @@ fn fetched<F: Folder>(
     file: Which,
 ) -> Result<Vec<u8>, Status>
     ensures held { IfOk result (λ bytes. IsHeld (F.files folder.old) name.now bytes.items) }
-    ensures refused { IfErr result (λ s. IsUnread s file (F.files folder.old) name.now (Rose (F.faults folder.old) (F.faults folder.new))) }
+    ensures refused { IfErr result (λ s. IsUnread s file (F.files folder.old) name.now
+        (Rose (F.faults folder.old) (F.faults folder.new))) }
     ensures found { IfOk result (λ bytes. GrowsBy (F.requests folder.old) (F.requests folder.new)
         (text_request name.now outcomes.Found ∷ [])) }
     ensures unfound { IfErr result (λ s. (outcome : FetchOutcome) × LeadsTo file outcome s ⊥
         × GrowsBy (F.requests folder.old) (F.requests folder.new) (text_request name.now outcome ∷ [])) }
     ensures known { IfErr result (λ s. s ≢ status.Usage) }
-    ensures files { F.files folder.new ≡ F.files folder.old }
-    ensures faults { F.faults folder.old ≤ F.faults folder.new }
+    ensures keeps { KeepsFolder (F.files folder.old) (F.files folder.new) (F.faults folder.old) (F.faults folder.new) }
 {
     match folder.fetch(alloc, name, TEXT_FILE_BYTES) {
         Fetched::Found(bytes) => Ok(bytes),
@@ -107,14 +107,16 @@ pub struct Inputs {
 
 // Reads the two files of a command; the error says why they can't be played.
 fn files_of<F: Folder>(alloc: Global, command: &Command, folder: &mut F) -> Result<Inputs, Status>
-    ensures start { IfOk result (λ inputs. IsFilePlan (F.files folder.old) (command_state command.now) (Start inputs.console.items inputs.schedule)) }
-    ensures refused { IfErr result (λ s. RefusesFiles s (F.files folder.old) (command_state command.now) (Rose (F.faults folder.old) (F.faults folder.new))) }
+    ensures start { IfOk result (λ inputs. IsFilePlan (F.files folder.old) (command_state command.now)
+        (Start inputs.console.items inputs.schedule)) }
+    ensures refused { IfErr result (λ s. RefusesFiles s (F.files folder.old) (command_state command.now)
+        (Rose (F.faults folder.old) (F.faults folder.new))) }
     ensures found { IfOk result (λ inputs. GrowsBy (F.requests folder.old) (F.requests folder.new)
         (file_requests (command_state command.now) outcomes.Found outcomes.Found)) }
-    ensures without_run { IfErr result (λ s. EndsWithFiles (command_state command.now) s (F.requests folder.old) (F.requests folder.new)) }
+    ensures without_run { IfErr result (λ s. EndsWithFiles (command_state command.now) s
+        (F.requests folder.old) (F.requests folder.new)) }
     ensures known { IfErr result (λ s. s ≢ status.Usage) }
-    ensures files { F.files folder.new ≡ F.files folder.old }
-    ensures faults { F.faults folder.old ≤ F.faults folder.new }
+    ensures keeps { KeepsFolder (F.files folder.old) (F.files folder.new) (F.faults folder.old) (F.faults folder.new) }
 {
     let console = fetched(alloc, folder, command.console, Which::Console)?;
     let ticks = fetched(alloc, folder, command.ticks, Which::Ticks)?;
@@ -139,16 +141,17 @@ pub fn inputs_of<F: Folder>(
     folder: &mut F,
 ) -> Result<Inputs, Status>
     requires { command.now.generate ≤ most_rounds }
-    ensures start { IfOk result (λ inputs. IsPlanOf command.now.generate (F.files folder.old) (command_state command.now) (Start inputs.console.items inputs.schedule)) }
-    ensures refused { IfErr result (λ s. Refuses s (F.files folder.old) (command_state command.now) (Rose (F.faults folder.old) (F.faults folder.new))) }
+    ensures start { IfOk result (λ inputs. IsPlanOf command.now.generate (F.files folder.old)
+        (command_state command.now) (Start inputs.console.items inputs.schedule)) }
+    ensures refused { IfErr result (λ s. Refuses s (F.files folder.old) (command_state command.now)
+        (Rose (F.faults folder.old) (F.faults folder.new))) }
     ensures found { IfOk result (λ inputs. GrowsBy (F.requests folder.old) (F.requests folder.new)
         (rounds_requests command.now.generate (command_state command.now))) }
     ensures without_run { IfErr result (λ s. EndsWithRounds command.now.generate (command_state command.now) s
         (F.requests folder.old) (F.requests folder.new)) }
     ensures unasked { command.now.generate ≢ 0 → F.requests folder.new ≡ F.requests folder.old }
     ensures known { IfErr result (λ s. s ≢ status.Usage) }
-    ensures files { F.files folder.new ≡ F.files folder.old }
-    ensures faults { F.faults folder.old ≤ F.faults folder.new }
+    ensures keeps { KeepsFolder (F.files folder.old) (F.files folder.new) (F.faults folder.old) (F.faults folder.new) }
 {
     if command.generate == 0 {
         return files_of(alloc, command, folder);
@@ -227,10 +230,13 @@ fn session<F: Folder, O: Sink>(
     requires devices { length devices.items ≤ most_slots }
     requires limit { command.now.limit ≤ most_steps }
     requires rounds { command.now.generate ≤ most_rounds }
-    ensures machine { Plays (seen ⟦<dyn Device as Device>⟧) result (Some (command_state command.now)) (F.files folder.old) (Rose (F.faults folder.old) (F.faults folder.new)) devices (slots_of kind_of words_of devices.items)
+    ensures machine { Plays (seen ⟦<dyn Device as Device>⟧) result (Some (command_state command.now))
+        (F.files folder.old) (Rose (F.faults folder.old) (F.faults folder.new))
+        devices (slots_of kind_of words_of devices.items)
         (outside (F.requests folder.old) (O.bytes out.old) (O.pieces out.old))
         (outside (F.requests folder.new) (O.bytes out.new) (O.pieces out.new)) }
-    ensures complete { IsComplete result.status (Some (command_state command.now)) (F.files folder.old) (Rose (F.faults folder.old) (F.faults folder.new)) (Rose (O.faults out.old) (O.faults out.new)) }
+    ensures complete { IsComplete result.status (Some (command_state command.now)) (F.files folder.old)
+        (Rose (F.faults folder.old) (F.faults folder.new)) (Rose (O.faults out.old) (O.faults out.new)) }
     ensures known { result.status ≢ status.Usage }
     ensures fails_last { FailsLast result.status (F.requests folder.old) (F.requests folder.new) }
     ensures kept { IsKept (seen ⟦<dyn Device as Device>⟧) result.stand }
@@ -270,20 +276,24 @@ pub fn play<'a, F: Folder, O: Sink, E: Sink>(
     devices: Slots,
 ) -> Ending
     requires { length devices.items ≤ most_slots }
-    ensures machine { Plays (seen ⟦<dyn Device as Device>⟧) result (command_of_lem (map (λ w. w.now) words.now)) (F.files folder.old) (Rose (F.faults folder.old) (F.faults folder.new)) devices (slots_of kind_of words_of devices.items)
+    ensures machine { Plays (seen ⟦<dyn Device as Device>⟧) result (command_of_lem (map (λ w. w.now) words.now))
+        (F.files folder.old) (Rose (F.faults folder.old) (F.faults folder.new))
+        devices (slots_of kind_of words_of devices.items)
         (outside (F.requests folder.old) (O.bytes out.old) (O.pieces out.old))
         (outside (F.requests folder.new) (O.bytes out.new) (O.pieces out.new)) }
     ensures usage { result.status ≢ status.NoMemory →
         ((result.status ≡ status.Usage) ↔ (command_of_lem (map (λ w. w.now) words.now)
         ≡ None)) }
-    ensures complete { IsComplete result.status (command_of_lem (map (λ w. w.now) words.now)) (F.files folder.old) (Rose (F.faults folder.old) (F.faults folder.new)) (Rose (O.faults out.old) (O.faults out.new)) }
+    ensures complete { IsComplete result.status (command_of_lem (map (λ w. w.now) words.now)) (F.files folder.old)
+        (Rose (F.faults folder.old) (F.faults folder.new)) (Rose (O.faults out.old) (O.faults out.new)) }
     ensures fails_last { FailsLast result.status (F.requests folder.old) (F.requests folder.new) }
     ensures kept { IsKept (seen ⟦<dyn Device as Device>⟧) result.stand }
     ensures read_fault { result.status ≡ status.ReadFault → Rose (F.faults folder.old) (F.faults folder.new) }
     ensures write_fault { result.status ≡ status.WriteFault → Rose (O.faults out.old) (O.faults out.new) }
     ensures keeps { KeepsFiles ⟦<F as Folder>⟧ ⟦<O as Sink>⟧ folder.old out.old folder.new out.new }
     ensures err_faults { E.faults err.old ≤ E.faults err.new }
-    ensures err { Tells (codes "windplay") result.status (command_of_lem (map (λ w. w.now) words.now)) (E.bytes err.old) (E.bytes err.new) (Rose (E.faults err.old) (E.faults err.new)) }
+    ensures err { Tells (codes "windplay") result.status (command_of_lem (map (λ w. w.now) words.now))
+        (E.bytes err.old) (E.bytes err.new) (Rose (E.faults err.old) (E.faults err.new)) }
 {
     let command = match command_of(alloc, words) {
         Ok(command) => command,

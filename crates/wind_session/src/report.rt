@@ -15,7 +15,8 @@ use wind_outside::{Put, Sink};
 
 // Puts a text piece by piece, or a prefix of it.
 fn print<E: Sink>(err: &mut E, pieces: &[&[u8]])
-    ensures printed { IsPrinted (E.bytes err.old) (E.bytes err.new) (concat (map (λ p. p.now) pieces.now)) (Rose (E.faults err.old) (E.faults err.new)) }
+    ensures printed { IsPrinted (E.bytes err.old) (E.bytes err.new)
+        (concat (map (λ p. p.now) pieces.now)) (Rose (E.faults err.old) (E.faults err.new)) }
     ensures faults { E.faults err.old ≤ E.faults err.new }
 {
     match put_all(err, pieces) {
@@ -26,7 +27,8 @@ fn print<E: Sink>(err: &mut E, pieces: &[&[u8]])
 
 /// Puts a text of three pieces, or a prefix of it.
 pub fn put_pieces<E: Sink>(err: &mut E, first: &[u8], second: &[u8], third: &[u8])
-    ensures printed { IsPrinted (E.bytes err.old) (E.bytes err.new) (first.now ++ second.now ++ third.now) (Rose (E.faults err.old) (E.faults err.new)) }
+    ensures printed { IsPrinted (E.bytes err.old) (E.bytes err.new)
+        (first.now ++ second.now ++ third.now) (Rose (E.faults err.old) (E.faults err.new)) }
     ensures faults { E.faults err.old ≤ E.faults err.new }
 {
     print(err, &[first, second, third]);
@@ -34,7 +36,8 @@ pub fn put_pieces<E: Sink>(err: &mut E, first: &[u8], second: &[u8], third: &[u8
 
 /// Reports why the arguments give no command.
 pub fn tell_usage<E: Sink>(err: &mut E, text: &str)
-    ensures printed { IsPrinted (E.bytes err.old) (E.bytes err.new) text.now (Rose (E.faults err.old) (E.faults err.new)) }
+    ensures printed { IsPrinted (E.bytes err.old) (E.bytes err.new)
+        text.now (Rose (E.faults err.old) (E.faults err.new)) }
     ensures faults { E.faults err.old ≤ E.faults err.new }
 {
     put_pieces(err, text.as_bytes(), b"", b"");
@@ -42,7 +45,8 @@ pub fn tell_usage<E: Sink>(err: &mut E, text: &str)
 
 // Puts a line of three pieces after the program's name, or a prefix of it.
 fn print_line<E: Sink>(program: &str, err: &mut E, first: &[u8], second: &[u8], third: &[u8])
-    ensures printed { IsPrinted (E.bytes err.old) (E.bytes err.new) (line_text program.now (first.now ++ second.now ++ third.now)) (Rose (E.faults err.old) (E.faults err.new)) }
+    ensures printed { IsPrinted (E.bytes err.old) (E.bytes err.new)
+        (line_text program.now (first.now ++ second.now ++ third.now)) (Rose (E.faults err.old) (E.faults err.new)) }
     ensures faults { E.faults err.old ≤ E.faults err.new }
 {
     print(err, &[program.as_bytes(), b": ", first, second, third]);
@@ -50,7 +54,8 @@ fn print_line<E: Sink>(program: &str, err: &mut E, first: &[u8], second: &[u8], 
 
 /// Reports that host memory ran out.
 pub fn tell_no_memory<E: Sink>(program: &str, err: &mut E)
-    ensures printed { IsPrinted (E.bytes err.old) (E.bytes err.new) (memory_text program.now) (Rose (E.faults err.old) (E.faults err.new)) }
+    ensures printed { IsPrinted (E.bytes err.old) (E.bytes err.new)
+        (memory_text program.now) (Rose (E.faults err.old) (E.faults err.new)) }
     ensures faults { E.faults err.old ≤ E.faults err.new }
 {
     print_line(program, err, b"out of memory\n", b"", b"");
@@ -58,7 +63,9 @@ pub fn tell_no_memory<E: Sink>(program: &str, err: &mut E)
 
 // Reports that a line of the tick file with this name is invalid.
 fn tell_bad_line<E: Sink>(program: &str, err: &mut E, name: &[u8], line: u64)
-    ensures printed { IsPrinted (E.bytes err.old) (E.bytes err.new) (line_text program.now (name.now ++ codes ": line " ++ decimal line ++ codes " is not understood\n")) (Rose (E.faults err.old) (E.faults err.new)) }
+    ensures printed { IsPrinted (E.bytes err.old) (E.bytes err.new)
+        (line_text program.now (name.now ++ codes ": line " ++ decimal line ++ codes " is not understood\n"))
+        (Rose (E.faults err.old) (E.faults err.new)) }
     ensures faults { E.faults err.old ≤ E.faults err.new }
 {
     let mut digits = Buffer::new();
@@ -90,7 +97,8 @@ fn name_of<'a>(command: &Command<'a>, file: Which) -> &'a [u8]
 /// end is not reported. With a command, the status is never `Usage`.
 #[tactic(auto, unfolding(crate::specs::Texts::status_text))]
 pub fn tell<E: Sink>(program: &str, err: &mut E, command: &Command, status: Status)
-    ensures printed { IsPrinted (E.bytes err.old) (E.bytes err.new) (status_text program.now (command_state command.now) status) (Rose (E.faults err.old) (E.faults err.new)) }
+    ensures printed { IsPrinted (E.bytes err.old) (E.bytes err.new)
+        (status_text program.now (command_state command.now) status) (Rose (E.faults err.old) (E.faults err.new)) }
     ensures faults { E.faults err.old ≤ E.faults err.new }
 {
     match status {

@@ -5,7 +5,7 @@ ghost use Rattle.wind_base.specs.Limits.{most_steps};
 ghost use Rattle.wind_outside.specs.{Counts.Rose, Appending.{Appended, AppendedPrefix}, Requests.GrowsBy};
 ghost use Rattle.wind_outside.specs.declared.sink.Put.TheVariants as puts;
 ghost use Rattle.board_player.specs.Seen.{seen};
-ghost use Rattle.wind_session.specs.{Keeping.KeepsFiles, Outside.outside, Pieces.output_piece, Runs.{Ran, Counted}};
+ghost use Rattle.wind_session.specs.{Keeping.{KeepsFiles, KeepsFolder}, Outside.outside, Pieces.output_piece, Runs.{Ran, Counted}};
 ghost use Rattle.wind_session.specs.declared.run.RunEnd.TheVariants as ends;
 
 use crate::modules::step;
@@ -92,8 +92,7 @@ pub fn count_board<F: Folder>(
         (seen ⟦<dyn Device as Device>⟧ board.old) limit result.bytes (seen ⟦<dyn Device as Device>⟧ board.new)
         (F.requests folder.old) (F.requests folder.new) }
     ensures read_fault { result.end ≡ ends.ReadFault → Rose (F.faults folder.old) (F.faults folder.new) }
-    ensures files { F.files folder.new ≡ F.files folder.old }
-    ensures folder_faults { F.faults folder.old ≤ F.faults folder.new }
+    ensures keeps { KeepsFolder (F.files folder.old) (F.files folder.new) (F.faults folder.old) (F.faults folder.new) }
 {
     silent_law();
     let mut bytes = 0;

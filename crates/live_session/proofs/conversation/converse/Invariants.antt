@@ -1,5 +1,5 @@
 use Rattle.std.proofs.Common.{◌≤◌}
-use Rattle.live_session.specs.Around.{around}
+use Rattle.wind_session.specs.Keeping.{around}
 use Rattle.live_session.specs.Saving.{WritesOnly}
 use Rattle.live_session.specs.Seen.{live_by, Runs}
 use Rattle.live_session.proofs.Typing.{Typing}

@@ -15,5 +15,5 @@ returns-clause-runs g c = record {
   quiet = c.resume_board.ensures.quiet;
   read_fault = c.resume_board.ensures.read_fault;
   write_fault = c.resume_board.ensures.fault;
-  keeps = record { same_files = c.resume_board.ensures.keeps.0; folder_keeps = c.resume_board.ensures.keeps.1; sink_keeps = c.resume_board.ensures.keeps.2 };
+  keeps = c.resume_board.ensures.keeps;
 }

@@ -1,7 +1,7 @@
 use Rattle.std.proofs.Common.{◌≡◌, ◌≢◌, ◌∙◌, ℕ, List, [], ◌∷◌, Option, arith, eqb, eqb-true, false, inr, length, rules, subst, sym}
 use Rattle.std.proofs.lemmas.List.{nil_from_length}
 use Rattle.wind_outside.specs.Files.{Files}
-use Rattle.live_session.specs.Around.{around}
+use Rattle.wind_session.specs.Keeping.{around}
 use Rattle.wind_session.proofs.AppendingLemmas.{rose_earlier}
 use Rattle.live_session.specs.Saving.{WritesOnly}
 use Rattle.live_session.specs.Words.{command_state}

@@ -40,4 +40,4 @@ returns-in_err-observer-in-Timeline-clause-given_up g c =
     rw (p.1, c.in-Timeline.is) (untold _ _ _ _ _ _ _ _ (begun _ _ c.args.limit _ c.requires.fresh))
 
 pub returns-in-Timeline-clause-fault : goal.returns-in-Timeline-clause-fault
-returns-in-Timeline-clause-fault g c = λ e. rose_earlier _ _ _ c.in_ok-end-in-Timeline.ensures.keeps.2 c.put_text-end.ensures.faults (c.put_text-end.ensures.fault (not_lost _ _ _ _ _ _ _ _ c.in_ok-end-in-Timeline.ensures.told) e)
+returns-in-Timeline-clause-fault g c = λ e. rose_earlier _ _ _ c.in_ok-end-in-Timeline.ensures.keeps.1 c.put_text-end.ensures.faults (c.put_text-end.ensures.fault (not_lost _ _ _ _ _ _ _ _ c.in_ok-end-in-Timeline.ensures.told) e)

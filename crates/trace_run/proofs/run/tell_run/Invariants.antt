@@ -1,6 +1,7 @@
-use Rattle.std.proofs.Common.{◌≡◌, ◌-◌, ◌≤◌}
+use Rattle.std.proofs.Common.{◌-◌}
 use Rattle.wind_machine.specs.Run.{Answers}
 use Rattle.wind_session.specs.BoardSeen.{board_by}
+use Rattle.wind_session.specs.Keeping.{KeepsFiles}
 use Rattle.wind_session.proofs.RunLemmas.{After}
 use Rattle.trace_run.proofs.run.tell_run.Given as goal
 
@@ -14,9 +15,7 @@ invariant-loop-made g l =
       run : After (record { files = g.F.Folder.files l.fn.folder; name = l.modules }) said start l.limit l.made (state l.board) (g.F.Folder.requests l.fn.folder) (g.F.Folder.requests l.folder);
       told : g.T.Teller.tells l.teller (g.O.Sink.bytes l.fn.out) (g.O.Sink.bytes l.out) said start l.made;
       ready : g.T.Teller.ready l.teller (state l.board);
-      files : g.F.Folder.files l.folder ≡ g.F.Folder.files l.fn.folder;
-      folder_faults : g.F.Folder.faults l.fn.folder ≤ g.F.Folder.faults l.folder;
-      faults : g.O.Sink.faults l.fn.out ≤ g.O.Sink.faults l.out;
+      keeps : KeepsFiles g.F.Folder g.O.Sink l.fn.folder l.fn.out l.folder l.out;
     }
 
 abbrev pub decreases-loop-made : goal.decreases-loop-made

@@ -27,7 +27,7 @@ returns-clause-machine g c =
             left_after (rounds_requests session.generate (command_state session)) outside_now (g.F.Folder.requests c.inputs_of.new.folder) c.in-Ok.ensures.found
             c.args.command.now.form c.play_board-outcome.result.spans c.play_board-outcome.result.status _ _ session.modules.now _ _ _ _
             (outside (g.F.Folder.requests c.play_board-outcome.new.folder) (g.O.Sink.bytes c.play_board-outcome.new.out) (g.O.Sink.pieces c.play_board-outcome.new.out))
-            c.inputs_of.ensures.files c.in-Ok-boot.ensures.ok c.play_board-outcome.ensures.left;
+            c.inputs_of.ensures.keeps.0 c.in-Ok-boot.ensures.ok c.play_board-outcome.ensures.left;
       };
     }
 
@@ -55,7 +55,7 @@ returns-clause-complete g c =
     (command_state c.args.command.now.session) (g.F.Folder.files c.args.folder.now)
     (Rose (g.F.Folder.faults c.args.folder.now) (g.F.Folder.faults c.play_board-outcome.new.folder))
     (Rose (g.O.Sink.faults c.args.out.now) (g.O.Sink.faults c.play_board-outcome.new.out))
-    (λ e. rose_earlier _ _ _ c.inputs_of.ensures.faults c.play_board-outcome.ensures.keeps.1 (c.play_board-outcome.ensures.read_fault e))
+    (λ e. rose_earlier _ _ _ c.inputs_of.ensures.keeps.1 c.play_board-outcome.ensures.keeps.0.1 (c.play_board-outcome.ensures.read_fault e))
     c.play_board-outcome.ensures.fault c.play_board-outcome.ensures.left
 
 -- the arguments were a command

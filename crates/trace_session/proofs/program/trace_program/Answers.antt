@@ -1,17 +1,9 @@
-use Rattle.std.proofs.Common.{subst}
 use Rattle.std.specs.Prelude.{codes}
-use Rattle.wind_outside.specs.Counts.{Rose}
-use Rattle.wind_session.specs.Texts.{IsPrinted, memory_text}
 use Rattle.wind_session.proofs.ProgramLemmas.{out_of_memory}
 use Rattle.trace_session.proofs.ProgramLemmas.{session_unmade}
 use Rattle.trace_session.proofs.program.trace_program.Goals as goal
 
 -- memory ran out for the devices
-pub returns-in-Err : goal.returns-in-Err
-returns-in-Err g c =
-    let after = g.E.Sink.bytes c.tell_no_memory.new.err in
-    let faults = g.E.Sink.faults c.tell_no_memory.new.err in
-    let text = memory_text (codes "windtrace") in
-    out_of_memory (codes "windtrace") _ _ _ _ _ _ c.number-in-Err.ensures (session_unmade _ _ _ _ _ _ c.in-Err.ensures.unchanged)
-    (subst (λ b. IsPrinted b after text (Rose (g.E.Sink.faults c.args.err.now) faults)) c.in-Err.ensures.unprinted
-    (subst (λ n. IsPrinted (g.E.Sink.bytes c.trace_with_devices.new.err) after text (Rose n faults)) c.in-Err.ensures.unfailed c.tell_no_memory.ensures.printed))
+pub returns-in_default : goal.returns-in_default
+returns-in_default g c =
+    out_of_memory (codes "windtrace") _ _ _ _ _ _ c.number.ensures (session_unmade _ _ _ _ _) c.tell_no_memory.ensures.printed

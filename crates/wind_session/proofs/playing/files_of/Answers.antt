@@ -22,8 +22,8 @@ returns-in_err-ticks-clause-refused g c =
     (refuses_ticks (g.F.Folder.files c.args.folder.now) (command_state c.args.command.now) c.in_ok-console.console.items c.in_ok-console.ensures.held c.in_err-ticks.field-0.0
     (Rose (g.F.Folder.faults c.fetched.new.folder) (g.F.Folder.faults c.fetched-2.new.folder))
     (Rose (g.F.Folder.faults c.args.folder.now) (g.F.Folder.faults c.fetched-2.new.folder))
-    (rose_earlier _ _ _ c.fetched.ensures.faults c.fetched-2.ensures.faults)
-    (rw c.fetched.ensures.files at c.in_err-ticks.ensures.refused))
+    (rose_earlier _ _ _ c.fetched.ensures.keeps.1 c.fetched-2.ensures.keeps.1)
+    (rw c.fetched.ensures.keeps.0 at c.in_err-ticks.ensures.refused))
 
 pub returns-in_err-schedule-clause-refused : goal.returns-in_err-schedule-clause-refused
 returns-in_err-schedule-clause-refused g c =
@@ -34,7 +34,7 @@ returns-in_err-schedule-clause-refused g c =
     c.in_ok-ticks.ticks.items
     (plan_ticks console c.deref.result.now)
     (Rose (g.F.Folder.faults c.args.folder.now) (g.F.Folder.faults c.fetched-2.new.folder))
-    (rw c.fetched.ensures.files at c.in_ok-ticks.ensures.held)
+    (rw c.fetched.ensures.keeps.0 at c.in_ok-ticks.ensures.held)
     (ap (plan_ticks console) c.deref.ensures.value)
     (c.in_err-schedule.ensures.refused console))
 

@@ -29,7 +29,7 @@ returns-clause-machine g c =
         planned = refl;
         left =
             left_after (rounds_requests n (command_state c.args.command.now)) outside_now (g.F.Folder.requests c.inputs_of.new.folder) c.in-Ok.ensures.found n c.played-status.result left.0 _ _ c.args.command.now.modules.now _ _ _ _ _
-            c.inputs_of.ensures.files c.in-Ok-boot.ensures.ok left.1;
+            c.inputs_of.ensures.keeps.0 c.in-Ok-boot.ensures.ok left.1;
       };
     }
 

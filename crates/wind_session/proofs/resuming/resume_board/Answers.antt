@@ -1,6 +1,7 @@
 use Rattle.std.proofs.Common.{◌+◌, ◌∙◌, ◌≤◌, subst, sym, arith, refl, ap}
 use Rattle.board_player.specs.MachineState.{State}
 use Rattle.board_player.specs.Extending.{IsRoom}
+use Rattle.wind_session.proofs.KeepingLemmas.{files_both, files_same}
 use Rattle.wind_session.proofs.Continuing.{resumed, burst_counted, burst_room, burst_on, step_on, cut_on, halted_on, limit_on}
 use Rattle.wind_session.proofs.RunLemmas.{halts_quiet}
 use Rattle.wind_session.proofs.resuming.resume_board.Goals as goal
@@ -12,9 +13,7 @@ loop-made-init g c = record {
   counted = omega arith;
   within = omega arith;
   room = λ time line h. h;
-  files = refl;
-  folder_faults = omega arith;
-  faults = omega arith;
+  keeps = files_same g.F.Folder g.O.Sink _ _;
 }
 
 -- a burst and a step were made, and what the step wrote was put
@@ -26,15 +25,13 @@ loop-made-preserved g c =
       run = λ start first ran.
           step_on _ start _ c.args.most _ _ first _
           (burst_on _ start _ c.args.most _ _ first _ (c.loop-made.invariant.run start first ran) c.silent_law.ensures c.burst-made.result few _ c.burst-made.ensures.made)
-          _ c.loop-made.invariant.files _ _ made (omega arith) c.in-Ok.ensures.counted _ _
+          _ c.loop-made.invariant.keeps.0.0 _ _ made (omega arith) c.in-Ok.ensures.counted _ _
           (rw c.output.ensures at c.in-Done.ensures.done refl) (rw c.output.ensures at c.in-Done.ensures.pieces);
       counted = omega (arith, c.in-Ok.ensures.counted, burst_counted c.silent_law.ensures _ _ c.burst-made.result c.burst-made.ensures.made, c.loop-made.invariant.counted);
       within = omega (arith, few);
       room = λ time line h.
           c.extend_law.ensures.room time line made.0 _ _ (burst_room c.silent_law.ensures time line _ _ c.burst-made.result c.burst-made.ensures.made (c.loop-made.invariant.room time line h)) made.2;
-      files = c.in-Ok.ensures.files ∙ c.loop-made.invariant.files;
-      folder_faults = omega (arith, c.in-Ok.ensures.faults, c.loop-made.invariant.folder_faults);
-      faults = omega (arith, c.put_some.ensures.never_falls, c.loop-made.invariant.faults);
+      keeps = files_both g.F.Folder g.O.Sink _ _ _ _ _ _ c.loop-made.invariant.keeps (c.in-Ok.ensures.keeps, c.put_some.ensures.never_falls);
     }
 
 -- after a burst the steps are still below the bound
@@ -76,7 +73,7 @@ pub returns-in-Failed-clause-ran : goal.returns-in-Failed-clause-ran
 returns-in-Failed-clause-ran g c = λ start first ran.
     let few : c.loop-made.made + c.burst-made.result ≤ c.args.most = omega (arith, c.burst-made.ensures.within) in
     cut_on _ start _ c.args.most _ _ first _ (burst_on _ start _ c.args.most _ _ first _ (c.loop-made.invariant.run start first ran) c.silent_law.ensures c.burst-made.result few _ c.burst-made.ensures.made)
-    _ c.loop-made.invariant.files _ _ c.in-Ok.ensures.made (omega arith) c.in-Ok.ensures.counted _ _
+    _ c.loop-made.invariant.keeps.0.0 _ _ c.in-Ok.ensures.made (omega arith) c.in-Ok.ensures.counted _ _
     (rw c.output.ensures at c.in-Failed.ensures.part refl)
     (λ e. c.in-Failed.ensures.some refl (c.output.ensures ∙ e))
     (rw c.output.ensures at c.in-Failed.ensures.pieces)

@@ -2,6 +2,7 @@ use Rattle.std.proofs.Common.{◌≡◌, ℕ, ◌+◌, ◌-◌, ◌≤◌}
 use Rattle.board_player.specs.Seen.{board_by}
 use Rattle.board_player.specs.MachineState.{State}
 use Rattle.board_player.specs.Extending.{IsRoom}
+use Rattle.wind_session.specs.Keeping.{KeepsFiles}
 use Rattle.wind_session.specs.Modules.{Shelf}
 use Rattle.wind_session.specs.Outside.{Outside, outside}
 use Rattle.wind_session.specs.Runs.{Ran}
@@ -19,9 +20,7 @@ invariant-loop-made g l =
       counted : (state l.board).steps ≡ (state l.fn.board).steps + l.made;
       within : l.made ≤ l.most;
       room : (time line : ℕ) → IsRoom time line (state l.fn.board) → IsRoom time line (state l.board);
-      files : g.F.Folder.files l.folder ≡ g.F.Folder.files l.fn.folder;
-      folder_faults : g.F.Folder.faults l.fn.folder ≤ g.F.Folder.faults l.folder;
-      faults : g.O.Sink.faults l.fn.out ≤ g.O.Sink.faults l.out;
+      keeps : KeepsFiles g.F.Folder g.O.Sink l.fn.folder l.fn.out l.folder l.out;
     }
 
 abbrev pub decreases-loop-made : goal.decreases-loop-made

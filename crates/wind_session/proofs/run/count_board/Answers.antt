@@ -1,5 +1,6 @@
 use Rattle.std.proofs.Common.{◌+◌, ◌∙◌, ap, arith, refl, length}
 use Rattle.wind_session.specs.Modules.{Shelf}
+use Rattle.wind_session.proofs.KeepingLemmas.{folder_both, folder_same}
 use Rattle.wind_session.proofs.Saying.{saying}
 use Rattle.wind_session.proofs.RunLemmas.{nothing_said, begun, further, bytes_on, halted, not_cut, at_limit}
 use Rattle.wind_session.proofs.Bursts.{runs_on, as_written}
@@ -12,8 +13,7 @@ loop-made-init g c = record {
   run = begun _ _ c.args.limit _ c.requires.fresh;
   bytes = refl;
   small = omega arith;
-  files = refl;
-  folder_faults = omega arith;
+  keeps = folder_same _ _;
 }
 
 -- a burst and a step were made, and what the step wrote was counted
@@ -24,11 +24,10 @@ loop-made-preserved g c =
     let run = runs_on c.silent_law.ensures shelf _ _ _ _ _ _ _ c.loop-made.invariant.run c.burst-made.result (omega (arith, c.burst-made.ensures.within)) _ c.burst-made.ensures.made in
     record {
       said = saying c.loop-made.invariant.said (c.loop-made.made + c.burst-made.result) made.0;
-      run = further shelf _ _ _ _ _ _ _ run _ c.loop-made.invariant.files _ _ made (omega arith) c.in-Ok.ensures.counted;
-      bytes = ap (λ written. c.loop-made.bytes + length written) c.output.ensures ∙ bytes_on shelf _ _ _ _ _ _ _ run _ c.loop-made.invariant.files _ _ made c.loop-made.bytes (c.loop-made.invariant.bytes ∙ ap length (as_written c.silent_law.ensures shelf _ _ _ _ _ _ _ c.loop-made.invariant.run _ _ c.burst-made.ensures.made));
+      run = further shelf _ _ _ _ _ _ _ run _ c.loop-made.invariant.keeps.0 _ _ made (omega arith) c.in-Ok.ensures.counted;
+      bytes = ap (λ written. c.loop-made.bytes + length written) c.output.ensures ∙ bytes_on shelf _ _ _ _ _ _ _ run _ c.loop-made.invariant.keeps.0 _ _ made c.loop-made.bytes (c.loop-made.invariant.bytes ∙ ap length (as_written c.silent_law.ensures shelf _ _ _ _ _ _ _ c.loop-made.invariant.run _ _ c.burst-made.ensures.made));
       small = omega (arith, c.loop-made.invariant.small);
-      files = c.in-Ok.ensures.files ∙ c.loop-made.invariant.files;
-      folder_faults = omega (arith, c.in-Ok.ensures.faults, c.loop-made.invariant.folder_faults);
+      keeps = folder_both _ _ _ _ _ _ c.loop-made.invariant.keeps c.in-Ok.ensures.keeps;
     }
 
 -- after a burst the steps are still below the bound

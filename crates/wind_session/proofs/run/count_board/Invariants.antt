@@ -1,6 +1,7 @@
 use Rattle.std.proofs.Common.{◌≡◌, ◌-◌, ◌≤◌, ◌*◌, ◌^◌, length}
 use Rattle.board_player.specs.Run.{Answers, text}
 use Rattle.board_player.specs.Seen.{board_by}
+use Rattle.wind_session.specs.Keeping.{KeepsFolder}
 use Rattle.wind_session.proofs.RunLemmas.{After}
 use Rattle.wind_session.proofs.run.count_board.Given as goal
 
@@ -14,8 +15,7 @@ invariant-loop-made g l =
       run : After (record { files = g.F.Folder.files l.fn.folder; name = l.modules }) said start l.limit l.made (state l.board) (g.F.Folder.requests l.fn.folder) (g.F.Folder.requests l.folder);
       bytes : l.bytes ≡ length (text said start l.made);
       small : l.bytes ≤ l.made * 2 ^ 64;
-      files : g.F.Folder.files l.folder ≡ g.F.Folder.files l.fn.folder;
-      folder_faults : g.F.Folder.faults l.fn.folder ≤ g.F.Folder.faults l.folder;
+      keeps : KeepsFolder (g.F.Folder.files l.fn.folder) (g.F.Folder.files l.folder) (g.F.Folder.faults l.fn.folder) (g.F.Folder.faults l.folder);
     }
 
 abbrev pub decreases-loop-made : goal.decreases-loop-made
