@@ -81,7 +81,8 @@ fn put_label<'a>(
 }
 
 fn define<'a>(names: &mut Names<'a>, label: &Option<Word<'a>>) -> Result<(), AllocError>
-    ensures { OnOk result ((all labelled global : List (List ℕ)) → AreNames names.old all labelled global → AreNames names.new (all ++ label_names label.now) (labelled ++ label_names label.now) global) }
+    ensures { OnOk result ((all labelled global : List (List ℕ)) → AreNames names.old all labelled global
+        → AreNames names.new (all ++ label_names label.now) (labelled ++ label_names label.now) global) }
 {
     match label {
         Some(name) => {
@@ -164,7 +165,8 @@ fn cause_in_item(draft: &Draft, item: &Item) -> Option<Cause>
 }
 
 fn is_defined_twice(names: &Names, label: &Option<Word>) -> bool
-    ensures { (ps : List Placed) (all global : List (List ℕ)) → AreNames names.now all (defined ps) global → result ≡ is_twice ps label.now }
+    ensures { (ps : List Placed) (all global : List (List ℕ)) → AreNames names.now all (defined ps) global
+        → result ≡ is_twice ps label.now }
 {
     match label {
         Some(name) => names.labelled.has(name.bytes()),
@@ -176,7 +178,8 @@ fn is_defined_twice(names: &Names, label: &Option<Word>) -> bool
 fn put<'a>(draft: &mut Draft<'a>, line: &Line<'a>) -> Result<(), AllocError>
     requires small { IsSmall draft.old }
     requires word { is_bad_word_lem line.now.item ≡ false }
-    ensures { OnOk result ((ps : List Placed) → IsDraft draft.old ps → IsDraft draft.new (ps ++ next ps line.now ∷ [])) }
+    ensures { OnOk result ((ps : List Placed) → IsDraft draft.old ps
+        → IsDraft draft.new (ps ++ next ps line.now ∷ [])) }
 {
     let offset = size(draft) as u32;
     put_label(&mut draft.labels, &line.label, draft.place, offset)?;
@@ -197,7 +200,8 @@ fn put<'a>(draft: &mut Draft<'a>, line: &Line<'a>) -> Result<(), AllocError>
 fn add<'a>(draft: &mut Draft<'a>, line: &Line<'a>) -> Result<Option<Cause>, AllocError>
     requires { IsSmall draft.old }
     ensures cause { IfOk result (λ cause. (ps : List Placed) → IsDraft draft.old ps → cause ≡ cause_of ps line.now) }
-    ensures added { IfOk result (λ cause. cause ≡ None → (ps : List Placed) → IsDraft draft.old ps → IsDraft draft.new (ps ++ next ps line.now ∷ [])) }
+    ensures added { IfOk result (λ cause. cause ≡ None → (ps : List Placed) → IsDraft draft.old ps
+        → IsDraft draft.new (ps ++ next ps line.now ∷ [])) }
     ensures small { IfOk result (λ cause. cause ≡ None → IsSmall draft.new) }
 {
     let cause = cause_in_item(draft, &line.item);
@@ -224,8 +228,10 @@ fn judge<'a>(
 ) -> Result<(), AsmErr>
     requires { IsSmall draft.old }
     ensures small { OnOk result (IsSmall draft.new) }
-    ensures good { OnOk result ((ps : List Placed) → IsDraft draft.old ps → (qs : List Placed) × IsDraft draft.new qs × ((ls : List (Option Line)) → judged ps number (line_of bytes.now ∷ ls) ≡ judged qs (number + 1) ls)) }
-    ensures bad { IfErr result (λ error. (ps : List Placed) → IsDraft draft.old ps → (ls : List (Option Line)) → Tells (judged ps number (line_of bytes.now ∷ ls)) error) }
+    ensures good { OnOk result ((ps : List Placed) → IsDraft draft.old ps → (qs : List Placed) × IsDraft draft.new qs
+        × ((ls : List (Option Line)) → judged ps number (line_of bytes.now ∷ ls) ≡ judged qs (number + 1) ls)) }
+    ensures bad { IfErr result (λ error. (ps : List Placed) → IsDraft draft.old ps → (ls : List (Option Line))
+        → Tells (judged ps number (line_of bytes.now ∷ ls)) error) }
 {
     let Ok(line) = parse(alloc, bytes) else {
         return Err(AsmErr::NoMemory);
@@ -245,7 +251,8 @@ fn judge<'a>(
 /// Makes the draft of a source text. The error is the first refused line, counted from 1, with its first cause, or that
 /// host memory ran out.
 pub fn draft_of<'a>(alloc: Global, text: &'a [u8]) -> Result<Draft<'a>, AsmErr>
-    ensures good { IfOk result (λ draft. (ps : List Placed) × IsDraft draft ps × IsSmall draft × (items text.now ≡ Ok ps)) }
+    ensures good { IfOk result (λ draft. (ps : List Placed) × IsDraft draft ps × IsSmall draft
+        × (items text.now ≡ Ok ps)) }
     ensures bad { IfErr result (Tells (items text.now)) }
 {
     let mut draft = new_draft(alloc);

@@ -41,7 +41,8 @@ impl<'a> NameMap<'a> {
 
     /// Gives a name this number, in place of any number that it had. The error is that host memory ran out.
     pub fn set(&mut self, name: &'a [u8], number: u32) -> Result<(), AllocError>
-        ensures { OnOk result ((q : List ℕ) → number_at self.new q ≡ (if bytes_eq name.now q then Some number else number_at self.old q)) }
+        ensures { OnOk result ((q : List ℕ) → number_at self.new q
+            ≡ (if bytes_eq name.now q then Some number else number_at self.old q)) }
     {
         match self.kept.insert(name, number) {
             Ok(_) => Ok(()),

@@ -52,7 +52,8 @@ impl<'a> Names<'a> {
 
     /// Adds a name. The error of this function and of those below is that host memory ran out.
     pub fn mention(&mut self, name: &Word<'a>) -> Result<(), AllocError>
-        ensures { OnOk result ((all labelled global : List (List ℕ)) → AreNames self.old all labelled global → AreNames self.new (all ++ name.now ∷ []) labelled global) }
+        ensures { OnOk result ((all labelled global : List (List ℕ)) → AreNames self.old all labelled global
+            → AreNames self.new (all ++ name.now ∷ []) labelled global) }
     {
         if self.mentioned.has(name.bytes()) {
             return Ok(());
@@ -64,7 +65,8 @@ impl<'a> Names<'a> {
 
     /// Adds a name, and makes it global.
     pub fn make_global(&mut self, name: &Word<'a>) -> Result<(), AllocError>
-        ensures { OnOk result ((all labelled global : List (List ℕ)) → AreNames self.old all labelled global → AreNames self.new (all ++ name.now ∷ []) labelled (global ++ name.now ∷ [])) }
+        ensures { OnOk result ((all labelled global : List (List ℕ)) → AreNames self.old all labelled global
+            → AreNames self.new (all ++ name.now ∷ []) labelled (global ++ name.now ∷ [])) }
     {
         self.mention(name)?;
         self.global.set(name.bytes(), 0)?;
@@ -73,7 +75,8 @@ impl<'a> Names<'a> {
 
     /// Adds a name, and makes it a label.
     pub fn define(&mut self, name: &Word<'a>) -> Result<(), AllocError>
-        ensures { OnOk result ((all labelled global : List (List ℕ)) → AreNames self.old all labelled global → AreNames self.new (all ++ name.now ∷ []) (labelled ++ name.now ∷ []) global) }
+        ensures { OnOk result ((all labelled global : List (List ℕ)) → AreNames self.old all labelled global
+            → AreNames self.new (all ++ name.now ∷ []) (labelled ++ name.now ∷ []) global) }
     {
         self.mention(name)?;
         self.labelled.set(name.bytes(), 0)?;
@@ -81,7 +84,8 @@ impl<'a> Names<'a> {
     }
 
     fn mention_value(&mut self, value: &Value<'a>) -> Result<(), AllocError>
-        ensures { OnOk result ((all labelled global : List (List ℕ)) → AreNames self.old all labelled global → AreNames self.new (all ++ value_names value.now) labelled global) }
+        ensures { OnOk result ((all labelled global : List (List ℕ)) → AreNames self.old all labelled global
+            → AreNames self.new (all ++ value_names value.now) labelled global) }
     {
         match value {
             Value::Number(_) => Ok(()),
@@ -93,7 +97,8 @@ impl<'a> Names<'a> {
     }
 
     fn mention_values(&mut self, values: &[Value<'a>]) -> Result<(), AllocError>
-        ensures { OnOk result ((all labelled global : List (List ℕ)) → AreNames self.old all labelled global → AreNames self.new (all ++ flat_map value_names values.now) labelled global) }
+        ensures { OnOk result ((all labelled global : List (List ℕ)) → AreNames self.old all labelled global
+            → AreNames self.new (all ++ flat_map value_names values.now) labelled global) }
     {
         for value in values {
             self.mention_value(value)?;
@@ -102,7 +107,8 @@ impl<'a> Names<'a> {
     }
 
     fn mention_reference(&mut self, reference: &Option<Reference<'a>>) -> Result<(), AllocError>
-        ensures { OnOk result ((all labelled global : List (List ℕ)) → AreNames self.old all labelled global → AreNames self.new (all ++ reference_names reference.now) labelled global) }
+        ensures { OnOk result ((all labelled global : List (List ℕ)) → AreNames self.old all labelled global
+            → AreNames self.new (all ++ reference_names reference.now) labelled global) }
     {
         match reference {
             Some(reference) => {
@@ -116,7 +122,8 @@ impl<'a> Names<'a> {
     /// Adds the names that an item mentions, and makes the name of a `.globl` global.
     #[tactic(auto, unfolding(crate::specs::Names::item_names))]
     pub fn mention_item(&mut self, item: &Item<'a>) -> Result<(), AllocError>
-        ensures { OnOk result ((all labelled global : List (List ℕ)) → AreNames self.old all labelled global → AreNames self.new (all ++ item_names item.now) labelled (global ++ global_names item.now)) }
+        ensures { OnOk result ((all labelled global : List (List ℕ)) → AreNames self.old all labelled global
+            → AreNames self.new (all ++ item_names item.now) labelled (global ++ global_names item.now)) }
     {
         match item {
             Item::Global(name) => {

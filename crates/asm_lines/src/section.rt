@@ -118,7 +118,8 @@ fn put_fix<'a>(
 
 fn put_value<'a>(section: &mut Section<'a>, value: &Value<'a>) -> Result<(), AllocError>
     ensures bytes { OnOk result (section.new.bytes.items ≡ section.old.bytes.items ++ value_bytes value.now) }
-    ensures fixes { OnOk result (section.new.fixes.items ≡ section.old.fixes.items ++ value_fixes (length section.old.bytes.items) (value.now ∷ [])) }
+    ensures fixes { OnOk result (section.new.fixes.items ≡ section.old.fixes.items
+        ++ value_fixes (length section.old.bytes.items) (value.now ∷ [])) }
 {
     match value {
         Value::Number(word) => put_word(&mut section.bytes, *word),
@@ -132,7 +133,8 @@ fn put_value<'a>(section: &mut Section<'a>, value: &Value<'a>) -> Result<(), All
 
 fn put_values<'a>(section: &mut Section<'a>, values: &[Value<'a>]) -> Result<(), AllocError>
     ensures bytes { OnOk result (section.new.bytes.items ≡ section.old.bytes.items ++ flat_map value_bytes values.now) }
-    ensures fixes { OnOk result (section.new.fixes.items ≡ section.old.fixes.items ++ value_fixes (length section.old.bytes.items) values.now) }
+    ensures fixes { OnOk result (section.new.fixes.items ≡ section.old.fixes.items
+        ++ value_fixes (length section.old.bytes.items) values.now) }
 {
     for value in values {
         put_value(section, value)?;
@@ -157,7 +159,8 @@ fn put_reference<'a>(
     reference: &Option<Reference<'a>>,
 ) -> Result<(), AllocError>
     ensures bytes { section.new.bytes.items ≡ section.old.bytes.items }
-    ensures fixes { OnOk result (section.new.fixes.items ≡ section.old.fixes.items ++ reference_fixes (length section.old.bytes.items) reference.now) }
+    ensures fixes { OnOk result (section.new.fixes.items ≡ section.old.fixes.items
+        ++ reference_fixes (length section.old.bytes.items) reference.now) }
 {
     let Some(reference) = reference else {
         return Ok(());
@@ -168,8 +171,10 @@ fn put_reference<'a>(
 
 fn put_instruction<'a>(section: &mut Section<'a>, insn: &Instruction<'a>) -> Result<(), AllocError>
     requires { IsTrue (are_fields insn.now.row insn.now.fields) }
-    ensures bytes { OnOk result (section.new.bytes.items ≡ section.old.bytes.items ++ bytes_high_first 4 (word_with insn.now.row insn.now.fields)) }
-    ensures fixes { OnOk result (section.new.fixes.items ≡ section.old.fixes.items ++ reference_fixes (length section.old.bytes.items) insn.now.reference) }
+    ensures bytes { OnOk result (section.new.bytes.items ≡ section.old.bytes.items
+        ++ bytes_high_first 4 (word_with insn.now.row insn.now.fields)) }
+    ensures fixes { OnOk result (section.new.fixes.items ≡ section.old.fixes.items
+        ++ reference_fixes (length section.old.bytes.items) insn.now.reference) }
 {
     put_reference(section, &insn.reference)?;
     let Some(insn) = insn_of(insn.row, insn.fields) else {
@@ -190,8 +195,10 @@ fn put_padding(out: &mut Vec<u8>, align: u32) -> Result<(), AllocError>
 #[tactic(auto, unfolding(crate::specs::Items::item_bytes, crate::specs::Names::item_fixes))]
 pub fn put_item<'a>(section: &mut Section<'a>, item: &Item<'a>) -> Result<(), AllocError>
     requires { is_bad_word item.now ≡ false }
-    ensures bytes { OnOk result (section.new.bytes.items ≡ section.old.bytes.items ++ item_bytes (length section.old.bytes.items) item.now) }
-    ensures fixes { OnOk result (section.new.fixes.items ≡ section.old.fixes.items ++ item_fixes (length section.old.bytes.items) item.now) }
+    ensures bytes { OnOk result (section.new.bytes.items ≡ section.old.bytes.items
+        ++ item_bytes (length section.old.bytes.items) item.now) }
+    ensures fixes { OnOk result (section.new.fixes.items ≡ section.old.fixes.items
+        ++ item_fixes (length section.old.bytes.items) item.now) }
 {
     match item {
         Item::Nothing | Item::Text | Item::Data | Item::Global(_) => Ok(()),

@@ -14,7 +14,7 @@ use Rattle.board_mem.specs.Memory.{number_at, read}
 use Rattle.board_bus.specs.Access.{board_meaning, fetched}
 use Rattle.kernel_world.specs.State.{WorldState}
 use Rattle.kernel_world.specs.Starting.{no_regs}
-use Rattle.kernel_world.specs.Actors.{regs_of as found_regs}
+use Rattle.kernel_world.specs.Actors.{found_regs}
 use Rattle.kernel_world.specs.declared.actor.Actor.{Actor}
 use Rattle.wind_machine.specs.Processor.{bus_of, regs_of}
 use Rattle.wind_machine.proofs.Executing.{IfDone, executing_lasts, sizes_last}

@@ -12,7 +12,7 @@ use Rattle.board_bus.specs.BusState.{BusState}
 use Rattle.board_bus.specs.Access.{board_meaning}
 use Rattle.kernel_world.specs.State.{WorldState}
 use Rattle.kernel_world.specs.Starting.{no_regs}
-use Rattle.kernel_world.specs.Actors.{Acts, regs_of as found_regs}
+use Rattle.kernel_world.specs.Actors.{Acts, found_regs}
 use Rattle.kernel_world.specs.declared.actor.Actor.{Actor}
 use Rattle.kernel_world.specs.declared.actor.Actor.TheVariants.{Task, Interrupt}
 use Rattle.wind_machine.specs.Part.{with_kern}

@@ -53,10 +53,7 @@ impl Feed {
         ensures ok { OnOk result (self.new ≡ self.old ++ bytes.now) }
         ensures err { OnErr result (self.new ≡ self.old) }
     {
-        match self.file.extend_from_slice(bytes) {
-            Ok(()) => Ok(()),
-            Err(_) => Err(NoMemory),
-        }
+        Ok(self.file.extend_from_slice(bytes)?)
     }
 
     /// Removes the last `n` bytes.

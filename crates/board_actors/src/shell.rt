@@ -272,7 +272,8 @@ fn begin_first(
 fn go(eval: &mut Eval, world: &mut World) -> Result<Went, NoMemory>
     requires pool { world.old.part.end ≤ length world.old.bus.ram.bytes }
     requires waits { holes eval.old ≡ 0 }
-    ensures went { IfOk result (λ went. ComesTo (eval_state (world_seen ⟦<dyn Device as Device>⟧ world.old)) eval.old went
+    ensures went { IfOk result (λ went. ComesTo
+        (eval_state (world_seen ⟦<dyn Device as Device>⟧ world.old)) eval.old went
         (eval_state (world_seen ⟦<dyn Device as Device>⟧ world.new)) eval.new) }
     ensures rest { with_eval (world_seen ⟦<dyn Device as Device>⟧ world.old)
         (eval_state (world_seen ⟦<dyn Device as Device>⟧ world.new)) ≡ world_seen ⟦<dyn Device as Device>⟧ world.new }

@@ -57,13 +57,9 @@ impl Pages {
         ensures { IfOk result (λ p. p ≡ unmade size) }
     {
         let count = (size as usize + (PAGE - 1)) / PAGE;
-        let Ok(index) = vec![in alloc; 0; count] else {
-            return Err(NoMemory);
-        };
+        let index = vec![in alloc; 0; count]?;
         let mut store = Vec::with_capacity(alloc, count * PAGE + PAGE)?;
-        let Ok(()) = store.resize(PAGE, 0) else {
-            return Err(NoMemory);
-        };
+        store.resize(PAGE, 0)?;
         Ok(Pages { size, index, store })
     }
 

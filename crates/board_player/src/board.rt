@@ -119,9 +119,11 @@ impl Board {
         ensures slots { result ≡ steps.Stepped → (i : ℕ) → StepsSlot (seen ⟦<dyn Device as Device>⟧ self.old)
             (seen ⟦<dyn Device as Device>⟧ self.new) i }
         ensures quiet { (result ≡ steps.Quiet) ↔ IsOver (seen ⟦<dyn Device as Device>⟧ self.old) }
-        ensures file { IfSome (needed result) (λ name. file_asked (seen ⟦<dyn Device as Device>⟧ self.old) ≡ Some name) }
+        ensures file { IfSome (needed result)
+            (λ name. file_asked (seen ⟦<dyn Device as Device>⟧ self.old) ≡ Some name) }
         ensures unasked { result ≡ steps.Stepped → file_asked (seen ⟦<dyn Device as Device>⟧ self.old) ≡ None }
-        ensures no_memory { result ≡ steps.NoMemory → may_exhaust_memory (seen ⟦<dyn Device as Device>⟧ self.old) ≡ true }
+        ensures no_memory { result ≡ steps.NoMemory
+            → may_exhaust_memory (seen ⟦<dyn Device as Device>⟧ self.old) ≡ true }
         ensures unchanged { result ≢ steps.Stepped → seen ⟦<dyn Device as Device>⟧ self.new
             ≡ seen ⟦<dyn Device as Device>⟧ self.old }
     {

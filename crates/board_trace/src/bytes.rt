@@ -25,10 +25,8 @@ impl Bytes {
     pub fn copied(alloc: Global, bytes: &[u8]) -> Result<Bytes, NoMemory>
         ensures { IfOk result (λ b. b ≡ bytes.now) }
     {
-        match bytes.to_vec(alloc) {
-            Ok(kept) => Ok(Bytes { kept }),
-            Err(_) => Err(NoMemory),
-        }
+        let kept = bytes.to_vec(alloc)?;
+        Ok(Bytes { kept })
     }
 
     /// The bytes.

@@ -1,5 +1,8 @@
 //! Why a file is refused.
 
+ghost use Rattle.std.specs.Prelude.{◌≡◌};
+
+use std::alloc::AllocError;
 use thiserror::Error;
 
 /// Why a file is refused. The number is the offset in the file, in bytes, of the field, header or
@@ -33,4 +36,14 @@ pub enum ElfErr {
     /// Host memory ran out.
     #[error("out of memory")]
     NoMemory,
+}
+
+impl From<AllocError> for ElfErr {
+    ghost use Rattle.elf_read.specs.declared.error.ElfErr.TheVariants.{NoMemory};
+
+    ghost from_gives = { λ _ e. e ≡ NoMemory };
+
+    fn from(_: AllocError) -> ElfErr {
+        ElfErr::NoMemory
+    }
 }

@@ -126,10 +126,7 @@ pub fn read_outline(alloc: Global, bytes: &[u8]) -> Result<Outline, ElfErr>
     ensures refusal { IfErr result (FailsRightly bytes.now) }
 {
     check(bytes)?;
-    let Ok(o) = gather_outline(alloc, bytes) else {
-        return Err(ElfErr::NoMemory);
-    };
-    Ok(o)
+    Ok(gather_outline(alloc, bytes)?)
 }
 
 /// Reads the module of a file, given its outline.
@@ -139,10 +136,7 @@ pub fn fill(alloc: Global, bytes: &[u8], outline: Outline) -> Result<Module, NoM
     ensures { IfOk result (λ m. m ≡ module_at bytes.now) }
 {
     let numbers = section_numbers(alloc, bytes)?;
-    match complete(alloc, bytes, &numbers, outline.symbols) {
-        Ok(m) => Ok(m),
-        Err(_) => Err(NoMemory),
-    }
+    Ok(complete(alloc, bytes, &numbers, outline.symbols)?)
 }
 
 /// The shape of a section in memory.

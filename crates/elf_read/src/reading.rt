@@ -280,8 +280,5 @@ pub fn read(alloc: Global, bytes: &[u8]) -> Result<Module, ElfErr>
     ensures refusal { IfErr result (FailsRightly bytes.now) }
 {
     check(bytes)?;
-    let Ok(m) = read_module(alloc, bytes) else {
-        return Err(ElfErr::NoMemory);
-    };
-    Ok(m)
+    Ok(read_module(alloc, bytes)?)
 }

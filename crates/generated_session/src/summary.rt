@@ -28,8 +28,10 @@ pub struct Summary {
 
 /// Puts pieces, and stops at the first that fails.
 pub fn put_all<O: Sink>(out: &mut O, pieces: &[&[u8]]) -> Put
-    ensures done { result ≡ puts.Done → Appended (O.bytes out.old) (O.bytes out.new) (concat (map (λ p. p.now) pieces.now)) }
-    ensures part { result ≡ puts.Failed → AppendedPrefix (O.bytes out.old) (O.bytes out.new) (concat (map (λ p. p.now) pieces.now)) }
+    ensures done { result ≡ puts.Done
+        → Appended (O.bytes out.old) (O.bytes out.new) (concat (map (λ p. p.now) pieces.now)) }
+    ensures part { result ≡ puts.Failed
+        → AppendedPrefix (O.bytes out.old) (O.bytes out.new) (concat (map (λ p. p.now) pieces.now)) }
     ensures failed { result ≡ puts.Failed → Rose (O.faults out.old) (O.faults out.new) }
     ensures never_falls { O.faults out.old ≤ O.faults out.new }
 {

@@ -49,12 +49,8 @@ impl<T> Table<T> {
         ensures { IfOk result (λ t. t ≡ record { rows = []; room = n }) }
     {
         let room = n as usize;
-        let Ok(order) = Vec::with_capacity(alloc, room) else {
-            return Err(NoMemory)
-        };
-        let Ok(slots) = Slab::with_capacity(alloc, room) else {
-            return Err(NoMemory)
-        };
+        let order = Vec::with_capacity(alloc, room)?;
+        let slots = Slab::with_capacity(alloc, room)?;
         Ok(Table {
             room,
             recent: 0,

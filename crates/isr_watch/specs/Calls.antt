@@ -71,8 +71,8 @@ abbrev pub routine_gate : ℕ
 routine_gate = gates_start + 2 * gate_bytes
 
 -- a routine begins with its parameter in r3, its stack below the top of the interrupt stack, and returns to its gate
-abbrev pub regs_of : ℕ → Routine → Regs
-regs_of top x = record {
+abbrev pub routine_regs : ℕ → Routine → Regs
+routine_regs top x = record {
   gpr = slice_set (slice_set (replicate 32 0) 1 (top - frame_bytes)) 3 x.param;
   cr = 0;
   xer = 0;
@@ -85,7 +85,7 @@ regs_of top x = record {
 -- the first listed routine becomes active, and the others stay listed
 abbrev pub level_of : ℕ → List Routine → Option Regs
 level_of top [] = None
-level_of top (x ∷ xs) = Some (regs_of top x)
+level_of top (x ∷ xs) = Some (routine_regs top x)
 
 -- the routines that stay listed
 abbrev pub rest_of : List Routine → List Routine

@@ -9,7 +9,7 @@ ghost use Rattle.isr_watch.specs.State.{first_due as first_due_lem, due_watchdog
 ghost use Rattle.isr_watch.specs.Calls.{stop_due, level_of, rest_of};
 ghost use Rattle.isr_watch.specs.Inside.{SameIds, alarm_of as alarm_of_lem};
 
-use crate::watchdog::{Alarm, Routine, Watchdog, alarm_of, better_due, regs_of};
+use crate::watchdog::{Alarm, Routine, Watchdog, alarm_of, better_due, routine_regs};
 use id_table::Table;
 use std::collections::VecDeque;
 use wind_base::Regs;
@@ -70,5 +70,5 @@ pub(crate) fn next_level(listed: &mut VecDeque<Routine>, top: u32) -> Option<Reg
     ensures capacity { deque_capacity listed.new ≡ deque_capacity listed.old }
 {
     let routine = listed.pop_front()?;
-    Some(regs_of(top, routine))
+    Some(routine_regs(top, routine))
 }

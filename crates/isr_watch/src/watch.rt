@@ -50,8 +50,10 @@ fn add_watchdog(watchdogs: &mut Table<Watchdog>, ids: &mut IdSource) -> Result<I
     requires home { ids.old.lent ≡ false }
     requires below { IdsBelow ids.old.next watchdogs.old.rows }
     requires room { watchdogs.old.room ≡ 256 }
-    ensures ok { IfOk result (λ id. (create_refusal (length watchdogs.old.rows) ids.old.next ≡ None) × (id ≡ ids.old.next)
-        × (ids.new ≡ one_given ids.old) × (watchdogs.new ≡ added watchdogs.old ids.old.next (new_watchdog_lem ids.old.next))) }
+    ensures ok { IfOk result (λ id. (create_refusal (length watchdogs.old.rows) ids.old.next ≡ None)
+        × (id ≡ ids.old.next)
+        × (ids.new ≡ one_given ids.old)
+        × (watchdogs.new ≡ added watchdogs.old ids.old.next (new_watchdog_lem ids.old.next))) }
     ensures err { IfErr result (λ e. (create_refusal (length watchdogs.old.rows) ids.old.next ≡ Some e)
         × (ids.new ≡ ids.old) × (watchdogs.new ≡ watchdogs.old)) }
 {
@@ -70,9 +72,7 @@ impl Watch {
         ensures { IfOk result (λ w. w ≡ record { watchdogs = []; level = None; listed = []; next_start = 0 }) }
     {
         let watchdogs = Table::reserved(alloc, WATCHDOGS)?;
-        let Ok(listed) = VecDeque::with_capacity(alloc, WATCHDOGS as usize) else {
-            return Err(NoMemory);
-        };
+        let listed = VecDeque::with_capacity(alloc, WATCHDOGS as usize)?;
         Ok(Watch {
             watchdogs,
             level: None,

@@ -4,7 +4,7 @@ ghost use Rattle.std.specs.Prelude.{◌≡◌, ◌<◌, ◌≤◌, ◌^◌, opti
 ghost use Rattle.wind_base.specs.Limits.{frame_bytes};
 ghost use Rattle.wind_lists.specs.Sorting.{pick};
 ghost use Rattle.isr_watch.specs.State.{is_due as is_due_lem, starts_before, start_of as start_of_lem};
-ghost use Rattle.isr_watch.specs.Calls.{new_watchdog, regs_of, started, stopped};
+ghost use Rattle.isr_watch.specs.Calls.{new_watchdog, routine_regs, started, stopped};
 ghost use Rattle.isr_watch.specs.Inside.{alarm_of as alarm_of_lem};
 
 use id_table::Ident;
@@ -106,9 +106,9 @@ pub(crate) fn alarm_of(watchdog: &Watchdog) -> Alarm
 }
 
 // The registers with which a routine begins.
-pub(crate) fn regs_of(top: u32, routine: Routine) -> Regs
+pub(crate) fn routine_regs(top: u32, routine: Routine) -> Regs
     requires { frame_bytes ≤ top }
-    ensures { result ≡ regs_of top routine }
+    ensures { result ≡ routine_regs top routine }
 {
     let mut gpr = [0; 32];
     gpr[1] = top - FRAME_BYTES;

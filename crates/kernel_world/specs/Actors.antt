@@ -41,13 +41,13 @@ target k (Task who) id = if id == 0 then Some who else live_id k.tasks id
 target k Interrupt id = live_id k.tasks id
 
 -- the caller's registers, if there is such a caller
-abbrev pub regs_of : KernState → Option Regs → Actor → Option Regs
-regs_of k level (Task who) = option_map (λ t. t.regs) (task_of k.tasks who)
-regs_of k level Interrupt = level
+abbrev pub found_regs : KernState → Option Regs → Actor → Option Regs
+found_regs k level (Task who) = option_map (λ t. t.regs) (task_of k.tasks who)
+found_regs k level Interrupt = level
 
 -- the caller's registers; no register has a value if there is no such caller
 abbrev pub caller_regs : KernState → Option Regs → Actor → Regs
-caller_regs k level a = unwrap_or (regs_of k level a) no_regs
+caller_regs k level a = unwrap_or (found_regs k level a) no_regs
 
 -- the caller's registers r0 to r31
 abbrev pub caller_words : WorldState → Actor → List ℕ

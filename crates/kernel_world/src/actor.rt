@@ -2,7 +2,7 @@
 
 ghost use Rattle.std.specs.Prelude.{◌≡◌, ◌<◌, IfSome, option_copied};
 ghost use Rattle.wind_core.specs.State.{Lives};
-ghost use Rattle.kernel_world.specs.Actors.{is_shell as is_shell_lem, regs_of, caller_regs as caller_regs_lem, stack_word as stack_word_lem, Acts, target as target_lem};
+ghost use Rattle.kernel_world.specs.Actors.{is_shell as is_shell_lem, found_regs, caller_regs as caller_regs_lem, stack_word as stack_word_lem, Acts, target as target_lem};
 
 use crate::starting::no_regs;
 use board_mem::Ram;
@@ -31,8 +31,8 @@ pub fn is_shell(who: &Actor) -> bool
 }
 
 // The caller's registers. `None` if there is no such caller.
-pub(crate) fn regs<'a>(kern: &'a Kern, watch: &'a Watch, who: &Actor) -> Option<&'a Regs>
-    ensures { option_copied result ≡ regs_of kern.now watch.now.level who.now }
+pub(crate) fn found_regs<'a>(kern: &'a Kern, watch: &'a Watch, who: &Actor) -> Option<&'a Regs>
+    ensures { option_copied result ≡ found_regs kern.now watch.now.level who.now }
 {
     match who {
         Actor::Task(id) => match kern.task(*id) {
@@ -47,7 +47,7 @@ pub(crate) fn regs<'a>(kern: &'a Kern, watch: &'a Watch, who: &Actor) -> Option<
 pub fn caller_regs(kern: &Kern, watch: &Watch, who: &Actor) -> Regs
     ensures { result ≡ caller_regs_lem kern.now watch.now.level who.now }
 {
-    match regs(kern, watch, who) {
+    match found_regs(kern, watch, who) {
         Some(regs) => *regs,
         None => no_regs(),
     }

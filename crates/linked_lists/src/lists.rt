@@ -45,9 +45,7 @@ impl<T> Lists<T> {
             first: None,
             last: None,
         };
-        let Ok(ends) = vec![in alloc; empty; lists as usize] else {
-            return Err(NoMemory);
-        };
+        let ends = vec![in alloc; empty; lists as usize]?;
         let nodes = Slab::with_capacity(alloc, room)?;
         Ok(Lists { room, nodes, ends })
     }

@@ -9,7 +9,8 @@ pub(crate) fn with_entry<T: Drop>(
     log: Option<Vec<T>>,
     entry: Result<T, AllocError>,
 ) -> Option<Vec<T>>
-    ensures { IfSome result (λ grown. IsSomeAnd log (λ before. IsOkAnd entry (λ e. grown.items ≡ before.items ++ e ∷ []))) }
+    ensures { IfSome result (λ grown. IsSomeAnd log
+        (λ before. IsOkAnd entry (λ e. grown.items ≡ before.items ++ e ∷ []))) }
 {
     let Some(mut entries) = log else {
         return None;

@@ -100,7 +100,8 @@ fn push<'a>(symbols: &mut Symbols<'a>, name: &Word<'a>, symbol: Sym) -> Result<(
     requires name { symbol.name ≡ name.now }
     requires room { length symbols.old.list.items + 1 < 2 ^ 32 }
     ensures list { OnOk result (symbols.new.list.items ≡ symbols.old.list.items ++ symbol ∷ []) }
-    ensures numbers { OnOk result (Numbers symbols.old.numbers symbols.old.list.items → Numbers symbols.new.numbers symbols.new.list.items) }
+    ensures numbers { OnOk result (Numbers symbols.old.numbers symbols.old.list.items
+        → Numbers symbols.new.numbers symbols.new.list.items) }
 {
     symbols.list.push(symbol)?;
     if symbols.numbers.has(name.bytes()) {
@@ -136,9 +137,12 @@ fn push_labels<'a>(
 ) -> Result<(), AllocError>
     requires room { length symbols.old.list.items + length labels.now < 2 ^ 32 }
     requires short { All (λ l. length l.name ≤ longest_name) labels.now }
-    ensures list { OnOk result ((names : List (List ℕ)) → Has global.now names → symbols.new.list.items ≡ symbols.old.list.items ++ map (label_symbol_lem (binding_of binding)) (filter (is_chosen_lem names binding) labels.now)) }
+    ensures list { OnOk result ((names : List (List ℕ)) → Has global.now names
+        → symbols.new.list.items ≡ symbols.old.list.items
+        ++ map (label_symbol_lem (binding_of binding)) (filter (is_chosen_lem names binding) labels.now)) }
     ensures few { OnOk result (length symbols.new.list.items ≤ length symbols.old.list.items + length labels.now) }
-    ensures numbers { OnOk result (Numbers symbols.old.numbers symbols.old.list.items → Numbers symbols.new.numbers symbols.new.list.items) }
+    ensures numbers { OnOk result (Numbers symbols.old.numbers symbols.old.list.items
+        → Numbers symbols.new.numbers symbols.new.list.items) }
 {
     for label in labels {
         if is_chosen(global, label, binding) {
@@ -158,8 +162,11 @@ fn push_others<'a>(
 ) -> Result<(), AllocError>
     requires room { length symbols.old.list.items + length names.now < 2 ^ 32 }
     requires short { All (λ n. length n ≤ longest_name) names.now }
-    ensures list { OnOk result ((defined : List (List ℕ)) → Has labelled.now defined → symbols.new.list.items ≡ symbols.old.list.items ++ map undefined_symbol_lem (filter (is_undefined defined) names.now)) }
-    ensures numbers { OnOk result (Numbers symbols.old.numbers symbols.old.list.items → Numbers symbols.new.numbers symbols.new.list.items) }
+    ensures list { OnOk result ((defined : List (List ℕ)) → Has labelled.now defined
+        → symbols.new.list.items ≡ symbols.old.list.items
+        ++ map undefined_symbol_lem (filter (is_undefined defined) names.now)) }
+    ensures numbers { OnOk result (Numbers symbols.old.numbers symbols.old.list.items
+        → Numbers symbols.new.numbers symbols.new.list.items) }
 {
     for name in names {
         if !labelled.has(name.bytes()) {
@@ -173,7 +180,8 @@ fn push_others<'a>(
 fn symbols_of<'a>(alloc: Global, draft: &Draft<'a>) -> Result<Symbols<'a>, AllocError>
     requires small { IsSmall draft.now }
     requires fits { FitsModule draft.now }
-    ensures list { IfOk result (λ symbols. (ps : List Placed) → IsDraft draft.now ps → symbols.list.items ≡ symbols_lem ps) }
+    ensures list { IfOk result (λ symbols. (ps : List Placed) → IsDraft draft.now ps
+        → symbols.list.items ≡ symbols_lem ps) }
     ensures numbers { IfOk result (λ symbols. Numbers symbols.numbers symbols.list.items) }
 {
     let mut symbols = Symbols {
@@ -203,7 +211,8 @@ fn add_relocations(
     numbers: &NameMap,
 ) -> Result<(), AllocError>
     requires { All (λ f. f.offset < 2 ^ 32) fixes.now }
-    ensures { OnOk result ((ss : List Sym) → Numbers numbers.now ss → list.new.items ≡ list.old.items ++ map (relocation ss section) fixes.now) }
+    ensures { OnOk result ((ss : List Sym) → Numbers numbers.now ss
+        → list.new.items ≡ list.old.items ++ map (relocation ss section) fixes.now) }
 {
     for fix in fixes {
         list.push(Rel {

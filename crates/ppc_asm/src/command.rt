@@ -30,7 +30,8 @@ fn is_list(word: &str) -> bool
 }
 
 fn assemble_to<O: Sink>(alloc: Global, text: &[u8], out: &mut O) -> AsmStatus
-    ensures { Assembles (O.bytes out.old) (O.bytes out.new) (Rose (O.faults out.old) (O.faults out.new)) text.now result }
+    ensures { Assembles (O.bytes out.old) (O.bytes out.new)
+        (Rose (O.faults out.old) (O.faults out.new)) text.now result }
 {
     let module = match assemble(alloc, text) {
         Ok(module) => module,
@@ -66,7 +67,8 @@ fn list_to<O: Sink>(alloc: Global, bytes: &[u8], out: &mut O) -> AsmStatus
 // The bytes of a file, or the status with which the call ends without them.
 fn bytes_of<F: Folder>(alloc: Global, file: &str, folder: &mut F) -> Result<Vec<u8>, AsmStatus>
     ensures found { IfOk result (λ bytes. HasBytes (F.files folder.old) file.now bytes.items) }
-    ensures unread { IfErr result (Unread (F.files folder.old) file.now (Rose (F.faults folder.old) (F.faults folder.new))) }
+    ensures unread { IfErr result (Unread (F.files folder.old) file.now
+        (Rose (F.faults folder.old) (F.faults folder.new))) }
 {
     match folder.fetch(alloc, file, TEXT_FILE_BYTES) {
         Fetched::Found(bytes) => Ok(bytes),
@@ -109,7 +111,8 @@ pub fn ppcasm<F: Folder, O: Sink, E: Sink>(
     ensures lists { IfSome (to_list (map (λ w. w.now) words.now)) (λ file.
         ListsFile (F.files folder.old) file (Rose (F.faults folder.old) (F.faults folder.new))
         (O.bytes out.old) (O.bytes out.new) (Rose (O.faults out.old) (O.faults out.new)) result) }
-    ensures usage { (result ≡ ends.Usage) ↔ ((to_assemble (map (λ w. w.now) words.now) ≡ None) × (to_list (map (λ w. w.now) words.now) ≡ None)) }
+    ensures usage { (result ≡ ends.Usage)
+        ↔ ((to_assemble (map (λ w. w.now) words.now) ≡ None) × (to_list (map (λ w. w.now) words.now) ≡ None)) }
     ensures untouched { result ≡ ends.Usage → O.bytes out.new ≡ O.bytes out.old }
 {
     match words {

@@ -60,14 +60,16 @@ fn put_line(line: &mut OutBuf, offset: u64, word: u32)
 // The word in the first four bytes, high byte first.
 fn first_word(bytes: &[u8]) -> u32
     requires { 4 ≤ length bytes.now }
-    ensures { result ≡ from_be_bytes w32 (slice_index bytes.now 0 ∷ slice_index bytes.now 1 ∷ slice_index bytes.now 2 ∷ slice_index bytes.now 3 ∷ []) }
+    ensures { result ≡ from_be_bytes w32
+        (slice_index bytes.now 0 ∷ slice_index bytes.now 1 ∷ slice_index bytes.now 2 ∷ slice_index bytes.now 3 ∷ []) }
 {
     u32::from_be_bytes([bytes[0], bytes[1], bytes[2], bytes[3]])
 }
 
 fn list_bytes<O: Sink>(out: &mut O, line: &mut OutBuf, bytes: &[u8]) -> Put
     requires { 83 ≤ line.old.room + length line.old.bytes }
-    ensures put { PutsLines (lines_from 0 bytes.now) result (O.bytes out.old) (O.bytes out.new) (O.faults out.old) (O.faults out.new) }
+    ensures put { PutsLines (lines_from 0 bytes.now) result (O.bytes out.old) (O.bytes out.new)
+        (O.faults out.old) (O.faults out.new) }
     ensures space { KeepsSpace line.old line.new }
 {
     let mut left = bytes;
@@ -88,7 +90,8 @@ fn list_bytes<O: Sink>(out: &mut O, line: &mut OutBuf, bytes: &[u8]) -> Put
 #[tactic(auto, unfolding(crate::specs::Listing::section_lines))]
 fn list_section<O: Sink>(out: &mut O, line: &mut OutBuf, section: &Sect) -> Put
     requires { 83 ≤ line.old.room + length line.old.bytes }
-    ensures put { PutsLines (section_lines section.now) result (O.bytes out.old) (O.bytes out.new) (O.faults out.old) (O.faults out.new) }
+    ensures put { PutsLines (section_lines section.now) result (O.bytes out.old) (O.bytes out.new)
+        (O.faults out.old) (O.faults out.new) }
     ensures space { KeepsSpace line.old line.new }
 {
     if section.flags & EXECUTABLE == 0 {
@@ -105,7 +108,8 @@ fn list_section<O: Sink>(out: &mut O, line: &mut OutBuf, section: &Sect) -> Put
 #[tactic(auto, unfolding(crate::specs::Listing::listing))]
 pub(crate) fn list<O: Sink>(out: &mut O, line: &mut OutBuf, module: &Module) -> Put
     requires { 83 ≤ line.old.room + length line.old.bytes }
-    ensures { PutsLines (listing module.now) result (O.bytes out.old) (O.bytes out.new) (O.faults out.old) (O.faults out.new) }
+    ensures { PutsLines (listing module.now) result (O.bytes out.old) (O.bytes out.new) (O.faults out.old)
+        (O.faults out.new) }
 {
     for section in module.sections.as_slice() {
         match list_section(out, line, section) {

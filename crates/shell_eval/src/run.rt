@@ -147,7 +147,8 @@ pub(crate) fn prepare(n: usize, env: &mut Env<'_>) -> Result<(), NoMemory>
 pub(crate) fn go_on(code: &mut Code, stack: &mut Stack, env: &mut Env<'_>) -> Result<Went, NoMemory>
     requires at { IsEval false code.old stack.old }
     requires pool { env.old.part.now.end ≤ length env.old.bus.now.ram.bytes }
-    ensures went { IfOk result (λ went. ComesTo (seen ⟦<dyn Device as Device>⟧ env.old) (tree_of code.old stack.old.list) went
+    ensures went { IfOk result (λ went. ComesTo (seen ⟦<dyn Device as Device>⟧ env.old)
+        (tree_of code.old stack.old.list) went
         (seen ⟦<dyn Device as Device>⟧ env.new) (tree_with_hole code.new stack.new.list)) }
     ensures at { IfOk result (λ went. IsEval (is_call_lem went) code.new stack.new) }
     ensures no_memory { OnErr result (seen ⟦<dyn Device as Device>⟧ env.new ≡ seen ⟦<dyn Device as Device>⟧ env.old) }

@@ -127,7 +127,8 @@ fn one_argument(alloc: Global, argument: Tree) -> Result<Vec<Tree>, ReadErr>
 }
 
 fn with_first(first: Tree, mut rest: Vec<Tree>) -> Result<Vec<Tree>, ReadErr>
-    ensures { Gives (λ v. plain_arguments v.items) result (Some (trees.Then (plain_tree first) (plain_arguments rest.items))) }
+    ensures { Gives (λ v. plain_arguments v.items) result
+        (Some (trees.Then (plain_tree first) (plain_arguments rest.items))) }
 {
     rest.insert(0, first)?;
     Ok(rest)

@@ -73,9 +73,7 @@ impl Links {
         ensures before { IfOk result (λ l. l.before.items ≡ []) }
         ensures heads { IfOk result (λ l. l.heads.items ≡ replicate fewest_heads 0) }
     {
-        let Ok(heads) = vec![in alloc; 0; FEWEST_HEADS] else {
-            return Err(NoMemory);
-        };
+        let heads = vec![in alloc; 0; FEWEST_HEADS]?;
         Ok(Links {
             before: Vec::new(alloc),
             heads,
@@ -89,10 +87,7 @@ impl Links {
         ensures room { IsOk result → length self.old.before.items + n ≤ vec_capacity self.new.before }
         ensures no_less { vec_capacity self.old.before ≤ vec_capacity self.new.before }
     {
-        match self.before.reserve(n as usize) {
-            Ok(()) => Ok(()),
-            Err(_) => Err(NoMemory),
-        }
+        Ok(self.before.reserve(n as usize)?)
     }
 
     /// Makes at least `n` chains, and at least twice as many as there were if these are fewer.
@@ -106,10 +101,7 @@ impl Links {
         ensures stays { OnErr result (self.new.heads.items ≡ self.old.heads.items) }
     {
         let many = wider(self.heads.len(), n as usize);
-        match self.heads.resize(many, 0) {
-            Ok(()) => Ok(()),
-            Err(_) => Err(NoMemory),
-        }
+        Ok(self.heads.resize(many, 0)?)
     }
 
     /// The newest entry in the chain of a hash.

@@ -51,10 +51,8 @@ impl Waits {
         ensures { IfOk result (λ w. w ≡ record { waiters = []; room = n }) }
     {
         let waiters = IdLists::reserved(alloc, 1, n)?;
-        match Vec::with_capacity(alloc, n as usize) {
-            Ok(fronts) => Ok(Waits { waiters, fronts }),
-            Err(_) => Err(NoMemory),
-        }
+        let fronts = Vec::with_capacity(alloc, n as usize)?;
+        Ok(Waits { waiters, fronts })
     }
 
     /// Does nothing. Its contract states the invariant of the line.

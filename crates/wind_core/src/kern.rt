@@ -50,7 +50,9 @@ impl Model for Kern {
 
     ghost view = { λ k. kern_state k.tasks.rows k.ids k.next_since k.tick k.slice k.last };
 
-    ghost invariant = { λ k. (k.tasks.room ≡ most_tasks) × SameIds k.tasks.rows × IsKern (kern_state k.tasks.rows k.ids k.next_since k.tick k.slice k.last) × AreQueued k.waits k.ready k.delays (objects k.tasks.rows) };
+    ghost invariant = { λ k. (k.tasks.room ≡ most_tasks) × SameIds k.tasks.rows
+        × IsKern (kern_state k.tasks.rows k.ids k.next_since k.tick k.slice k.last)
+        × AreQueued k.waits k.ready k.delays (objects k.tasks.rows) };
 }
 
 impl Kern {
@@ -189,7 +191,8 @@ impl Kern {
     pub fn spawn_record(&mut self, task: NewTask) -> Result<Ident, Errno>
         requires ids { self.old.lent ≡ false }
         requires since { self.old.next_since + 1 < 2 ^ 64 }
-        ensures ok { IfOk result (λ id. (spawn_refusal self.old ≡ None) × (id ≡ self.old.next_id) × (self.new ≡ spawn self.old task)) }
+        ensures ok { IfOk result (λ id. (spawn_refusal self.old ≡ None) × (id ≡ self.old.next_id)
+            × (self.new ≡ spawn self.old task)) }
         ensures err { IfErr result (λ e. (spawn_refusal self.old ≡ Some e) × (self.new ≡ self.old)) }
     {
         let id = self.tasks.next_id(&self.ids)?;
@@ -221,7 +224,8 @@ impl Kern {
     pub fn add_to<T>(&mut self, table: &mut Table<T>, value: T) -> Result<Ident, T>
         requires ids { self.old.lent ≡ false }
         requires below { IdsBelow self.old.next_id table.old.rows }
-        ensures ok { IfOk result (λ id. (id ≡ self.old.next_id) × (self.new ≡ record self.old { next_id = id + 1 }) × (table.new ≡ added table.old id value)) }
+        ensures ok { IfOk result (λ id. (id ≡ self.old.next_id)
+            × (self.new ≡ record self.old { next_id = id + 1 }) × (table.new ≡ added table.old id value)) }
         ensures err { IfErr result (λ v. (v ≡ value) × (self.new ≡ self.old) × (table.new ≡ table.old)) }
         ensures when { IsOk result ↔ (length table.old.rows < table.old.room) × (self.old.next_id ≤ greatest_id) }
     {

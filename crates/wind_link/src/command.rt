@@ -62,7 +62,8 @@ fn link_rows<F: Folder, O: Sink>(
     out: &mut O,
 ) -> LinkStatus
     requires few { length rows.now < 2 ^ 32 }
-    ensures links { LinksRows (F.files folder.old) dir.now (record { before = F.faults folder.old; after = F.faults folder.new })
+    ensures links { LinksRows (F.files folder.old) dir.now
+        (record { before = F.faults folder.old; after = F.faults folder.new })
         (O.bytes out.old) (O.bytes out.new) (Rose (O.faults out.old) (O.faults out.new)) (map row_lem rows.now) result }
     ensures faults { F.faults folder.old ≤ F.faults folder.new }
 {
@@ -81,7 +82,8 @@ fn link_text<F: Folder, O: Sink>(
     folder: &mut F,
     out: &mut O,
 ) -> LinkStatus
-    ensures links { LinksText (F.files folder.old) dir.now (record { before = F.faults folder.old; after = F.faults folder.new })
+    ensures links { LinksText (F.files folder.old) dir.now
+        (record { before = F.faults folder.old; after = F.faults folder.new })
         (O.bytes out.old) (O.bytes out.new) (Rose (O.faults out.old) (O.faults out.new)) (rows_of text.now) result }
     ensures faults { F.faults folder.old ≤ F.faults folder.new }
 {
@@ -121,7 +123,8 @@ pub fn windlink<F: Folder, O: Sink, E: Sink>(
     out: &mut O,
     err: &mut E,
 ) -> LinkStatus
-    ensures links { IfSome (to_link (map (λ w. w.now) words.now)) (λ (list, dir). LinksList (F.files folder.old) list dir
+    ensures links { IfSome (to_link (map (λ w. w.now) words.now))
+        (λ (list, dir). LinksList (F.files folder.old) list dir
         (record { before = F.faults folder.old; after = F.faults folder.new })
         (O.bytes out.old) (O.bytes out.new) (Rose (O.faults out.old) (O.faults out.new)) result) }
     ensures usage { (result ≡ ends.Usage) ↔ (to_link (map (λ w. w.now) words.now) ≡ None) }

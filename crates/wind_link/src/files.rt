@@ -33,7 +33,8 @@ pub(crate) fn bytes_of<F: Folder>(
     line: u64,
 ) -> Result<Vec<u8>, LinkStatus>
     ensures found { IfOk result (λ v. HasBytes most (F.files folder.old) file.now v.items) }
-    ensures unread { IfErr result (Unread most (F.files folder.old) file.now line (record { before = F.faults folder.old; after = F.faults folder.new })) }
+    ensures unread { IfErr result (Unread most (F.files folder.old) file.now line
+        (record { before = F.faults folder.old; after = F.faults folder.new })) }
     ensures files { F.files folder.new ≡ F.files folder.old }
     ensures faults { F.faults folder.old ≤ F.faults folder.new }
 {
@@ -66,7 +67,8 @@ fn module_of<F: Folder>(
 ) -> Result<Module, LinkStatus>
     ensures module { IfOk result (λ m. HasModule (F.files folder.old) file.now m) }
     ensures linkable { IfOk result (λ m. IsLinkable m) }
-    ensures refused { IfErr result (NoModule (F.files folder.old) file.now line (record { before = F.faults folder.old; after = F.faults folder.new })) }
+    ensures refused { IfErr result (NoModule (F.files folder.old) file.now line
+        (record { before = F.faults folder.old; after = F.faults folder.new })) }
     ensures files { F.files folder.new ≡ F.files folder.old }
     ensures faults { F.faults folder.old ≤ F.faults folder.new }
 {
@@ -87,9 +89,12 @@ fn place(
     line: u64,
 ) -> Result<(), LinkStatus>
     requires { IsLinkable placed.now.module }
-    ensures placed { OnOk result (wrong_segment taken.old.items (needs_of placed.now.module) (load_of placed.now).at ≡ None) }
-    ensures taken { OnOk result (taken.new.items ≡ with_module taken.old.items (needs_of placed.now.module) (load_of placed.now).at) }
-    ensures wrong { IfErr result (IsMisplaced (wrong_segment taken.old.items (needs_of placed.now.module) (load_of placed.now).at) line) }
+    ensures placed { OnOk result (wrong_segment taken.old.items (needs_of placed.now.module)
+        (load_of placed.now).at ≡ None) }
+    ensures taken { OnOk result (taken.new.items
+        ≡ with_module taken.old.items (needs_of placed.now.module) (load_of placed.now).at) }
+    ensures wrong { IfErr result (IsMisplaced
+        (wrong_segment taken.old.items (needs_of placed.now.module) (load_of placed.now).at) line) }
 {
     let Ok(needs) = measure_module(alloc, &placed.module) else {
         return Err(LinkStatus::NoMemory);

@@ -99,7 +99,8 @@ fn image_bytes(
     requires sections { located.now.sections.items ≡ addresses placed.now.module (load_of placed.now).at }
     requires values { located.now.values.items ≡ values_lem placed.now.module (load_of placed.now).at }
     ensures made { IfOk result (λ v. IsMade
-        (image_by placed.now.module (value_of values.now) (load_of placed.now).at) (needs_of placed.now.module) v.items) }
+        (image_by placed.now.module (value_of values.now) (load_of placed.now).at)
+        (needs_of placed.now.module) v.items) }
     ensures fault { IfErr result (IsMakeRefusal
         (image_by placed.now.module (value_of values.now) (load_of placed.now).at).fault) }
 {
@@ -124,7 +125,8 @@ fn link_module<'a>(
     requires few { length image.old ≤ ram_bytes }
     ensures image { OnOk result (image.new ≡ with_all low image.old (segments_of (load_of placed.now).at
         (image_by placed.now.module (value_of values.old) (load_of placed.now).at))) }
-    ensures whole { OnOk result ((image_by placed.now.module (value_of values.old) (load_of placed.now).at).fault ≡ None) }
+    ensures whole { OnOk result ((image_by placed.now.module (value_of values.old)
+        (load_of placed.now).at).fault ≡ None) }
     ensures values { OnOk result ((q : List ℕ) → value_of values.new q
         ≡ value_else (export_by (load_of placed.now) q) (value_of values.old q)) }
     ensures length { length image.new ≡ length image.old }

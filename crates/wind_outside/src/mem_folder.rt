@@ -39,7 +39,8 @@ impl MemFolder {
 
     /// Adds a file, or replaces the file with that name.
     pub fn add(&mut self, name: &str, bytes: Vec<u8>) -> Result<(), NoMemory>
-        ensures ok { OnOk result ((other : List ℕ) → files_of self.new other ≡ with_file (files_of self.old) name.now bytes.items other) }
+        ensures ok { OnOk result ((other : List ℕ) → files_of self.new other
+            ≡ with_file (files_of self.old) name.now bytes.items other) }
         ensures err { OnErr result ((other : List ℕ) → files_of self.new other ≡ files_of self.old other) }
         ensures calls { calls_of self.new ≡ calls_of self.old }
     {

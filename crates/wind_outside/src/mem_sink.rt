@@ -69,7 +69,8 @@ impl Sink for MemSink {
         ensures failed { result ≡ puts.Failed → Rose self.old.calls.faults self.new.calls.faults }
         ensures never_falls { self.old.calls.faults ≤ self.new.calls.faults }
 
-        ensures listed { (result ≡ puts.Failed) ↔ (Contains self.old.calls.failing self.new.calls.made ⊎ (self.old.out.room < length piece.now)) }
+        ensures listed { (result ≡ puts.Failed)
+            ↔ (Contains self.old.calls.failing self.new.calls.made ⊎ (self.old.out.room < length piece.now)) }
         ensures after { self.new ≡ after_put self.old piece.now result }
     {
         if self.calls.count(piece.len() > self.out.room()) {

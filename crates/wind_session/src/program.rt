@@ -30,7 +30,8 @@ fn play_on<F: Folder, O: Sink, E: Sink>(
         (Rose (F.faults folder.old) (F.faults folder.new)) (Rose (O.faults out.old) (O.faults out.new))
         (outside (F.requests folder.old) (O.bytes out.old) (O.pieces out.old))
         (outside (F.requests folder.new) (O.bytes out.new) (O.pieces out.new)) }
-    ensures tells { Tells (codes "windplay") result (command_of_lem (map (λ w. w.now) words.now)) (E.bytes err.old) (E.bytes err.new)
+    ensures tells { Tells (codes "windplay") result (command_of_lem (map (λ w. w.now) words.now))
+        (E.bytes err.old) (E.bytes err.new)
         (Rose (E.faults err.old) (E.faults err.new)) }
 {
     play(alloc, words, folder, out, err, devices).status
