@@ -9,8 +9,9 @@ ghost use Rattle.con_line.specs.declared.console.ByteDone.TheVariants as done;
 ghost use Rattle.wind_machine.specs.Events.{heard_from, hear as hear_lem, heard_all, shell_after, kern_after};
 
 use crate::shell::Shell;
-use crate::shell_task::{abort, shell_id, waits_for_console};
+use crate::shell_task::{abort, waits_for_console};
 use con_line::{ByteDone, Console};
+use id_table::Ident;
 use wind_base::OutBuf;
 use wind_core::Kern;
 
@@ -23,7 +24,7 @@ fn wake(shell: &mut Shell, kern: &mut Kern)
 {
     if waits_for_console(kern) {
         shell.take_line();
-        kern.release(shell_id());
+        kern.release(Ident::shell());
     }
 }
 

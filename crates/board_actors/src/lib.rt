@@ -21,6 +21,6 @@ pub use processor::{at_gate, counter, execute, run_routine};
 pub use reserving::{drop_all, drop_own};
 pub use routine::{INTERRUPT_TOP, put_return};
 pub use shell::Shell;
-pub use shell_task::{listen, shell_id, waits_for_console};
+pub use shell_task::{listen, waits_for_console};
 pub use step_kind::StepKind;
 pub use step_start::{give_back, start_revocable_step, start_routine_step, start_step};

@@ -23,7 +23,7 @@ ghost use Rattle.board_actors.specs.declared.step_kind.StepKind.TheVariants as k
 use crate::reserving::drop_own;
 use crate::routine::{drop_reserve, next_routine};
 use crate::shell::Shell;
-use crate::shell_task::{abort, shell_id};
+use crate::shell_task::abort;
 use crate::step_kind::StepKind;
 use crate::text::{add_exception, add_routine_exception};
 use id_table::Ident;
@@ -80,7 +80,7 @@ fn fault_of_task(shell: &mut Shell, world: &mut World, who: Ident, trap: Trap)
     ensures space { KeepsSpace world.old.out world.new.out }
 {
     tell(world, who, trap);
-    if who == shell_id() {
+    if who == Ident::shell() {
         shell.abort();
         abort(&mut world.kern);
     } else {
@@ -114,7 +114,7 @@ fn fault(shell: &mut Shell, world: &mut World, who: Actor, trap: Trap)
 fn return_of(who: Ident) -> Gate
     ensures { result ≡ own_return_lem (actors.Task who) }
 {
-    if who == shell_id() {
+    if who == Ident::shell() {
         Gate::ShellReturn
     } else {
         Gate::TaskReturn
@@ -158,7 +158,7 @@ fn return_of_task(shell: &mut Shell, world: &mut World, who: Ident)
         ≡ return_part shell.old (world_seen ⟦<dyn Device as Device>⟧ world.old) (actors.Task who) }
     ensures out { world.new.out ≡ world.old.out }
 {
-    if who == shell_id() {
+    if who == Ident::shell() {
         shell.give_value(answer_of(world, who));
         drop_own(&mut world.kern, who);
     } else {

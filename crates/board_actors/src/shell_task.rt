@@ -21,23 +21,13 @@ use wind_outside::Device;
 // where the pool does.
 const STACK_POINTER: u32 = POOL_START + SHELL_STACK_BYTES - FRAME_BYTES;
 
-/// The id of the shell's task.
-pub fn shell_id() -> Ident
-    ensures { result ≡ 1 }
-{
-    match Ident::new(1) {
-        Some(id) => id,
-        None => unreachable!(),
-    }
-}
-
 // The place at which the shell's task waits for the console.
 fn console() -> Place
     ensures { result ≡ console_place }
 {
     Place {
         side: CONSOLE,
-        id: shell_id(),
+        id: Ident::shell(),
     }
 }
 
@@ -46,7 +36,7 @@ fn is_at_console(task: &Task) -> bool
     ensures { result ≡ waits_at console_place task.now }
 {
     match task.wait {
-        Some(place) => place.side == CONSOLE && place.id == shell_id(),
+        Some(place) => place.side == CONSOLE && place.id == Ident::shell(),
         None => false,
     }
 }
@@ -56,7 +46,7 @@ fn is_at_console(task: &Task) -> bool
 pub fn waits_for_console(kern: &Kern) -> bool
     ensures { result ≡ waits_for_console_lem kern.now }
 {
-    match kern.task(shell_id()) {
+    match kern.task(Ident::shell()) {
         Some(task) => is_at_console(task),
         None => false,
     }
@@ -66,7 +56,7 @@ pub fn waits_for_console(kern: &Kern) -> bool
 fn is_held(kern: &Kern) -> bool
     ensures { result ≡ is_held_lem (shell_task kern.now) }
 {
-    match kern.task(shell_id()) {
+    match kern.task(Ident::shell()) {
         Some(task) => task.wait.is_some() || task.wake.is_some(),
         None => false,
     }
@@ -79,7 +69,7 @@ pub fn listen(kern: &mut Kern)
     requires tick { kern.old.tick < 2 ^ 63 }
     ensures { kern.new ≡ listening kern.old }
 {
-    kern.pend(shell_id(), console(), false, WAIT_FOREVER);
+    kern.pend(Ident::shell(), console(), false, WAIT_FOREVER);
 }
 
 // Ends the wait or delay of the shell's task, if it has one.
@@ -89,7 +79,7 @@ fn let_go(kern: &mut Kern)
     ensures { kern.new ≡ let_go_lem kern.old }
 {
     if is_held(kern) {
-        kern.release(shell_id());
+        kern.release(Ident::shell());
     }
 }
 
@@ -101,7 +91,7 @@ pub(crate) fn abort(kern: &mut Kern)
     ensures { kern.new ≡ aborted kern.old }
 {
     let_go(kern);
-    kern.reset(shell_id());
+    kern.reset(Ident::shell());
 }
 
 // The address to which a call of the shell returns on a board of this kind.
@@ -121,7 +111,7 @@ pub(crate) fn begin_call(world: &mut World, callee: u32, words: &[u32; 10])
     let link = return_address(world.board);
     put_frame(&mut world.bus.ram, STACK_POINTER, words);
     world.kern.set_regs(
-        shell_id(),
+        Ident::shell(),
         starting_regs(STACK_POINTER, link, callee, words),
     );
 }

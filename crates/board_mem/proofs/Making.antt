@@ -5,7 +5,7 @@ use Rattle.std.proofs.lemmas.Bool.Decides.{nat_tests}
 use Rattle.std.proofs.lemmas.List.{get_or-map, length-replicate}
 use Rattle.std.proofs.lemmas.List.Sums.{sum_by-cons}
 use Rattle.board_mem.specs.Pages.{page_of, page_bytes, pages_for, was_made, made_count, ArePages}
-use Rattle.board_mem.specs.Store.{place_of, bytes_of, made_of, numbered, IsStore}
+use Rattle.board_mem.specs.Store.{offset_of, bytes_of, made_of, numbered, IsStore}
 use Rattle.board_mem.proofs.Stores.{get_or-bytes_of, length-bytes_of, length-made_of, bytes_of-is}
 
 -- a page was created exactly if it has a number
@@ -23,9 +23,9 @@ made_count-made_of (x ∷ xs) =
     sum_by-cons count (nat_lt 0 x) (map (λ n. nat_lt 0 n) xs) ∙ ap (λ r. cond (nat_lt 0 x) 1 0 + r) (made_count-made_of xs) ∙ sym (sum_by-cons numbers x xs)
 
 -- the byte at an address whose page has no number
-blank_byte : (size : ℕ) (index store : List ℕ) (at : ℕ) → ((i : ℕ) → i < page_bytes → get_or store i 0 ≡ 0) → get_or index (page_of at) 0 ≡ 0 → get_or store (place_of index at) 0 ≡ 0
+blank_byte : (size : ℕ) (index store : List ℕ) (at : ℕ) → ((i : ℕ) → i < page_bytes → get_or store i 0 ≡ 0) → get_or index (page_of at) 0 ≡ 0 → get_or store (offset_of index at) 0 ≡ 0
 blank_byte size index store at zeros none =
-    let start : place_of index at ≡ at % page_bytes = omega (arith, none) in
+    let start : offset_of index at ≡ at % page_bytes = omega (arith, none) in
     ap (λ k. get_or store k 0) start ∙ zeros (at % page_bytes) (omega arith)
 
 -- what the store says about its pages

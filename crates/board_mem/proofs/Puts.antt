@@ -2,7 +2,7 @@
 use Rattle.std.proofs.Common.{◌≡◌, ℕ, List, length, refl, sym, ap, ap₂, ◌∙◌, arith}
 use Rattle.board_mem.specs.Memory.{with_bytes}
 use Rattle.board_mem.specs.Pages.{PagesState, made_with, page_of, written_at}
-use Rattle.board_mem.specs.Store.{place_of, bytes_of, made_of, IsMade, IsStore}
+use Rattle.board_mem.specs.Store.{offset_of, bytes_of, made_of, IsMade, IsStore}
 use Rattle.board_mem.proofs.Stores.{length-made_of}
 use Rattle.board_mem.proofs.Windows.{IsWindow, pages_of, window_page, bytes_of-put, IsStore-put}
 use Rattle.board_mem.proofs.Writings.{made_with-page}
@@ -13,11 +13,11 @@ pub record IsPut (size : ℕ) (index store index₁ store₁ index₂ store₂ :
   pub page : IsMade index store index₁ store₁ capacity₁ (page_of at)
   pub size_same : length index₁ ≡ length index
   pub index_same : index₂ ≡ index₁
-  pub put : store₂ ≡ with_bytes store₁ (place_of index₁ at) src
+  pub put : store₂ ≡ with_bytes store₁ (offset_of index₁ at) src
 
--- the page of the range is created, and then the bytes are written at its place
+-- the page of the range is created, and then the bytes are written at its offset
 pub put_made : {size : ℕ} {index store index₁ store₁ index₂ store₂ : List ℕ} {capacity capacity₁ at start : ℕ} {src held : List ℕ} → IsWindow size index store capacity at (length src)
-    → IsMade index store index₁ store₁ capacity₁ (page_of at) → length index₁ ≡ length index → index₂ ≡ index₁ → store₂ ≡ with_bytes held start src → held ≡ store₁ → start ≡ place_of index₁ at
+    → IsMade index store index₁ store₁ capacity₁ (page_of at) → length index₁ ≡ length index → index₂ ≡ index₁ → store₂ ≡ with_bytes held start src → held ≡ store₁ → start ≡ offset_of index₁ at
     → IsPut size index store index₁ store₁ index₂ store₂ capacity capacity₁ at src
 put_made {src = src} window page size_same index_same put same place = record {
   window = window;

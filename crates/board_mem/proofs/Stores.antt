@@ -7,24 +7,24 @@ use Rattle.std.proofs.lemmas.List.{ext_get_or, get_or-set_same, get_or-set_other
 use Rattle.std.proofs.lemmas.List.Sums.{count_by-le-length, sum_by-set}
 use Rattle.std.proofs.lemmas.List.FromFn.{length-map-range_with_len, get_or-map-range_with_len}
 use Rattle.board_mem.specs.Pages.{page_of, page_bytes}
-use Rattle.board_mem.specs.Store.{place_of, bytes_of, made_of, numbered, AreStored}
+use Rattle.board_mem.specs.Store.{offset_of, bytes_of, made_of, numbered, AreStored}
 
 -- a byte by its address
-pub get_or-bytes_of : (size : ℕ) (index store : List ℕ) (at : ℕ) → at < size → get_or (bytes_of size index store) at 0 ≡ get_or store (place_of index at) 0
+pub get_or-bytes_of : (size : ℕ) (index store : List ℕ) (at : ℕ) → at < size → get_or (bytes_of size index store) at 0 ≡ get_or store (offset_of index at) 0
 unfolding bytes_of
 get_or-bytes_of size index store at h =
-    get_or-map-range_with_len (λ (a : ℕ). get_or store (place_of index a) 0) 0 size at at 0 h (omega arith)
+    get_or-map-range_with_len (λ (a : ℕ). get_or store (offset_of index a) 0) 0 size at at 0 h (omega arith)
 
 pub length-bytes_of : (size : ℕ) (index store : List ℕ) → length (bytes_of size index store) ≡ size
 unfolding bytes_of
-length-bytes_of size index store = length-map-range_with_len (λ (a : ℕ). get_or store (place_of index a) 0) 0 size
+length-bytes_of size index store = length-map-range_with_len (λ (a : ℕ). get_or store (offset_of index a) 0) 0 size
 
 pub length-made_of : (index : List ℕ) → length (made_of index) ≡ length index
 unfolding made_of
 length-made_of index = length-map index (λ number. nat_lt 0 number)
 
 -- a list of bytes is the one that the pages spell
-pub bytes_of-is : (size : ℕ) (index store bytes : List ℕ) → length bytes ≡ size → ((at : ℕ) → at < size → get_or store (place_of index at) 0 ≡ get_or bytes at 0) → bytes_of size index store ≡ bytes
+pub bytes_of-is : (size : ℕ) (index store bytes : List ℕ) → length bytes ≡ size → ((at : ℕ) → at < size → get_or store (offset_of index at) 0 ≡ get_or bytes at 0) → bytes_of size index store ≡ bytes
 bytes_of-is size index store bytes n same =
     ext_get_or 0 (bytes_of size index store) bytes (length-bytes_of size index store ∙ sym n) (λ at h.
     let within : at < size = omega (arith, length-bytes_of size index store) in
@@ -84,16 +84,16 @@ bytes_of-making {index} {store} {after} {capacity} {page} {number} {count} m siz
     let old = get_or-bytes_of size index store at h in
     let here : page_of at < length index = omega arith in
     let inside = m.stored.within (page_of at) here in
-    elim (cases_eq (page_of at) page) as (λ _. get_or after (place_of (set index page number) at) 0 ≡ get_or (bytes_of size index store) at 0) [
+    elim (cases_eq (page_of at) page) as (λ _. get_or after (offset_of (set index page number) at) 0 ≡ get_or (bytes_of size index store) at 0) [
       | inl e ↦
           let n = number-same index page number (page_of at) m.there e in
           let was : get_or index (page_of at) 0 ≡ 0 = rw e m.unmade in
-          let start : place_of index at ≡ at % page_bytes = omega (arith, was) in
-          let blank : get_or store (place_of index at) 0 ≡ 0 = ap (λ k. get_or store k 0) start ∙ m.stored.zeros (at % page_bytes) (omega arith) in
-          after-new m (place_of (set index page number) at) (omega (arith, n, m.is_number)) ∙ sym (old ∙ blank)
+          let start : offset_of index at ≡ at % page_bytes = omega (arith, was) in
+          let blank : get_or store (offset_of index at) 0 ≡ 0 = ap (λ k. get_or store k 0) start ∙ m.stored.zeros (at % page_bytes) (omega arith) in
+          after-new m (offset_of (set index page number) at) (omega (arith, n, m.is_number)) ∙ sym (old ∙ blank)
       | inr other ↦
           let n = number-other index page number (page_of at) other in
-          ap (λ k. get_or after (page_bytes * k + at % page_bytes) 0) n ∙ after-old m (place_of index at) (omega (arith, inside)) ∙ sym old
+          ap (λ k. get_or after (page_bytes * k + at % page_bytes) 0) n ∙ after-old m (offset_of index at) (omega (arith, inside)) ∙ sym old
     ])
 
 -- no page had the new number

@@ -5,12 +5,12 @@ use Rattle.std.specs.List.{range_with_len}
 use Rattle.board_mem.specs.Pages.{page_bytes, page_of, pages_for}
 
 -- the index in the store of the byte at an address
-abbrev pub place_of : List ℕ → ℕ → ℕ
-place_of index at = page_bytes * slice_index index (page_of at) + at % page_bytes
+abbrev pub offset_of : List ℕ → ℕ → ℕ
+offset_of index at = page_bytes * slice_index index (page_of at) + at % page_bytes
 
 -- the bytes that the index and the store spell
 unfoldable pub bytes_of : ℕ → List ℕ → List ℕ → List ℕ
-bytes_of size index store = map (λ at. slice_index store (place_of index at)) (range_with_len 0 size)
+bytes_of size index store = map (λ at. slice_index store (offset_of index at)) (range_with_len 0 size)
 
 -- whether each page was created
 unfoldable pub made_of : List ℕ → List Bool

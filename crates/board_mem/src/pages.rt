@@ -5,7 +5,7 @@ ghost use Rattle.board_mem.specs.Memory.{has as has_lem, bytes_at};
 ghost use Rattle.board_mem.specs.Pages.{page_bytes, unmade, written_at, made_count, ArePages};
 
 use crate::outside::Outside;
-use crate::store::{PAGE, fill_in, place, place_made, put_in};
+use crate::store::{PAGE, fill_in, offset, offset_made, put_in};
 use std::alloc::Global;
 use std::marker::Model;
 use wind_base::NoMemory;
@@ -87,7 +87,7 @@ impl Pages {
         requires there { at + n ≤ length self.now.bytes }
         ensures { result.now ≡ bytes_at self.now.bytes at n }
     {
-        let start = place(&self.index, at as usize);
+        let start = offset(&self.index, at as usize);
         &self.store[start..start + n]
     }
 
@@ -99,7 +99,7 @@ impl Pages {
         requires there { at + length src.now ≤ length self.old.bytes }
         ensures { self.new ≡ written_at self.old at src.now }
     {
-        let start = place_made(&mut self.index, &mut self.store, at as usize);
+        let start = offset_made(&mut self.index, &mut self.store, at as usize);
         put_in(&mut self.store, start, src);
     }
 
@@ -110,7 +110,7 @@ impl Pages {
         requires there { at + n ≤ length self.old.bytes }
         ensures { self.new ≡ written_at self.old at (replicate n byte) }
     {
-        let start = place_made(&mut self.index, &mut self.store, at as usize);
+        let start = offset_made(&mut self.index, &mut self.store, at as usize);
         fill_in(&mut self.store, start, n, byte);
     }
 

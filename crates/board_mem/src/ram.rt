@@ -275,7 +275,7 @@ impl Ram {
     {
         let mut bytes = [0; STRING_ROOM];
         let count = self.prefix(addr, &mut bytes);
-        let length = place_of_zero(&bytes[..count])?;
+        let length = offset_of_zero(&bytes[..count])?;
         Some(RamString::of_prefix(bytes, length))
     }
 
@@ -288,14 +288,14 @@ impl Ram {
     {
         let mut bytes = [0; STRING_ROOM];
         let count = self.prefix(addr, &mut bytes);
-        let n = place_of_zero(&bytes[..count])?;
+        let n = offset_of_zero(&bytes[..count])?;
         dst[..n].copy_from_slice(&bytes[..n]);
         Some(n as u32)
     }
 }
 
 // The index of the first zero. None if there is no zero.
-fn place_of_zero(bytes: &[u8]) -> Option<usize>
+fn offset_of_zero(bytes: &[u8]) -> Option<usize>
     ensures is { result ≡ position (λ b. b == 0) bytes.now }
     ensures within { IfSome result (λ k. k < length bytes.now) }
 {

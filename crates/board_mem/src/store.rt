@@ -3,7 +3,7 @@
 ghost use Rattle.std.specs.Prelude.{◌≡◌, ◌+◌, ◌<◌, ◌≤◌, length, replicate, slice_index, vec_capacity};
 ghost use Rattle.board_mem.specs.Memory.{with_bytes};
 ghost use Rattle.board_mem.specs.Pages.{page_of};
-ghost use Rattle.board_mem.specs.Store.{AreStored, IsMade, place_of};
+ghost use Rattle.board_mem.specs.Store.{AreStored, IsMade, offset_of};
 
 /// The size of a page in bytes.
 pub(crate) const PAGE: usize = 4_096;
@@ -44,20 +44,20 @@ fn number_made(index: &mut [u32], store: &mut Vec<u8>, page: usize) -> usize
 
 /// The index in the store of the byte at an address. Its page is created if it wasn't yet.
 #[inline(always)]
-pub(crate) fn place_made(index: &mut [u32], store: &mut Vec<u8>, at: usize) -> usize
+pub(crate) fn offset_made(index: &mut [u32], store: &mut Vec<u8>, at: usize) -> usize
     requires stored { AreStored index.old store.old.items (vec_capacity store.old) }
     requires there { page_of at < length index.old }
     ensures made { IsMade index.old store.old.items index.new store.new.items (vec_capacity store.new) (page_of at) }
-    ensures place { result ≡ place_of index.new at }
+    ensures offset { result ≡ offset_of index.new at }
 {
     number_made(index, store, at / PAGE) * PAGE + at % PAGE
 }
 
 /// The index in the store of the byte at an address.
 #[inline(always)]
-pub(crate) fn place(index: &[u32], at: usize) -> usize
+pub(crate) fn offset(index: &[u32], at: usize) -> usize
     requires there { page_of at < length index.now }
-    ensures { result ≡ place_of index.now at }
+    ensures { result ≡ offset_of index.now at }
 {
     index[at / PAGE] as usize * PAGE + at % PAGE
 }

@@ -10,7 +10,8 @@ use Rattle.wind_base.specs.declared.gate.Gate.TheVariants as gates
 use Rattle.board_mem.specs.Memory.{string_at}
 use Rattle.kernel_world.specs.State.{WorldState}
 use Rattle.kernel_world.specs.Starting.{no_regs}
-use Rattle.kernel_world.specs.Actors.{shell_id, caller_regs, caller_words}
+use Rattle.id_table.specs.Idents.{shell_id}
+use Rattle.kernel_world.specs.Actors.{caller_regs, caller_words}
 use Rattle.wind_machine.specs.KernelCalls.{file_name, file_wanted}
 use Rattle.kernel_world.specs.Objects.{IsReady}
 use Rattle.kernel_world.specs.declared.actor.Actor.TheVariants.{Task as by_task, Interrupt}

@@ -11,7 +11,7 @@ use Rattle.wind_lists.specs.Records.{Rising}
 use Rattle.wind_core.specs.State.{Lives, task_id}
 use Rattle.wind_core.specs.Orders.{running, runner}
 use Rattle.wind_core.proofs.Ticks.{runner_lives}
-use Rattle.kernel_world.specs.Actors.{shell_id}
+use Rattle.id_table.specs.Idents.{shell_id}
 use Rattle.kernel_world.specs.Objects.{IsReady}
 use Rattle.wind_machine.specs.State.{State}
 use Rattle.wind_machine.specs.Good.{Good}

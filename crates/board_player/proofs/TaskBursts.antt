@@ -23,7 +23,7 @@ use Rattle.board_bus.specs.BusState.{BusState}
 use Rattle.isr_watch.specs.State.{WatchState}
 use Rattle.kernel_world.specs.State.{WorldState}
 use Rattle.kernel_world.specs.declared.actor.Actor.TheVariants.{Task as by_task, Interrupt}
-use Rattle.kernel_world.specs.Actors.{shell_id}
+use Rattle.id_table.specs.Idents.{shell_id}
 use Rattle.kernel_world.specs.Kept.{ReservedBy}
 use Rattle.kernel_world.specs.Settling.{HasExact}
 use Rattle.kernel_world.specs.Starting.{no_regs}

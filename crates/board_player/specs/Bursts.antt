@@ -4,7 +4,7 @@ use Rattle.wind_base.specs.declared.regs.Regs.{Regs}
 use Rattle.board_bus.specs.BusState.{BusState}
 use Rattle.tick_file.specs.Schedule.{Timed}
 use Rattle.wind_core.specs.Orders.{runner}
-use Rattle.kernel_world.specs.Actors.{shell_id}
+use Rattle.id_table.specs.Idents.{shell_id}
 use Rattle.kernel_world.specs.declared.actor.Actor.{Actor}
 use Rattle.wind_machine.specs.State.{State}
 use Rattle.wind_machine.specs.Reserving.{drop_others, drop_all}

@@ -16,7 +16,7 @@ ghost use Rattle.board_player.specs.Going.{IsRunner, IsRoutine, IsKnown};
 
 use crate::order::{Known, Running, console_is_due, may_deliver};
 use crate::parts::Parts;
-use board_actors::{execute_many, shell_id};
+use board_actors::execute_many;
 use id_table::Ident;
 use kernel_world::Actor;
 use tick_file::Event;
@@ -28,7 +28,7 @@ use wind_outside::Device;
 fn makes_instructions(parts: &Parts, who: Ident) -> bool
     ensures { result ≡ true → who ≡ 1 → parts.now.shell.phase ≡ phases.Call }
 {
-    who != shell_id() || matches!(parts.shell.phase(), Phase::Call)
+    who != Ident::shell() || matches!(parts.shell.phase(), Phase::Call)
 }
 
 // Whether neither an interrupt of a device nor the console can be due.

@@ -14,7 +14,6 @@ mod shell_steps;
 mod task_steps;
 
 pub use board::Board;
-pub use board_actors::shell_id;
 use wind_base::Name;
 pub use wind_machine::{FileAnswer, Next, Phase, extend_law, instant_law, live_law, silent_law};
 

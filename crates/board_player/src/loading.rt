@@ -16,7 +16,7 @@ ghost use Rattle.board_player.specs.Settling.{CanSettle};
 use crate::parts::Parts;
 use crate::settling::settle;
 use crate::task_steps::end;
-use board_actors::{counter, drop_own, give_back, shell_id, start_revocable_step};
+use board_actors::{counter, drop_own, give_back, start_revocable_step};
 use id_table::Ident;
 use kernel_world::{Actor, gate_at};
 use wind_base::{Gate, Name, NoMemory};
@@ -31,7 +31,7 @@ fn is_at_load(parts: &Parts) -> bool
 {
     match gate_at(
         parts.world.board,
-        counter(&parts.world, &Actor::Task(shell_id())),
+        counter(&parts.world, &Actor::Task(Ident::shell())),
     ) {
         Some(gate) => gate == Gate::Ld,
         None => false,
@@ -52,7 +52,7 @@ fn file_in_call(parts: &Parts) -> Result<Option<Name>, NoMemory>
         parts.alloc,
         &parts.world,
         Gate::Ld,
-        &Actor::Task(shell_id()),
+        &Actor::Task(Ident::shell()),
     )
 }
 
@@ -75,7 +75,7 @@ pub(crate) fn file_for(parts: &Parts, who: Ident) -> Result<Option<Name>, NoMemo
     ensures file { IfOk result (λ o. o ≡ file_for_lem (parts_seen ⟦<dyn Device as Device>⟧ parts.now) who) }
     ensures memory { OnErr result (IsSome (file_for_lem (parts_seen ⟦<dyn Device as Device>⟧ parts.now) who)) }
 {
-    if who == shell_id() {
+    if who == Ident::shell() {
         shells_file(parts)
     } else {
         Ok(None)
@@ -96,13 +96,13 @@ fn load_file(parts: &mut Parts, name: &Name, file: &FileAnswer) -> Result<(), No
         ≡ parts_seen ⟦<dyn Device as Device>⟧ parts.old) }
     ensures space { IsSpacious parts.new }
 {
-    let kept = start_revocable_step(&mut parts.world, &mut parts.spare, shell_id());
+    let kept = start_revocable_step(&mut parts.world, &mut parts.spare, Ident::shell());
     if kernel_load(parts.alloc, &mut parts.world, name, file).is_err() {
         give_back(&mut parts.world, &mut parts.spare, kept);
         return Err(NoMemory);
     }
-    drop_own(&mut parts.world.kern, shell_id());
-    end(parts, shell_id());
+    drop_own(&mut parts.world.kern, Ident::shell());
+    end(parts, Ident::shell());
     Ok(())
 }
 

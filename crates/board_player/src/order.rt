@@ -31,7 +31,7 @@ use crate::routine_steps::step_routine;
 use crate::settling::settle;
 use crate::shell_steps::run_shell;
 use crate::task_steps::run;
-use board_actors::{StepKind, shell_id, waits_for_console};
+use board_actors::{StepKind, waits_for_console};
 use board_bus::BoardBus;
 use id_table::Ident;
 use tick_file::Event;
@@ -195,7 +195,7 @@ fn run_task(parts: &mut Parts, who: Ident) -> Result<StepKind, NoMemory>
     ensures objects { result ≡ Ok kinds.Instruction → parts.new.world.objects ≡ parts.old.world.objects }
     ensures space { IsSpacious parts.new }
 {
-    if who == shell_id() {
+    if who == Ident::shell() {
         run_shell(parts)
     } else {
         run(parts, who)

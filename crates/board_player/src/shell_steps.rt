@@ -16,8 +16,9 @@ ghost use Rattle.board_player.specs.Going.{OnlyStepped};
 
 use crate::parts::Parts;
 use crate::task_steps::{end, run};
-use board_actors::{StepKind, give_back, listen, shell_id, start_revocable_step, start_step};
+use board_actors::{StepKind, give_back, listen, start_revocable_step, start_step};
 use con_line::{Console, LINE_ROOM};
+use id_table::Ident;
 use wind_base::NoMemory;
 use wind_base::text::add;
 use wind_machine::Phase;
@@ -33,14 +34,14 @@ fn prompt(parts: &mut Parts)
         ≡ prompt_step (parts_seen ⟦<dyn Device as Device>⟧ parts.old) }
     ensures space { IsSpacious parts.new }
 {
-    start_step(&mut parts.world, shell_id());
+    start_step(&mut parts.world, Ident::shell());
     let has_line = parts.console.has_line();
     add(&mut parts.world.out, b"-> ");
     parts.shell.prompt(has_line);
     if !has_line {
         listen(&mut parts.world.kern);
     }
-    end(parts, shell_id());
+    end(parts, Ident::shell());
 }
 
 // Copies the first finished line to the beginning of `room`, and returns its length in bytes: 0 if
@@ -69,7 +70,7 @@ fn read(parts: &mut Parts) -> Result<(), NoMemory>
 {
     let mut line = [0; LINE_ROOM];
     let len = copy_line(&parts.console, &mut line);
-    let kept = start_revocable_step(&mut parts.world, &mut parts.spare, shell_id());
+    let kept = start_revocable_step(&mut parts.world, &mut parts.spare, Ident::shell());
     if parts
         .shell
         .read(parts.alloc, &line[..len], &mut parts.world.out)
@@ -79,7 +80,7 @@ fn read(parts: &mut Parts) -> Result<(), NoMemory>
         return Err(NoMemory);
     }
     parts.console.drop_line();
-    end(parts, shell_id());
+    end(parts, Ident::shell());
     Ok(())
 }
 
@@ -96,12 +97,12 @@ fn evaluate(parts: &mut Parts) -> Result<(), NoMemory>
         ≡ parts_seen ⟦<dyn Device as Device>⟧ parts.old) }
     ensures space { IsSpacious parts.new }
 {
-    let kept = start_revocable_step(&mut parts.world, &mut parts.spare, shell_id());
+    let kept = start_revocable_step(&mut parts.world, &mut parts.spare, Ident::shell());
     if parts.shell.evaluate(parts.alloc, &mut parts.world).is_err() {
         give_back(&mut parts.world, &mut parts.spare, kept);
         return Err(NoMemory);
     }
-    end(parts, shell_id());
+    end(parts, Ident::shell());
     Ok(())
 }
 
@@ -137,6 +138,6 @@ pub(crate) fn run_shell(parts: &mut Parts) -> Result<StepKind, NoMemory>
             evaluate(parts)?;
             Ok(StepKind::Other)
         }
-        Phase::Call => run(parts, shell_id()),
+        Phase::Call => run(parts, Ident::shell()),
     }
 }

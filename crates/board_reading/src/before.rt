@@ -7,8 +7,9 @@ ghost use Rattle.board_trace.specs.Machine.{actor_of, may_exhaust_memory};
 ghost use Rattle.board_player.specs.Seen.{seen};
 ghost use Rattle.board_trace.specs.Before.{before_step, call_there, counter_at, gate_there, is_on_processor as is_on_processor_lem, owner_named as owner_named_lem};
 
-use board_player::{Board, Next, Phase, shell_id};
+use board_player::{Board, Next, Phase};
 use board_trace::{BeforeStep, mutex_of};
+use id_table::Ident;
 use kernel_world::{Actor, Call, World, caller_regs, gate_at, is_shell, read_call};
 use wind_base::{Gate, NoMemory};
 use wind_outside::Device;
@@ -20,7 +21,7 @@ pub fn runner_of(next: &Next) -> Option<Actor>
     match next {
         Next::Routine => Some(Actor::Interrupt),
         Next::Act(who) => Some(Actor::Task(*who)),
-        Next::Load(_) => Some(Actor::Task(shell_id())),
+        Next::Load(_) => Some(Actor::Task(Ident::shell())),
         Next::Deliver(_) | Next::Come(_) | Next::Arrive | Next::Jump(_) | Next::Over => None,
     }
 }

@@ -13,7 +13,7 @@ use Rattle.linked_lists.specs.Chains.{Chains, cell_key, all_cells, chain_at, fir
 use Rattle.linked_lists.proofs.Links.{Absent, absent_cons, absent_append, apart_middle, apart_back, apart_insert, apart_remove, without_middle}
 use Rattle.linked_lists.proofs.Keeping.{found_list, value_there}
 use Rattle.delay_queue.specs.Wakes.{Order, task_id, task_wake, wake_of, put_in, taken_out, due_at}
-use Rattle.delay_queue.specs.Inside.{wakes_from, total, IsTimed, IsPlace, gap_put, with_gap}
+use Rattle.delay_queue.specs.Inside.{wakes_from, total, IsTimed, IsPosition, gap_put, with_gap}
 
 abbrev Cells : Type 0
 Cells = List (ℕ × ℕ)
@@ -72,7 +72,7 @@ put_at (x ∷ xs) next cell ys e a =
     other [] q none = ap (λ o. is_key o x.0) q
     other (z ∷ zs) q none = ap (λ o. is_key o x.0) q ∙ (absent_cons x.0 z zs none).0
 
--- ---- the place of a wake
+-- ---- the position of a wake
 -- the given number of tasks was passed: `next` is the first of the rest, and the wake is `left` ticks after the last one passed
 pub record Passed (c : Cells) (wake : ℕ) (next : Option ℕ) (left passed : ℕ) : Type 0 where
   pub prefix : Cells
@@ -123,7 +123,7 @@ shift_first f room xs y ys a =
     ap (gap_put t y.0 f) value
     ∙ ap {B = Chains ℕ} (λ zs. record { chains = zs ∷ []; room = room }) (hold_at xs y.0 y.1 (f y.1) ys (apart_middle xs y ys a) (apart_back xs (y ∷ ys) a).0)
 
-pub task_came : (c : Cells) (room who wake : ℕ) (next : Option ℕ) (left : ℕ) → Apart c → Absent who c → IsPlace c wake next left → Came (record { chains = c ∷ []; room = room }) who wake next left
+pub task_came : (c : Cells) (room who wake : ℕ) (next : Option ℕ) (left : ℕ) → Apart c → Absent who c → IsPosition c wake next left → Came (record { chains = c ∷ []; room = room }) who wake next left
 task_came c room who wake next left a none place =
     let xs = place.prefix in
     let t : Chains ℕ = record { chains = c ∷ []; room = room } in
@@ -218,7 +218,7 @@ pub record Coming (t : Chains ℕ) (who wake : ℕ) (next : Option ℕ) (left : 
   pub fits : (x : ℕ) → next ≡ Some x → IsSomeAnd (value_of (with_cell t 0 next (who, left)).chains x) (λ gap. left ≤ gap)
   pub came : Came t who wake next left
 
-coming_single : (c : Cells) (room who wake : ℕ) (next : Option ℕ) (left : ℕ) → Apart c → Absent who c → IsPlace c wake next left → Coming (single c room) who wake next left
+coming_single : (c : Cells) (room who wake : ℕ) (next : Option ℕ) (left : ℕ) → Apart c → Absent who c → IsPosition c wake next left → Coming (single c room) who wake next left
 coming_single c room who wake next left a none place =
     let xs = place.prefix in
     let a' = subst Apart place.whole a in
@@ -242,12 +242,12 @@ coming_single c room who wake next left a none place =
         (ap (λ zs. value_in zs y.0) (sym joined) ∙ value_at (place.prefix ++ (who, left) ∷ []) y.0 y.1 ys (apart_middle (place.prefix ++ (who, left) ∷ []) y ys (subst Apart (sym joined) b)))
         (omega (arith, less)))
 
-pub coming : (t : Chains ℕ) (who wake : ℕ) (next : Option ℕ) (left : ℕ) → length t.chains ≡ 1 → Apart (chain_at t.chains 0) → value_of t.chains who ≡ None → IsPlace (chain_at t.chains 0) wake next left → Coming t who wake next left
+pub coming : (t : Chains ℕ) (who wake : ℕ) (next : Option ℕ) (left : ℕ) → length t.chains ≡ 1 → Apart (chain_at t.chains 0) → value_of t.chains who ≡ None → IsPosition (chain_at t.chains 0) wake next left → Coming t who wake next left
 coming t who wake next left one a none place =
     subst (λ u. Coming u who wake next left) (sym (is_single t one)) (coming_single (chain_at t.chains 0) t.room who wake next left a (absent_from t who one none) place)
 
 -- the next key is in the list
-pub next_there : (c : Cells) (wake : ℕ) (next : Option ℕ) (left x : ℕ) → IsPlace c wake next left → next ≡ Some x → IsSome (value_in c x)
+pub next_there : (c : Cells) (wake : ℕ) (next : Option ℕ) (left x : ℕ) → IsPosition c wake next left → next ≡ Some x → IsSome (value_in c x)
 next_there c wake next left x place e = subst (λ zs. IsSome (value_in zs x)) (sym place.whole) (there place.back (sym place.next_is ∙ e))
   where
     there : (ys : Cells) → first_key ys ≡ Some x → IsSome (value_in (place.prefix ++ ys) x)
@@ -323,7 +323,7 @@ pub nobody_due : (b tick : ℕ) (c : Cells) → first_value c ≡ None → due_a
 nobody_due b tick [] e = refl
 nobody_due b tick (x ∷ xs) e = absurd (cc)
 
--- ---- the place of a wake, one task further
+-- ---- the position of a wake, one task further
 pub passed_value : (cs : List Cells) (wake : ℕ) (next : Option ℕ) (left passed id : ℕ) → length cs ≡ 1 → Passed (chain_at cs 0) wake next left passed → next ≡ Some id → IsSome (value_of cs id)
 passed_value cs wake next left passed id one p e =
     subst (λ zs. IsSome (value_in zs id)) (sym (one_cells cs one ∙ p.whole)) (there p.back (sym p.next_is ∙ e))
@@ -368,7 +368,7 @@ passed_more cs wake next after left passed id gap one a p e value few follows =
     }
 
 pub placed : (cs : List Cells) (wake : ℕ) (next : Option ℕ) (left passed id gap : ℕ) → length cs ≡ 1 → Apart (chain_at cs 0) → Passed (chain_at cs 0) wake next left passed → next ≡ Some id → value_of cs id ≡ Some gap → left < gap
-    → IsPlace (chain_at cs 0) wake next left
+    → IsPosition (chain_at cs 0) wake next left
 placed cs wake next left passed id gap one a p e value less =
     let f = further cs wake next left passed id gap one a p e value in
     record {
@@ -380,9 +380,9 @@ placed cs wake next left passed id gap one a p e value less =
       later = λ g q. let same = same_Some gap g (sym (ap first_value f.back_is) ∙ q) in omega (arith, less, same);
     }
 
--- a task is inserted at its place, before the gap after it is lessened
+-- a task is inserted at its position, before the gap after it is lessened
 module _ (t : Chains ℕ) (who wake : ℕ) (next after : Option ℕ) (left : ℕ) (inserted : Chains ℕ) (one : length t.chains ≡ 1) (apart : Apart (chain_at t.chains 0))
-    (absent : wake_of (wakes_from 0 (chain_at t.chains 0)) who ≡ None) (place : IsPlace (chain_at t.chains 0) wake next left)
+    (absent : wake_of (wakes_from 0 (chain_at t.chains 0)) who ≡ None) (place : IsPosition (chain_at t.chains 0) wake next left)
     (is : inserted ≡ with_cell t 0 next (who, left)) (goes_on : NextIs inserted.chains who after) where
   comes : Coming t who wake next left
   comes = coming t who wake next left one apart (ap (λ zs. value_in zs who) (one_cells t.chains one) ∙ no_value 0 who (chain_at t.chains 0) absent) place

@@ -18,8 +18,8 @@ pub record IsTimed (cs : List (List (ℕ × ℕ))) : Type 0 where
   pub one : length cs ≡ 1
   pub wakes : All (λ t. t.1 < 2 ^ 64) (wakes_from 0 (chain_at cs 0))
 
--- the place of a wake: after all tasks with that wake or an earlier one, and the given number of ticks after the last of them
-pub record IsPlace (c : List (ℕ × ℕ)) (wake : ℕ) (next : Option ℕ) (left : ℕ) : Type 0 where
+-- the position of a wake: after all tasks with that wake or an earlier one, and the given number of ticks after the last of them
+pub record IsPosition (c : List (ℕ × ℕ)) (wake : ℕ) (next : Option ℕ) (left : ℕ) : Type 0 where
   pub prefix : List (ℕ × ℕ)
   pub back : List (ℕ × ℕ)
   pub whole : c ≡ prefix ++ back

@@ -3,7 +3,7 @@
 ghost use Rattle.std.specs.Prelude.{◌≡◌, ◌<◌, [], None, length, IfOk, is_some};
 ghost use Rattle.delay_queue.specs.Wakes.{Order, wake_of, with_task, without_task, due_at, without_due};
 
-use crate::gaps::{LIST, Place, lengthen, lessen, place_of};
+use crate::gaps::{LIST, Position, lengthen, lessen, position_of};
 use linked_lists::{IdLists, Ident, NoMemory};
 use std::alloc::Global;
 use std::marker::Model;
@@ -59,7 +59,7 @@ impl Delays {
         ensures { self.new ≡ with_task self.old (who, wake) }
     {
         self.tasks.facts();
-        let Place { next, left } = place_of(&self.tasks, wake);
+        let Position { next, left } = position_of(&self.tasks, wake);
         self.tasks.insert_before(LIST, next, who, left);
         let next = self.tasks.next(who);
         lessen(&mut self.tasks, next, left);

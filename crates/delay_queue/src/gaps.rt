@@ -3,41 +3,41 @@
 ghost use Rattle.std.specs.Prelude.{◌≡◌, ◌+◌, ◌-◌, ◌<◌, ◌≤◌, ◌^◌, length, IsSomeAnd};
 ghost use Rattle.std.specs.Option.{ForSome};
 ghost use Rattle.linked_lists.specs.Chains.{chain_at, value_of};
-ghost use Rattle.delay_queue.specs.Inside.{IsPlace, with_gap};
+ghost use Rattle.delay_queue.specs.Inside.{IsPosition, with_gap};
 
 use linked_lists::{IdLists, Ident};
 
 /// The number of the only list.
 pub(crate) const LIST: usize = 0;
 
-// The place of a wake: before the task `next`, and `left` ticks after the wake of the task before.
+// The position of a wake: before the task `next`, and `left` ticks after the wake of the task before.
 #[derive(Drop)]
-pub(crate) struct Place {
+pub(crate) struct Position {
     pub(crate) next: Option<Ident>,
     pub(crate) left: u64,
 }
 
 // The first task with a wake after this one, and the ticks from the wake of the task before it to
 // this one.
-pub(crate) fn place_of(tasks: &IdLists<u64>, wake: u64) -> Place
+pub(crate) fn position_of(tasks: &IdLists<u64>, wake: u64) -> Position
     requires { length tasks.now.chains ≡ 1 }
-    ensures { IsPlace (chain_at tasks.now.chains 0) wake result.next result.left }
+    ensures { IsPosition (chain_at tasks.now.chains 0) wake result.next result.left }
 {
     tasks.facts();
     let mut next = tasks.first(LIST);
     let mut left = wake;
     for _passed in 0..tasks.len() {
         let Some(id) = next else {
-            return Place { next: None, left };
+            return Position { next: None, left };
         };
         let gap = *tasks.value(id);
         if gap > left {
-            return Place { next, left };
+            return Position { next, left };
         }
         left -= gap;
         next = tasks.next(id);
     }
-    Place { next, left }
+    Position { next, left }
 }
 
 // Shortens the gap before a task, if there is a task.

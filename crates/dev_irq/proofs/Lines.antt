@@ -11,7 +11,7 @@ use Rattle.std.proofs.lemmas.List.Quantifiers.{position-Some}
 use Rattle.isr_watch.specs.declared.watchdog.Routine.{Routine}
 use Rattle.dev_irq.specs.declared.line.Line.{Line}
 use Rattle.dev_irq.specs.State.{idle_line, line_of, is_waiting, IsLine, IsIrqs}
-use Rattle.dev_irq.specs.Calls.{with_routines, is_full, with_routine, place_of, without_place, without_routine, with_mark, with_one_more, with_one_less, changed}
+use Rattle.dev_irq.specs.Calls.{with_routines, is_full, with_routine, position_of, without_position, without_routine, with_mark, with_one_more, with_one_less, changed}
 use Rattle.dev_irq.specs.Laws.{KeptLaw}
 
 -- ---- the invariant
@@ -40,9 +40,9 @@ routine_stays routine l is =
     room e = let fits : length l.routines.items < 4 = grind (arith, nat_tests) in omega (arith, length_push l.routines.items routine)
 
 pub removal_stays : (entry : ℕ) (l : Line) → IsLine l → IsLine (without_routine entry l)
-removal_stays entry l is = by (place_of entry l.routines.items) refl
+removal_stays entry l is = by (position_of entry l.routines.items) refl
   where
-    by : (o : Option ℕ) → place_of entry l.routines.items ≡ o → IsLine (with_routines (without_place l.routines.items o) l)
+    by : (o : Option ℕ) → position_of entry l.routines.items ≡ o → IsLine (with_routines (without_position l.routines.items o) l)
     by None e = is
     by (Some i) e =
         let found = position-Some (λ (r : Routine). r.entry == entry) l.routines.items i (record { entry = 0; param = 0 }) e in

@@ -24,22 +24,22 @@ connect_refusal l = if is_full l then Some errors.TooMany else None
 abbrev pub with_routine : Routine → Line → Line
 with_routine routine l = if is_full l then l else with_routines (l.routines.items ++ routine ∷ []) l
 
--- the place of the earliest connection of the routine that begins at an address
-abbrev pub place_of : ℕ → List Routine → Option ℕ
-place_of entry routines = position (λ r. r.entry == entry) routines
+-- the position of the earliest connection of the routine that begins at an address
+abbrev pub position_of : ℕ → List Routine → Option ℕ
+position_of entry routines = position (λ r. r.entry == entry) routines
 
 -- why it can't be disconnected: there is none
 abbrev pub disconnect_refusal : ℕ → Line → Option Errno
-disconnect_refusal entry l = if is_some (place_of entry l.routines.items) then None else Some errors.InvalidOperation
+disconnect_refusal entry l = if is_some (position_of entry l.routines.items) then None else Some errors.InvalidOperation
 
--- the routines without the one at a place
-abbrev pub without_place : List Routine → Option ℕ → List Routine
-without_place routines None = routines
-without_place routines (Some place) = remove routines place
+-- the routines without the one at a position
+abbrev pub without_position : List Routine → Option ℕ → List Routine
+without_position routines None = routines
+without_position routines (Some at) = remove routines at
 
 -- the earliest connection of a routine is gone
 abbrev pub without_routine : ℕ → Line → Line
-without_routine entry l = with_routines (without_place l.routines.items (place_of entry l.routines.items)) l
+without_routine entry l = with_routines (without_position l.routines.items (position_of entry l.routines.items)) l
 
 -- the line is enabled, or it isn't
 abbrev pub with_mark : Bool → Line → Line

@@ -4,7 +4,7 @@ ghost use Rattle.std.specs.Prelude.{◌≡◌, ◌≤◌, true, None, Some, Matc
 ghost use Rattle.wind_base.specs.Limits.{frame_bytes};
 ghost use Rattle.isr_watch.specs.Calls.{begun};
 ghost use Rattle.dev_irq.specs.State.{idle_line, is_waiting as is_waiting_lem};
-ghost use Rattle.dev_irq.specs.Calls.{connect_refusal, with_routine, disconnect_refusal, without_routine, place_of as place_of_lem, with_mark, with_one_more, with_one_less};
+ghost use Rattle.dev_irq.specs.Calls.{connect_refusal, with_routine, disconnect_refusal, without_routine, position_of as position_of_lem, with_mark, with_one_more, with_one_less};
 
 use arrayvec::ArrayVec;
 use isr_watch::{Routine, Watch};
@@ -62,9 +62,9 @@ impl Line {
         Ok(())
     }
 
-    // The place of the earliest connection of the routine that begins at this address.
-    fn place_of(&self, entry: u32) -> Option<usize>
-        ensures { result ≡ place_of_lem entry self.now.routines.items }
+    // The position of the earliest connection of the routine that begins at this address.
+    fn position_of(&self, entry: u32) -> Option<usize>
+        ensures { result ≡ position_of_lem entry self.now.routines.items }
     {
         self.routines
             .as_slice()
@@ -82,10 +82,10 @@ impl Line {
             (λ e. disconnect_refusal entry self.old ≡ Some e) }
         ensures line { self.new ≡ without_routine entry self.old }
     {
-        let Some(place) = self.place_of(entry) else {
+        let Some(position) = self.position_of(entry) else {
             return Err(Errno::InvalidOperation);
         };
-        self.routines.remove(place);
+        self.routines.remove(position);
         Ok(())
     }
 

@@ -12,7 +12,7 @@ use Rattle.elf_read.specs.Places.{half, word}
 use Rattle.elf_read.specs.Rule.{Rule, ◌and_then◌, unless, when, first_of, each}
 use Rattle.elf_read.specs.Numbered.{total}
 use Rattle.elf_read.specs.Rules.{length_rule, ident_from, ident_rule, machine_rule, type_rule, headers_rule, has_content, content_rule, strings_rule, name_rule, load_rule, is_loadable, is_right_symtab, symtab_rule, symbol_rule, table_rule, is_right_table, relocations_rule, relocation_rule, rules_of, checked}
-use Rattle.elf_read.specs.Tables.{header, header_place, is_loaded, symtab, symbol_count, has_name, is_zero, is_applied, rela_count}
+use Rattle.elf_read.specs.Tables.{header, header_offset, is_loaded, symtab, symbol_count, has_name, is_zero, is_applied, rela_count}
 use Rattle.elf_read.specs.Contents.{ModuleOf}
 use Rattle.elf_build.specs.Entries.{header_bytes, kind_of}
 use Rattle.elf_build.specs.File.{RelocTable, tables_of, header_total, symbols_of, strings_of, names_of, symbols_at, relocs_at, strings_at, names_at, headers_at, count_of, elf_header, file_of, null_header, symtab_header, strings_header, locals_end, table_header, table_headers, fixed_names}
@@ -112,12 +112,12 @@ relas_pass bytes m rule h go = each_are (TableAt bytes) rule (count_of m + 4) (t
 
 null_content : (bytes : List ℕ) (m : Module) → Known bytes m → content_rule bytes 0 ≡ Ok tt
 unfolding has_content null_header
-null_content bytes m k = ap (λ h. when (has_content h) (unless (nat_le (h.offset + h.size) (length bytes)) (Short (header_place bytes 0 + 16)))) k.null_is
+null_content bytes m k = ap (λ h. when (has_content h) (unless (nat_le (h.offset + h.size) (length bytes)) (Short (header_offset bytes 0 + 16)))) k.null_is
 
 fits_by : (bytes : List ℕ) (i : ℕ) (h : SectionHeader) → header bytes i ≡ h → h.offset + h.size ≤ length bytes → content_rule bytes i ≡ Ok tt
 fits_by bytes i h e l =
-    ap (λ x. when (has_content x) (unless (nat_le (x.offset + x.size) (length bytes)) (Short (header_place bytes i + 16)))) e
-    ∙ (ap (λ b. when (has_content h) (unless b (Short (header_place bytes i + 16)))) (at_most (h.offset + h.size) (length bytes) l)
+    ap (λ x. when (has_content x) (unless (nat_le (x.offset + x.size) (length bytes)) (Short (header_offset bytes i + 16)))) e
+    ∙ (ap (λ b. when (has_content h) (unless b (Short (header_offset bytes i + 16)))) (at_most (h.offset + h.size) (length bytes) l)
     ∙ when_ok (has_content h))
   where
     when_ok : (b : Bool) → when b (Ok tt) ≡ Ok tt
@@ -141,7 +141,7 @@ contents_pass bytes m h =
 strings_pass : (bytes : List ℕ) (m : Module) → Held bytes m → strings_rule bytes ≡ Ok tt
 strings_pass bytes m h =
     let e : (header bytes (half bytes 50)).kind ≡ 3 = ap (λ i. (header bytes i).kind) h.facts.number_is ∙ names_kind bytes m h.facts in
-    ap (λ b. unless b (BadSection (header_place bytes (half bytes 50)))) (equals (header bytes (half bytes 50)).kind 3 e)
+    ap (λ b. unless b (BadSection (header_offset bytes (half bytes 50)))) (equals (header bytes (half bytes 50)).kind 3 e)
 
 -- a name among the fixed ones
 fixed_name : (ss : List Sect) (k : ℕ) → list_any is_zero (take 256 (drop k (names_of ss))) ≡ true → has_name (names_of ss) k ≡ true
@@ -150,9 +150,9 @@ fixed_name ss k h = h
 
 name_by : (bytes : List ℕ) (m : Module) (i k : ℕ) → Known bytes m → (header bytes i).name ≡ k → has_name (names_of m.sections) k ≡ true → name_rule bytes i ≡ Ok tt
 name_by bytes m i k f e t =
-    ap (λ x. unless (has_name x (header bytes i).name) (BadSection (header_place bytes i))) f.section_names_are
-    ∙ (ap (λ x. unless (has_name (names_of m.sections) x) (BadSection (header_place bytes i))) e
-    ∙ ap (λ b. unless b (BadSection (header_place bytes i))) t)
+    ap (λ x. unless (has_name x (header bytes i).name) (BadSection (header_offset bytes i))) f.section_names_are
+    ∙ (ap (λ x. unless (has_name (names_of m.sections) x) (BadSection (header_offset bytes i))) e
+    ∙ ap (λ b. unless b (BadSection (header_offset bytes i))) t)
 
 -- the names of the headers that no section has
 record HaveNames (names : List ℕ) : Type 0 where
@@ -197,7 +197,7 @@ names_pass bytes m h =
 -- ---- loaded sections
 
 not_loading : (bytes : List ℕ) (i : ℕ) → (bit_and (header bytes i).flags 2 == 0) ≡ true → load_rule bytes i ≡ Ok tt
-not_loading bytes i h = when_not (is_loaded bytes i) (unless (is_loadable (header bytes i)) (BadSection (header_place bytes i))) (not_loaded bytes i h)
+not_loading bytes i h = when_not (is_loaded bytes i) (unless (is_loadable (header bytes i)) (BadSection (header_offset bytes i))) (not_loaded bytes i h)
 
 loads_pass : (bytes : List ℕ) (m : Module) → Held bytes m → each 0 (half bytes 48) (load_rule bytes) ≡ Ok tt
 loads_pass bytes m h =
@@ -215,7 +215,7 @@ loads_pass bytes m h =
 
 no_table : (bytes : List ℕ) (i k : ℕ) → (header bytes i).kind ≡ k → (k == 2) ≡ false → symtab_rule bytes i ≡ Ok tt
 no_table bytes i k e d =
-    when_not ((header bytes i).kind == 2) (unless (is_right_symtab bytes i) (BadSection (header_place bytes i)) and_then unless (nat_le ((header bytes i).size / 16) 65536) (TooMany (header_place bytes i)))
+    when_not ((header bytes i).kind == 2) (unless (is_right_symtab bytes i) (BadSection (header_offset bytes i)) and_then unless (nat_le ((header bytes i).size / 16) 65536) (TooMany (header_offset bytes i)))
     (ap (λ x. x == 2) e ∙ d)
 
 kind_not_two : (b : Body) → (kind_of b == 2) ≡ false
@@ -247,11 +247,11 @@ table_small bytes m h b =
 table_passes : (bytes : List ℕ) (m : Module) → Held bytes m → Buildable m → symtab_rule bytes (count_of m + 1) ≡ Ok tt
 table_passes bytes m h b =
     let i = count_of m + 1 in
-    let rest = unless (is_right_symtab bytes i) (BadSection (header_place bytes i)) and_then unless (nat_le ((header bytes i).size / 16) 65536) (TooMany (header_place bytes i)) in
+    let rest = unless (is_right_symtab bytes i) (BadSection (header_offset bytes i)) and_then unless (nat_le ((header bytes i).size / 16) 65536) (TooMany (header_offset bytes i)) in
     ap (λ x. when x rest) (equals (header bytes i).kind 2 (table_kind bytes m h.facts))
-    ∙ and_ok (unless (is_right_symtab bytes i) (BadSection (header_place bytes i))) (unless (nat_le ((header bytes i).size / 16) 65536) (TooMany (header_place bytes i)))
-    (ap (λ x. unless x (BadSection (header_place bytes i))) (table_right bytes m h))
-    (ap (λ x. unless x (TooMany (header_place bytes i))) (table_small bytes m h b))
+    ∙ and_ok (unless (is_right_symtab bytes i) (BadSection (header_offset bytes i))) (unless (nat_le ((header bytes i).size / 16) 65536) (TooMany (header_offset bytes i)))
+    (ap (λ x. unless x (BadSection (header_offset bytes i))) (table_right bytes m h))
+    (ap (λ x. unless x (TooMany (header_offset bytes i))) (table_small bytes m h b))
 
 tables_pass : (bytes : List ℕ) (m : Module) → Held bytes m → Buildable m → each 0 (half bytes 48) (symtab_rule bytes) ≡ Ok tt
 tables_pass bytes m h b =
@@ -280,7 +280,7 @@ kind_not_nine (Size n) = refl
 no_relocs : (bytes : List ℕ) (i k : ℕ) → (header bytes i).kind ≡ k → (k == 4 || k == 9) ≡ false → table_rule bytes i ≡ Ok tt
 no_relocs bytes i k e d =
     when_not ((header bytes i).kind == 4 || (header bytes i).kind == 9)
-    (unless (nat_lt (header bytes i).info (half bytes 48)) (BadSection (header_place bytes i)) and_then when (is_loaded bytes (header bytes i).info) (unless (is_right_table bytes i) (BadSection (header_place bytes i)) and_then unless (nat_le (total (i + 1) (rela_count bytes)) 1048576) (TooMany (header_place bytes i))))
+    (unless (nat_lt (header bytes i).info (half bytes 48)) (BadSection (header_offset bytes i)) and_then when (is_loaded bytes (header bytes i).info) (unless (is_right_table bytes i) (BadSection (header_offset bytes i)) and_then unless (nat_le (total (i + 1) (rela_count bytes)) 1048576) (TooMany (header_offset bytes i))))
     (ap (λ x. x == 4 || x == 9) e ∙ d)
 
 total_low : (bytes : List ℕ) (m : Module) → Held bytes m → Buildable m → (i : ℕ) → i < header_total m → total (i + 1) (rela_count bytes) ≤ 1048576
@@ -299,14 +299,14 @@ total_low bytes m h b i l =
 
 rela_passes : (bytes : List ℕ) (m : Module) (i : ℕ) (g : RelocTable) → total (i + 1) (rela_count bytes) ≤ 1048576 → TableAt bytes i g → table_rule bytes i ≡ Ok tt
 rela_passes bytes m i g t x =
-    let inner = unless (is_right_table bytes i) (BadSection (header_place bytes i)) and_then unless (nat_le (total (i + 1) (rela_count bytes)) 1048576) (TooMany (header_place bytes i)) in
-    ap (λ k. when (k == 4 || k == 9) (unless (nat_lt (header bytes i).info (half bytes 48)) (BadSection (header_place bytes i)) and_then when (is_loaded bytes (header bytes i).info) inner)) x.kind
-    ∙ and_ok (unless (nat_lt (header bytes i).info (half bytes 48)) (BadSection (header_place bytes i))) (when (is_loaded bytes (header bytes i).info) inner)
-    (ap (λ b. unless b (BadSection (header_place bytes i))) (below (header bytes i).info (half bytes 48) x.low))
+    let inner = unless (is_right_table bytes i) (BadSection (header_offset bytes i)) and_then unless (nat_le (total (i + 1) (rela_count bytes)) 1048576) (TooMany (header_offset bytes i)) in
+    ap (λ k. when (k == 4 || k == 9) (unless (nat_lt (header bytes i).info (half bytes 48)) (BadSection (header_offset bytes i)) and_then when (is_loaded bytes (header bytes i).info) inner)) x.kind
+    ∙ and_ok (unless (nat_lt (header bytes i).info (half bytes 48)) (BadSection (header_offset bytes i))) (when (is_loaded bytes (header bytes i).info) inner)
+    (ap (λ b. unless b (BadSection (header_offset bytes i))) (below (header bytes i).info (half bytes 48) x.low))
     (ap (λ b. when b inner) x.target
-    ∙ and_ok (unless (is_right_table bytes i) (BadSection (header_place bytes i))) (unless (nat_le (total (i + 1) (rela_count bytes)) 1048576) (TooMany (header_place bytes i)))
-    (ap (λ b. unless b (BadSection (header_place bytes i))) x.form)
-    (ap (λ b. unless b (TooMany (header_place bytes i))) (at_most (total (i + 1) (rela_count bytes)) 1048576 t)))
+    ∙ and_ok (unless (is_right_table bytes i) (BadSection (header_offset bytes i))) (unless (nat_le (total (i + 1) (rela_count bytes)) 1048576) (TooMany (header_offset bytes i)))
+    (ap (λ b. unless b (BadSection (header_offset bytes i))) x.form)
+    (ap (λ b. unless b (TooMany (header_offset bytes i))) (at_most (total (i + 1) (rela_count bytes)) 1048576 t)))
 
 -- a rule for each group, if the number stays below a bound
 each_below : (bytes : List ℕ) (rule : ℕ → Rule) (i n : ℕ) (gs : List RelocTable) → i + length gs ≤ n → ((j : ℕ) (g : RelocTable) → j < n → TableAt bytes j g → rule j ≡ Ok tt) → AllAt (TableAt bytes) i gs → each i (length gs) rule ≡ Ok tt

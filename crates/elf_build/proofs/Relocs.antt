@@ -14,7 +14,7 @@ use Rattle.elf_read.specs.Places.{half, word, rela_at}
 use Rattle.elf_read.specs.Rule.{unless, when, each}
 use Rattle.elf_read.specs.Numbered.{total, gathered}
 use Rattle.elf_read.specs.Rules.{has_content, content_rule, is_right_relocation, relocation_rule, relocations_rule, is_right_table}
-use Rattle.elf_read.specs.Tables.{header, header_place, is_loaded, loaded_before, is_elsewhere, is_applied, rela_count, rela_place, relocation, symbol, symbol_count, symtab, has_symtab, width}
+use Rattle.elf_read.specs.Tables.{header, header_offset, is_loaded, loaded_before, is_elsewhere, is_applied, rela_count, rela_offset, relocation, symbol, symbol_count, symtab, has_symtab, width}
 use Rattle.elf_read.specs.Contents.{rel_of, rels_at}
 use Rattle.elf_build.specs.Entries.{header_bytes, rel_entry, kind_of}
 use Rattle.elf_read.specs.Modules.{size_of}
@@ -123,9 +123,9 @@ rel_is bytes sections place table symbols i q at r c o e s good d =
     record {
       same = rel_same bytes sections place table symbols i q r c e x good;
       fits =
-          ap (λ h. unless (is_right_relocation bytes (header bytes h) (relocation bytes i q)) (BadReloc (rela_place bytes i q))) e
-          ∙ (ap (λ z. unless (is_right_relocation bytes (header bytes (suc r.section)) z) (BadReloc (rela_place bytes i q))) x
-          ∙ ap (λ b. unless b (BadReloc (rela_place bytes i q))) (right_by bytes sections place table symbols r c good d));
+          ap (λ h. unless (is_right_relocation bytes (header bytes h) (relocation bytes i q)) (BadReloc (rela_offset bytes i q))) e
+          ∙ (ap (λ z. unless (is_right_relocation bytes (header bytes (suc r.section)) z) (BadReloc (rela_offset bytes i q))) x
+          ∙ ap (λ b. unless b (BadReloc (rela_offset bytes i q))) (right_by bytes sections place table symbols r c good d));
     }
 
 -- ---- the relocations of one section
@@ -178,8 +178,8 @@ form_by bytes i table n at j e t h =
 content_by : (bytes : List ℕ) (i table n at j : ℕ) → header bytes i ≡ table_header table at j n → at + 12 * n ≤ length bytes → content_rule bytes i ≡ Ok tt
 unfolding has_content table_header
 content_by bytes i table n at j e h =
-    ap (λ x. when (has_content x) (unless (nat_le (x.offset + x.size) (length bytes)) (Short (header_place bytes i + 16)))) e
-    ∙ ap (λ b. unless b (Short (header_place bytes i + 16))) (at_most (at + 12 * n) (length bytes) h)
+    ap (λ x. when (has_content x) (unless (nat_le (x.offset + x.size) (length bytes)) (Short (header_offset bytes i + 16)))) e
+    ∙ ap (λ b. unless b (Short (header_offset bytes i + 16))) (at_most (at + 12 * n) (length bytes) h)
 
 reads_by : (bytes : List ℕ) (i n : ℕ) (rs : List Rel) → rela_count bytes i ≡ n → length rs ≡ n → AllAt (RelAt bytes i) 0 rs → rels_at bytes i ≡ rs
 unfolding rels_at

@@ -12,7 +12,7 @@ use Rattle.elf_read.specs.Places.{half, word, part}
 use Rattle.elf_read.specs.Rule.{Rule, ◌and_then◌, unless, when, each}
 use Rattle.elf_read.specs.Numbered.{gathered}
 use Rattle.elf_read.specs.Rules.{has_content, content_rule, name_rule, is_loadable, load_rule, is_alignment}
-use Rattle.elf_read.specs.Tables.{header, header_place, content, is_loaded, has_name, section_names}
+use Rattle.elf_read.specs.Tables.{header, header_offset, content, is_loaded, has_name, section_names}
 use Rattle.elf_read.specs.Contents.{name_at, sect_of, sects_at}
 use Rattle.elf_build.specs.Entries.{header_bytes, sect_header, kind_of, content_of, ended}
 use Rattle.elf_read.specs.Modules.{size_of}
@@ -99,21 +99,21 @@ loads_by bytes i name at s e l good =
     and_true (kind_of s.body == 1 || (kind_of s.body == 7 || kind_of s.body == 8)) ((bit_and s.flags 0xc00 == 0) && ((s.align == 0 || is_alignment s.align) && nat_le (size_of s.body) 16777216)) (kind_ok s.body)
     (and_true (bit_and s.flags 0xc00 == 0) ((s.align == 0 || is_alignment s.align) && nat_le (size_of s.body) 16777216) good.sound.plain
     (and_true (s.align == 0 || is_alignment s.align) (nat_le (size_of s.body) 16777216) (or_true (s.align == 0) (is_alignment s.align) good.sound.align) (at_most (size_of s.body) 16777216 good.sound.size))) in
-    ap (λ b. when b (unless (is_loadable (header bytes i)) (BadSection (header_place bytes i)))) l
-    ∙ (ap (λ h. unless (is_loadable h) (BadSection (header_place bytes i))) e
-    ∙ ap (λ b. unless b (BadSection (header_place bytes i))) right)
+    ap (λ b. when b (unless (is_loadable (header bytes i)) (BadSection (header_offset bytes i)))) l
+    ∙ (ap (λ h. unless (is_loadable h) (BadSection (header_offset bytes i))) e
+    ∙ ap (λ b. unless b (BadSection (header_offset bytes i))) right)
 
 content_by : (bytes : List ℕ) (i name at : ℕ) (s : Sect) → header bytes i ≡ sect_header name at s → Stands bytes at (sect_content s) → content_rule bytes i ≡ Ok tt
 unfolding sect_header has_content
 content_by bytes i name at s e c =
-    ap (λ h. when (has_content h) (unless (nat_le (h.offset + h.size) (length bytes)) (Short (header_place bytes i + 16)))) e
-    ∙ content_ok s.body at (length bytes) (Short (header_place bytes i + 16)) c.within
+    ap (λ h. when (has_content h) (unless (nat_le (h.offset + h.size) (length bytes)) (Short (header_offset bytes i + 16)))) e
+    ∙ content_ok s.body at (length bytes) (Short (header_offset bytes i + 16)) c.within
 
 named_by : (bytes names : List ℕ) (i name : ℕ) (h : SectionHeader) (text : List ℕ) → section_names bytes ≡ names → header bytes i ≡ h → h.name ≡ name → Stands names name (ended text) → IsName text → name_rule bytes i ≡ Ok tt
 named_by bytes names i name h text ns e at n good =
-    ap (λ x. unless (has_name x (header bytes i).name) (BadSection (header_place bytes i))) ns
-    ∙ (ap (λ k. unless (has_name names k) (BadSection (header_place bytes i))) (ap (λ x. x.name) e ∙ at)
-    ∙ ap (λ b. unless b (BadSection (header_place bytes i))) (name_there names name text n good))
+    ap (λ x. unless (has_name x (header bytes i).name) (BadSection (header_offset bytes i))) ns
+    ∙ (ap (λ k. unless (has_name names k) (BadSection (header_offset bytes i))) (ap (λ x. x.name) e ∙ at)
+    ∙ ap (λ b. unless b (BadSection (header_offset bytes i))) (name_there names name text n good))
 
 pub sect_is : (bytes names : List ℕ) (place count i name at : ℕ) (s : Sect) → Reads bytes place count names → i < count → Stands bytes (place + 40 * i) (header_bytes (sect_header name at s)) → Stands names name (ended s.name) → Stands bytes at (sect_content s) → GoodSect s → SectAt bytes i s
 unfolding sect_header

@@ -12,7 +12,7 @@ use Rattle.elf_read.specs.Places.{half, symbol_at}
 use Rattle.elf_read.specs.Rule.{unless}
 use Rattle.elf_read.specs.Numbered.{total, gathered}
 use Rattle.elf_read.specs.Rules.{has_place, lies_inside, is_right_common, is_right_symbol, symbol_rule, is_alignment}
-use Rattle.elf_read.specs.Tables.{header, is_loaded, loaded_before, is_elsewhere, has_name, symtab, symbol, symbol_place, symbol_names, one_loaded}
+use Rattle.elf_read.specs.Tables.{header, is_loaded, loaded_before, is_elsewhere, has_name, symtab, symbol, symbol_offset, symbol_names, one_loaded}
 use Rattle.elf_read.specs.Contents.{name_at, place_of, sym_of, syms_at}
 use Rattle.elf_build.specs.Entries.{symbol_bytes, sym_entry, number_of, ended}
 use Rattle.elf_read.specs.Modules.{size_of}
@@ -207,9 +207,9 @@ sym_is bytes strings sections d place k name s r st n good =
       same = sym_same bytes strings sections place k name s r e n good;
       stands = ap (λ x. is_elsewhere bytes x.section) e ∙ not_elsewhere bytes sections s.place s.value s.size r.loads good.place;
       fits =
-          ap (λ b. unless b (BadSymbol (symbol_place bytes k))) (right_is bytes (symbol bytes k) ∙ ap (λ x. is_right_symbol_by bytes x (symbol bytes k)) r.strings_are)
-          ∙ (ap (λ x. unless (is_right_symbol_by bytes strings x) (BadSymbol (symbol_place bytes k))) e
-          ∙ ap (λ b. unless b (BadSymbol (symbol_place bytes k))) (passes_by bytes strings sections d place name s r n good));
+          ap (λ b. unless b (BadSymbol (symbol_offset bytes k))) (right_is bytes (symbol bytes k) ∙ ap (λ x. is_right_symbol_by bytes x (symbol bytes k)) r.strings_are)
+          ∙ (ap (λ x. unless (is_right_symbol_by bytes strings x) (BadSymbol (symbol_offset bytes k))) e
+          ∙ ap (λ b. unless b (BadSymbol (symbol_offset bytes k))) (passes_by bytes strings sections d place name s r n good));
     }
 
 -- ---- all of them

@@ -20,7 +20,7 @@ use Rattle.elf_read.specs.Places.{half, part, text_of}
 use Rattle.elf_read.specs.Rule.{◌and_then◌, unless, when, each}
 use Rattle.elf_read.specs.Numbered.{gathered, total}
 use Rattle.elf_read.specs.Rules.{headers_rule, has_content, content_rule, strings_rule, name_rule, names_rule, is_alignment, is_loadable, load_rule, is_right_symtab, symtab_rule, has_place, lies_inside, is_right_common, is_right_symbol, symbol_rule, is_right_table, table_rule, is_right_relocation, relocation_rule, relocations_rule, rules_of, checked}
-use Rattle.elf_read.specs.Tables.{header_count, header_place, header, content, is_loaded, one_loaded, loaded_before, is_elsewhere, is_zero, has_name, section_names, is_symtab, symtab, has_symtab, symbol_count, symbol_place, symbol, symbol_names, is_applied, rela_count, rela_place, relocation, width}
+use Rattle.elf_read.specs.Tables.{header_count, header_offset, header, content, is_loaded, one_loaded, loaded_before, is_elsewhere, is_zero, has_name, section_names, is_symtab, symtab, has_symtab, symbol_count, symbol_offset, symbol, symbol_names, is_applied, rela_count, rela_offset, relocation, width}
 use Rattle.elf_read.specs.Contents.{name_at, body_of, sect_of, sects_at, place_of, sym_of, syms_at, rel_of, rels_at, module_at}
 use Rattle.elf_read.specs.Modules.{IsName, size_of, IsSect, IsPlaced, IsSym, HoldsBytes, IsRel, IsModule, HoldsModule}
 use Rattle.elf_read.proofs.Passing.{left_true, right_true, not_false, at_most, less, first_holds, rest_holds, unless_holds, when_holds, holds_at, each_holds, all_hold}
@@ -110,8 +110,8 @@ loadable_is h is =
 loads_right : (bytes : List ℕ) → Passed bytes → (i : ℕ) → is_loaded bytes i ≡ true → CanLoad (header bytes i)
 loads_right bytes p i h =
     loadable_is (header bytes i)
-    (unless_holds (is_loadable (header bytes i)) (BadSection (header_place bytes i))
-    (when_holds (is_loaded bytes i) (unless (is_loadable (header bytes i)) (BadSection (header_place bytes i))) h (p.loads i (loaded_low bytes i h))))
+    (unless_holds (is_loadable (header bytes i)) (BadSection (header_offset bytes i))
+    (when_holds (is_loaded bytes i) (unless (is_loadable (header bytes i)) (BadSection (header_offset bytes i))) h (p.loads i (loaded_low bytes i h))))
 
 one_alignment : is_alignment 1 ≡ true
 unfolding is_alignment
@@ -141,7 +141,7 @@ unfolding content
 length_content bytes p i l h =
     let h' = header bytes i in
     let fits = nat_le (h'.offset + h'.size) (length bytes) in
-    let e = Short (header_place bytes i + sh_offset) in
+    let e = Short (header_offset bytes i + sh_offset) in
     length_part bytes h'.offset h'.size (at_most (h'.offset + h'.size) (length bytes) (unless_holds fits e (when_holds (has_content h') (unless fits e) h (p.contents i l))))
 
 size_right : (bytes : List ℕ) → Passed bytes → (i : ℕ) → is_loaded bytes i ≡ true → size_of (body_of bytes i (header bytes i)) ≡ (header bytes i).size
@@ -158,7 +158,7 @@ sect_right bytes p i h =
     let can = loads_right bytes p i h in
     let size = size_right bytes p i h in
     record {
-      name = name_is (section_names bytes) (header bytes i).name (unless_holds (has_name (section_names bytes) (header bytes i).name) (BadSection (header_place bytes i)) (p.names i low));
+      name = name_is (section_names bytes) (header bytes i).name (unless_holds (has_name (section_names bytes) (header bytes i).name) (BadSection (header_offset bytes i)) (p.names i low));
       loaded = loaded_flag bytes i h;
       plain = can.plain;
       align = align_right (header bytes i).align can.align;
@@ -207,7 +207,7 @@ few_headers bytes p =
     let b = unless (not (header_count bytes == 0)) (BadSection e_shnum) in
     let c = unless (nat_lt (half bytes e_shstrndx) (header_count bytes)) (BadSection e_shstrndx) in
     let d = unless (nat_le (header_count bytes) most_section_headers) (TooMany e_shnum) in
-    let e = unless (nat_le (header_place bytes (header_count bytes)) (length bytes)) (Short e_shoff) in
+    let e = unless (nat_le (header_offset bytes (header_count bytes)) (length bytes)) (Short e_shoff) in
     let t = first_holds d e (rest_holds c (d and_then e) (rest_holds b (c and_then d and_then e) (rest_holds a (b and_then c and_then d and_then e) p.headers))) in
     at_most (header_count bytes) most_section_headers (unless_holds (nat_le (header_count bytes) most_section_headers) (TooMany e_shnum) t)
 
@@ -302,7 +302,7 @@ placed bytes p e r = by (e.section == shn_undef) refl (e.section == shn_abs) (e.
 right_at : (bytes : List ℕ) → Passed bytes → (k : ℕ) → k < symbol_count bytes - 1 → RightSymbol bytes (symbol bytes (1 + k))
 right_at bytes p k l =
     right_symbol bytes (symbol bytes (1 + k))
-    (unless_holds (is_right_symbol bytes (symbol bytes (1 + k))) (BadSymbol (symbol_place bytes (1 + k))) (each_holds (symbol_count bytes - 1) 1 k (symbol_rule bytes) p.symbols l))
+    (unless_holds (is_right_symbol bytes (symbol bytes (1 + k))) (BadSymbol (symbol_offset bytes (1 + k))) (each_holds (symbol_count bytes - 1) 1 k (symbol_rule bytes) p.symbols l))
 
 sym_right : (bytes : List ℕ) → Passed bytes → (k : ℕ) → k < symbol_count bytes - 1 → IsSym (sections_of bytes) (sym_of bytes (1 + k))
 unfolding sym_of
@@ -331,11 +331,11 @@ few_entries bytes p = by (has_symtab bytes) refl
     by true is =
         let l = less (symtab bytes) (header_count bytes) is in
         let i = symtab bytes in
-        let a = unless (is_right_symtab bytes i) (BadSection (header_place bytes i)) in
+        let a = unless (is_right_symtab bytes i) (BadSection (header_offset bytes i)) in
         let few = nat_le ((header bytes i).size / sym_bytes) most_symbol_entries in
-        let b = unless few (TooMany (header_place bytes i)) in
+        let b = unless few (TooMany (header_offset bytes i)) in
         let t = rest_holds a b (when_holds (is_symtab bytes i) (a and_then b) (symtab_is bytes l) (p.symtabs i l)) in
-        at_most ((header bytes i).size / sym_bytes) most_symbol_entries (unless_holds few (TooMany (header_place bytes i)) t)
+        at_most ((header bytes i).size / sym_bytes) most_symbol_entries (unless_holds few (TooMany (header_offset bytes i)) t)
 
 -- ---- relocations
 applied_loaded : (bytes : List ℕ) (i : ℕ) → is_applied bytes i ≡ true → is_loaded bytes (header bytes i).info ≡ true
@@ -418,7 +418,7 @@ rel_right bytes p i k low l =
     let j = (header bytes i).info in
     let loaded = applied_loaded bytes i (some_applied bytes i k l) in
     let rule = all_hold (rela_count bytes i) k (relocation_rule bytes i) (p.relocations i low) l in
-    let right = right_relocation bytes (header bytes j) r (unless_holds (is_right_relocation bytes (header bytes j) r) (BadReloc (rela_place bytes i k)) rule) in
+    let right = right_relocation bytes (header bytes j) r (unless_holds (is_right_relocation bytes (header bytes j) r) (BadReloc (rela_offset bytes i k)) rule) in
     let symbols = length_symbols bytes in
     let below = right.number in
     record {
@@ -452,12 +452,12 @@ few_sofar bytes p i low pos =
     let applied = some_applied bytes i 0 pos in
     let loaded = is_loaded bytes (header bytes i).info in
     let few = nat_le (total (i + 1) (rela_count bytes)) most_relocations in
-    let a = unless (nat_lt (header bytes i).info (header_count bytes)) (BadSection (header_place bytes i)) in
-    let b = unless (is_right_table bytes i) (BadSection (header_place bytes i)) in
-    let c = unless few (TooMany (header_place bytes i)) in
+    let a = unless (nat_lt (header bytes i).info (header_count bytes)) (BadSection (header_offset bytes i)) in
+    let b = unless (is_right_table bytes i) (BadSection (header_offset bytes i)) in
+    let c = unless few (TooMany (header_offset bytes i)) in
     let t1 = when_holds ((header bytes i).kind == sht_rela || (header bytes i).kind == sht_rel) (a and_then when loaded (b and_then c)) (is_table bytes i applied) (p.tables i low) in
     let t2 = when_holds loaded (b and_then c) (applied_loaded bytes i applied) (rest_holds a (when loaded (b and_then c)) t1) in
-    at_most (total (i + 1) (rela_count bytes)) most_relocations (unless_holds few (TooMany (header_place bytes i)) (rest_holds b c t2))
+    at_most (total (i + 1) (rela_count bytes)) most_relocations (unless_holds few (TooMany (header_offset bytes i)) (rest_holds b c t2))
 
 -- ---- the module
 held_right : (bytes : List ℕ) → Passed bytes → IsModule (module_at bytes)

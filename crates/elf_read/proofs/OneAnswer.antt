@@ -9,7 +9,7 @@ use Rattle.elf_read.specs.Numbered.{total}
 use Rattle.elf_read.specs.Standard.{ident, e_type, e_machine, e_shoff, e_shentsize, e_shnum, e_shstrndx, sht_rela, sht_rel}
 use Rattle.wind_base.specs.Limits.{most_relocations}
 use Rattle.elf_read.specs.Rules.{rules_of, checked, ident_from, headers_rule, content_rule, names_rule, name_rule, load_rule, symtab_rule, symbol_rule, is_right_table, table_rule, relocation_rule, relocations_rule}
-use Rattle.elf_read.specs.Tables.{header, header_count, header_place, is_loaded, symbol_count, rela_count}
+use Rattle.elf_read.specs.Tables.{header, header_count, header_offset, is_loaded, symbol_count, rela_count}
 use Rattle.elf_read.specs.Contents.{module_at}
 use Rattle.elf_read.specs.First.{HoldsOne, RefusedOnce, OneAnswer, NeverMemory}
 
@@ -86,7 +86,7 @@ clean_table_by a b c d f n =
 clean_table : (bytes : List ℕ) (i : ℕ) → IsClean (table_rule bytes i)
 clean_table bytes i =
     clean_table_by ((header bytes i).kind == sht_rela || (header bytes i).kind == sht_rel) (nat_lt (header bytes i).info (header_count bytes)) (is_loaded bytes (header bytes i).info) (is_right_table bytes i)
-    (nat_le (total (i + 1) (rela_count bytes)) most_relocations) (header_place bytes i)
+    (nat_le (total (i + 1) (rela_count bytes)) most_relocations) (header_offset bytes i)
 
 clean_relocations : (bytes : List ℕ) (i : ℕ) → IsClean (relocations_rule bytes i)
 clean_relocations bytes i = clean_each 0 (rela_count bytes i) (relocation_rule bytes i) (λ k. clean_unless _ (BadReloc _) (λ e. cc))

@@ -12,7 +12,7 @@ use Rattle.elf_read.specs.Standard.{ehdr_bytes, ident, e_type, e_machine, e_shof
 use Rattle.elf_read.specs.Places.{half}
 use Rattle.elf_read.specs.Rule.{Rule, ◌and_then◌, unless, when, first_of, each}
 use Rattle.elf_read.specs.Numbered.{total}
-use Rattle.elf_read.specs.Tables.{header_count, header_place, header, is_loaded, is_elsewhere, has_name, has_number, section_names, is_symtab, symtab, has_symtab, symbol_count, symbol_place, symbol, symbol_names, rela_count, rela_place, relocation, width}
+use Rattle.elf_read.specs.Tables.{header_count, header_offset, header, is_loaded, is_elsewhere, has_name, has_number, section_names, is_symtab, symtab, has_symtab, symbol_count, symbol_offset, symbol, symbol_names, rela_count, rela_offset, relocation, width}
 
 -- ---- the file's header
 -- the file has a header
@@ -43,7 +43,7 @@ headers_rule bytes =
     and_then unless (not (header_count bytes == 0)) (BadSection e_shnum)
     and_then unless (nat_lt (half bytes e_shstrndx) (header_count bytes)) (BadSection e_shstrndx)
     and_then unless (nat_le (header_count bytes) most_section_headers) (TooMany e_shnum)
-    and_then unless (nat_le (header_place bytes (header_count bytes)) (length bytes)) (Short e_shoff)
+    and_then unless (nat_le (header_offset bytes (header_count bytes)) (length bytes)) (Short e_shoff)
 
 -- ---- sections
 -- a section with this header has content in the file
@@ -55,17 +55,17 @@ abbrev pub content_rule : List ℕ → ℕ → Rule
 content_rule bytes i =
     when (has_content (header bytes i))
     (unless (nat_le ((header bytes i).offset + (header bytes i).size) (length bytes))
-    (Short (header_place bytes i + sh_offset)))
+    (Short (header_offset bytes i + sh_offset)))
 
 -- the section names are in a string table
 abbrev pub strings_rule : List ℕ → Rule
 strings_rule bytes =
     unless ((header bytes (half bytes e_shstrndx)).kind == sht_strtab)
-    (BadSection (header_place bytes (half bytes e_shstrndx)))
+    (BadSection (header_offset bytes (half bytes e_shstrndx)))
 
 -- section number i has a valid name there
 abbrev pub name_rule : List ℕ → ℕ → Rule
-name_rule bytes i = unless (has_name (section_names bytes) (header bytes i).name) (BadSection (header_place bytes i))
+name_rule bytes i = unless (has_name (section_names bytes) (header bytes i).name) (BadSection (header_offset bytes i))
 
 -- the section names are in a string table, and each section has one
 abbrev pub names_rule : List ℕ → Rule
@@ -88,7 +88,7 @@ is_loadable h =
 
 -- section number i can be loaded, if it is to be loaded
 abbrev pub load_rule : List ℕ → ℕ → Rule
-load_rule bytes i = when (is_loaded bytes i) (unless (is_loadable (header bytes i)) (BadSection (header_place bytes i)))
+load_rule bytes i = when (is_loaded bytes i) (unless (is_loadable (header bytes i)) (BadSection (header_offset bytes i)))
 
 -- section number i obeys this rule
 abbrev pub section_rule : SectionRule → List ℕ → ℕ → Rule
@@ -110,8 +110,8 @@ is_right_symtab bytes i =
 abbrev pub symtab_rule : List ℕ → ℕ → Rule
 symtab_rule bytes i =
     when (is_symtab bytes i)
-    (unless (is_right_symtab bytes i) (BadSection (header_place bytes i))
-    and_then unless (nat_le ((header bytes i).size / sym_bytes) most_symbol_entries) (TooMany (header_place bytes i)))
+    (unless (is_right_symtab bytes i) (BadSection (header_offset bytes i))
+    and_then unless (nat_le ((header bytes i).size / sym_bytes) most_symbol_entries) (TooMany (header_offset bytes i)))
 
 -- a symbol's section exists, or the symbol is absolute or common
 unfoldable pub has_place : List ℕ → SymbolEntry → Bool
@@ -137,7 +137,7 @@ is_right_symbol bytes e =
 
 -- symbol number k is valid
 abbrev pub symbol_rule : List ℕ → ℕ → Rule
-symbol_rule bytes k = unless (is_right_symbol bytes (symbol bytes k)) (BadSymbol (symbol_place bytes k))
+symbol_rule bytes k = unless (is_right_symbol bytes (symbol bytes k)) (BadSymbol (symbol_offset bytes k))
 
 -- ---- relocations
 -- section number i is a valid table of relocations with addends
@@ -153,10 +153,10 @@ is_right_table bytes i =
 abbrev pub table_rule : List ℕ → ℕ → Rule
 table_rule bytes i =
     when ((header bytes i).kind == sht_rela || (header bytes i).kind == sht_rel)
-    (unless (nat_lt (header bytes i).info (header_count bytes)) (BadSection (header_place bytes i))
+    (unless (nat_lt (header bytes i).info (header_count bytes)) (BadSection (header_offset bytes i))
     and_then when (is_loaded bytes (header bytes i).info)
-    (unless (is_right_table bytes i) (BadSection (header_place bytes i))
-    and_then unless (nat_le (total (i + 1) (rela_count bytes)) most_relocations) (TooMany (header_place bytes i))))
+    (unless (is_right_table bytes i) (BadSection (header_offset bytes i))
+    and_then unless (nat_le (total (i + 1) (rela_count bytes)) most_relocations) (TooMany (header_offset bytes i))))
 
 -- a relocation is inside its section's bytes, and its symbol exists and isn't in a section that isn't loaded
 unfoldable pub is_right_relocation : List ℕ → SectionHeader → RelaEntry → Bool
@@ -170,7 +170,7 @@ is_right_relocation bytes target r =
 abbrev pub relocation_rule : List ℕ → ℕ → ℕ → Rule
 relocation_rule bytes i k =
     unless (is_right_relocation bytes (header bytes (header bytes i).info) (relocation bytes i k))
-    (BadReloc (rela_place bytes i k))
+    (BadReloc (rela_offset bytes i k))
 
 -- all relocations of section number i are valid
 abbrev pub relocations_rule : List ℕ → ℕ → Rule

@@ -37,7 +37,7 @@ abbrev pub em_ppc : ℕ
 em_ppc = 20
 
 -- ---- section headers
--- the size in bytes of a header, and the place of its field sh_offset
+-- the size in bytes of a header, and the offset of its field sh_offset
 abbrev pub shdr_bytes : ℕ
 shdr_bytes = 40
 

@@ -15,12 +15,12 @@ abbrev pub header_count : List ℕ → ℕ
 header_count bytes = half bytes e_shnum
 
 -- the offset of section header number i
-abbrev pub header_place : List ℕ → ℕ → ℕ
-header_place bytes i = word bytes e_shoff + shdr_bytes * i
+abbrev pub header_offset : List ℕ → ℕ → ℕ
+header_offset bytes i = word bytes e_shoff + shdr_bytes * i
 
 -- section header number i
 unfoldable pub header : List ℕ → ℕ → SectionHeader
-header bytes i = header_at bytes (header_place bytes i)
+header bytes i = header_at bytes (header_offset bytes i)
 
 -- the content of section number i in the file
 unfoldable pub content : List ℕ → ℕ → List ℕ
@@ -76,12 +76,12 @@ unfoldable pub symbol_count : List ℕ → ℕ
 symbol_count bytes = if has_symtab bytes then (header bytes (symtab bytes)).size / sym_bytes else 0
 
 -- the offset of entry number k of the symbol table
-abbrev pub symbol_place : List ℕ → ℕ → ℕ
-symbol_place bytes k = (header bytes (symtab bytes)).offset + sym_bytes * k
+abbrev pub symbol_offset : List ℕ → ℕ → ℕ
+symbol_offset bytes k = (header bytes (symtab bytes)).offset + sym_bytes * k
 
 -- entry number k of the symbol table
 unfoldable pub symbol : List ℕ → ℕ → SymbolEntry
-symbol bytes k = symbol_at bytes (symbol_place bytes k)
+symbol bytes k = symbol_at bytes (symbol_offset bytes k)
 
 -- the string table of the symbols' names
 abbrev pub symbol_names : List ℕ → List ℕ
@@ -97,12 +97,12 @@ unfoldable pub rela_count : List ℕ → ℕ → ℕ
 rela_count bytes i = if is_applied bytes i then (header bytes i).size / rela_bytes else 0
 
 -- the offset of relocation number k of section number i
-abbrev pub rela_place : List ℕ → ℕ → ℕ → ℕ
-rela_place bytes i k = (header bytes i).offset + rela_bytes * k
+abbrev pub rela_offset : List ℕ → ℕ → ℕ → ℕ
+rela_offset bytes i k = (header bytes i).offset + rela_bytes * k
 
 -- relocation number k of section number i
 unfoldable pub relocation : List ℕ → ℕ → ℕ → RelaEntry
-relocation bytes i k = rela_at bytes (rela_place bytes i k)
+relocation bytes i k = rela_at bytes (rela_offset bytes i k)
 
 -- a list has this number
 abbrev pub has_number : List ℕ → ℕ → Bool

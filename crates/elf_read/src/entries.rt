@@ -41,7 +41,7 @@ pub struct SymbolEntry {
 /// An entry of a table of relocations with addends (Elf32_Rela).
 #[derive(Clone, Copy, Drop)]
 pub struct RelaEntry {
-    /// `r_offset`: the place in the section, in bytes.
+    /// `r_offset`: the offset in the section, in bytes.
     pub offset: u32,
     /// `r_info`: the symbol and the type.
     pub info: u32,

@@ -9,7 +9,7 @@ use crate::standard::{
     E_MACHINE, E_SHENTSIZE, E_SHNUM, E_SHOFF, E_SHSTRNDX, E_TYPE, EHDR_BYTES, EM_PPC, ET_REL,
     IDENT, SHDR_BYTES,
 };
-use crate::tables::{header_count, header_place};
+use crate::tables::{header_count, header_offset};
 use wind_base::limits::SECTION_HEADERS;
 
 /// The file has a header.
@@ -79,7 +79,7 @@ pub(crate) fn check_headers(bytes: &[u8]) -> Result<(), ElfErr>
     if count > SECTION_HEADERS as usize {
         return Err(ElfErr::TooMany(E_SHNUM as u64));
     }
-    if header_place(bytes, count) > bytes.len() {
+    if header_offset(bytes, count) > bytes.len() {
         return Err(ElfErr::Short(E_SHOFF as u64));
     }
     Ok(())

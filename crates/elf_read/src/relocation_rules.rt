@@ -10,8 +10,8 @@ use crate::entries::{RelaEntry, SectionHeader};
 use crate::error::ElfErr;
 use crate::standard::{RELA_BYTES, SHT_NOBITS, SHT_REL, SHT_RELA};
 use crate::tables::{
-    header, header_count, header_place, holds_entries, is_elsewhere, is_loaded, rela_count,
-    rela_place, relocation, symbol, symbol_count, width,
+    header, header_count, header_offset, holds_entries, is_elsewhere, is_loaded, rela_count,
+    rela_offset, relocation, symbol, symbol_count, width,
 };
 use wind_base::limits::RELOCATIONS;
 
@@ -41,16 +41,16 @@ fn check_table(bytes: &[u8], symtab: usize, i: usize, sofar: usize) -> Result<()
         return Ok(());
     }
     if h.info as usize >= header_count(bytes) {
-        return Err(ElfErr::BadSection(header_place(bytes, i) as u64));
+        return Err(ElfErr::BadSection(header_offset(bytes, i) as u64));
     }
     if !is_loaded(bytes, h.info as usize) {
         return Ok(());
     }
     if !is_right_table(bytes, symtab, i) {
-        return Err(ElfErr::BadSection(header_place(bytes, i) as u64));
+        return Err(ElfErr::BadSection(header_offset(bytes, i) as u64));
     }
     if sofar > RELOCATIONS as usize {
-        return Err(ElfErr::TooMany(header_place(bytes, i) as u64));
+        return Err(ElfErr::TooMany(header_offset(bytes, i) as u64));
     }
     Ok(())
 }
@@ -94,7 +94,7 @@ fn check_relocation(bytes: &[u8], symtab: usize, i: usize, k: usize) -> Result<(
 {
     let target = header(bytes, header(bytes, i).info as usize);
     if !is_right_relocation(bytes, symtab, target, relocation(bytes, i, k)) {
-        return Err(ElfErr::BadReloc(rela_place(bytes, i, k) as u64));
+        return Err(ElfErr::BadReloc(rela_offset(bytes, i, k) as u64));
     }
     Ok(())
 }

@@ -12,7 +12,7 @@ use crate::standard::{
     E_SHSTRNDX, SH_OFFSET, SHF_TLS_OR_COMPRESSED, SHT_NOBITS, SHT_NOTE, SHT_NULL, SHT_PROGBITS,
     SHT_STRTAB,
 };
-use crate::tables::{has_name, header, header_count, header_place, is_loaded, section_names};
+use crate::tables::{has_name, header, header_count, header_offset, is_loaded, section_names};
 use wind_base::limits::SECTION_BYTES;
 
 // Whether a section with this header has content in the file.
@@ -29,8 +29,8 @@ fn check_content(bytes: &[u8], i: usize) -> Result<(), ElfErr>
 {
     let h = header(bytes, i);
     if has_content(h) && h.offset as usize + h.size as usize > bytes.len() {
-        let place = header_place(bytes, i) + SH_OFFSET;
-        return Err(ElfErr::Short(place as u64));
+        let at = header_offset(bytes, i) + SH_OFFSET;
+        return Err(ElfErr::Short(at as u64));
     }
     Ok(())
 }
@@ -41,7 +41,7 @@ pub(crate) fn check_strings(bytes: &[u8]) -> Result<(), ElfErr>
 {
     let i = half(bytes, E_SHSTRNDX) as usize;
     if header(bytes, i).kind != SHT_STRTAB {
-        return Err(ElfErr::BadSection(header_place(bytes, i) as u64));
+        return Err(ElfErr::BadSection(header_offset(bytes, i) as u64));
     }
     Ok(())
 }
@@ -51,7 +51,7 @@ fn check_name(bytes: &[u8], i: usize) -> Result<(), ElfErr>
     ensures { result ≡ name_rule bytes.now i }
 {
     if !has_name(section_names(bytes), header(bytes, i).name as usize) {
-        return Err(ElfErr::BadSection(header_place(bytes, i) as u64));
+        return Err(ElfErr::BadSection(header_offset(bytes, i) as u64));
     }
     Ok(())
 }
@@ -84,7 +84,7 @@ fn check_load(bytes: &[u8], i: usize) -> Result<(), ElfErr>
     ensures { result ≡ load_rule bytes.now i }
 {
     if is_loaded(bytes, i) && !is_loadable(header(bytes, i)) {
-        return Err(ElfErr::BadSection(header_place(bytes, i) as u64));
+        return Err(ElfErr::BadSection(header_offset(bytes, i) as u64));
     }
     Ok(())
 }

@@ -13,8 +13,8 @@ use crate::standard::{
     SHN_ABS, SHN_COMMON, SHN_UNDEF, SHT_STRTAB, STB_WEAK, STT_COMMON, SYM_BYTES,
 };
 use crate::tables::{
-    has_name, header, header_count, header_place, holds_entries, is_loaded, is_symtab, symbol,
-    symbol_count, symbol_names, symbol_place,
+    has_name, header, header_count, header_offset, holds_entries, is_loaded, is_symtab, symbol,
+    symbol_count, symbol_names, symbol_offset,
 };
 use wind_base::limits::{SECTION_BYTES, SYMBOL_ENTRIES};
 
@@ -47,10 +47,10 @@ fn check_symtab(bytes: &[u8], symtab: usize, i: usize) -> Result<(), ElfErr>
         return Ok(());
     }
     if !is_right_symtab(bytes, symtab, i) {
-        return Err(ElfErr::BadSection(header_place(bytes, i) as u64));
+        return Err(ElfErr::BadSection(header_offset(bytes, i) as u64));
     }
     if header(bytes, i).size as usize / SYM_BYTES > SYMBOL_ENTRIES as usize {
-        return Err(ElfErr::TooMany(header_place(bytes, i) as u64));
+        return Err(ElfErr::TooMany(header_offset(bytes, i) as u64));
     }
     Ok(())
 }
@@ -115,7 +115,7 @@ fn check_symbol(bytes: &[u8], symtab: usize, names: &[u8], k: usize) -> Result<(
     ensures { result ≡ symbol_rule bytes.now k }
 {
     if !is_right_symbol(bytes, names, symbol(bytes, symtab, k)) {
-        return Err(ElfErr::BadSymbol(symbol_place(bytes, symtab, k) as u64));
+        return Err(ElfErr::BadSymbol(symbol_offset(bytes, symtab, k) as u64));
     }
     Ok(())
 }

@@ -2,7 +2,7 @@
 
 ghost use Rattle.std.specs.Prelude.{◌≡◌, ◌+◌, ◌*◌, ◌%◌, ◌≤◌, ◌<◌, ◌^◌, ◌&&◌, ◌==◌, length};
 ghost use Rattle.elf_read.specs.Standard.{half_types, word_types};
-ghost use Rattle.elf_read.specs.Tables.{header_count as header_count_of, header_place as header_place_of, header as header_at, content as content_at, is_loaded as is_loaded_at, is_elsewhere as is_elsewhere_at, has_name as has_name_at, has_number as has_number_of, section_names as section_names_of, is_symtab as is_symtab_at, symtab as symtab_of, symbol_count as symbol_count_of, symbol_place as symbol_place_of, symbol as symbol_at, symbol_names as symbol_names_of, is_applied as is_applied_at, rela_count as rela_count_at, rela_place as rela_place_of, relocation as relocation_at, width as width_of};
+ghost use Rattle.elf_read.specs.Tables.{header_count as header_count_of, header_offset as header_place_of, header as header_at, content as content_at, is_loaded as is_loaded_at, is_elsewhere as is_elsewhere_at, has_name as has_name_at, has_number as has_number_of, section_names as section_names_of, is_symtab as is_symtab_at, symtab as symtab_of, symbol_count as symbol_count_of, symbol_offset as symbol_place_of, symbol as symbol_at, symbol_names as symbol_names_of, is_applied as is_applied_at, rela_count as rela_count_at, rela_offset as rela_place_of, relocation as relocation_at, width as width_of};
 
 use crate::entries::{RelaEntry, SectionHeader, SymbolEntry};
 use crate::places::{half, header_entry, part, rela_entry, symbol_entry, word};
@@ -21,7 +21,7 @@ pub(crate) fn header_count(bytes: &[u8]) -> usize
 }
 
 /// The offset of section header number `i`.
-pub(crate) fn header_place(bytes: &[u8], i: usize) -> usize
+pub(crate) fn header_offset(bytes: &[u8], i: usize) -> usize
     requires { i < 2 ^ 32 }
     ensures value { result ≡ header_place_of bytes.now i }
     ensures low { result < 2 ^ 32 + 40 * i }
@@ -35,7 +35,7 @@ pub(crate) fn header(bytes: &[u8], i: usize) -> SectionHeader
     requires { i < 2 ^ 32 }
     ensures { result ≡ header_at bytes.now i }
 {
-    header_entry(bytes, header_place(bytes, i))
+    header_entry(bytes, header_offset(bytes, i))
 }
 
 /// The content of section number `i` in the file.
@@ -129,7 +129,7 @@ pub(crate) fn symbol_count(bytes: &[u8], symtab: usize) -> usize
 }
 
 /// The offset of entry number `k` of the symbol table.
-pub(crate) fn symbol_place(bytes: &[u8], symtab: usize, k: usize) -> usize
+pub(crate) fn symbol_offset(bytes: &[u8], symtab: usize, k: usize) -> usize
     requires table { symtab ≡ symtab_of bytes.now }
     requires low { symtab < 2 ^ 16 }
     requires fits { k < 2 ^ 28 }
@@ -147,7 +147,7 @@ pub(crate) fn symbol(bytes: &[u8], symtab: usize, k: usize) -> SymbolEntry
     requires fits { k < 2 ^ 28 }
     ensures { result ≡ symbol_at bytes.now k }
 {
-    symbol_entry(bytes, symbol_place(bytes, symtab, k))
+    symbol_entry(bytes, symbol_offset(bytes, symtab, k))
 }
 
 /// The string table of the symbols' names.
@@ -184,7 +184,7 @@ pub(crate) fn rela_count(bytes: &[u8], i: usize) -> usize
 }
 
 /// The offset of relocation number `k` of section number `i`.
-pub(crate) fn rela_place(bytes: &[u8], i: usize, k: usize) -> usize
+pub(crate) fn rela_offset(bytes: &[u8], i: usize, k: usize) -> usize
     requires section { i < 2 ^ 16 }
     requires fits { k < 2 ^ 29 }
     ensures value { result ≡ rela_place_of bytes.now i k }
@@ -200,7 +200,7 @@ pub(crate) fn relocation(bytes: &[u8], i: usize, k: usize) -> RelaEntry
     requires fits { k < 2 ^ 29 }
     ensures { result ≡ relocation_at bytes.now i k }
 {
-    rela_entry(bytes, rela_place(bytes, i, k))
+    rela_entry(bytes, rela_offset(bytes, i, k))
 }
 
 // Whether a relocation of this type changes a halfword.

@@ -294,7 +294,7 @@ module _ {T : Type 0} where
   pub without_none : (order : List Entry) (slots : Slab T) (room id : ℕ) → IsKept order slots room → of_id entry_id order id ≡ None → rows_in order slots ≡ without (rows_in order slots) id
   without_none order slots room id is none = sym (kept_all order slots id is.present none)
 
-  -- the object at a place is the one under its key
+  -- the object at a position is the one under its key
   pub object_in : (order : List Entry) (slots : Slab T) (k : ℕ) (d : Entry) (v : T) → Present order slots → k < length order → get slots (get_or order k d).key ≡ Some v
       → v ≡ get_or (objects (rows_in order slots)) k v
   object_in [] slots k d v h hk e = absurd (omega arith)

@@ -27,11 +27,11 @@ pub fn rank_of(order: &[Entry], id: Ident) -> usize
     order.partition_point(|entry| entry.id.get() < number)
 }
 
-/// The place of the entry with this id. None if there is none.
+/// The position of the entry with this id. None if there is none.
 #[inline(never)]
-pub fn place_of(order: &[Entry], id: Ident) -> Option<usize>
+pub fn position_of(order: &[Entry], id: Ident) -> Option<usize>
     requires { Rising entry_id order.now }
-    ensures { MatchOption result (of_id entry_id order.now id ≡ None) (λ place. StandsAt entry_id order.now id place) }
+    ensures { MatchOption result (of_id entry_id order.now id ≡ None) (λ position. StandsAt entry_id order.now id position) }
 {
     let rank = rank_of(order, id);
     if rank == order.len() {
@@ -44,16 +44,16 @@ pub fn place_of(order: &[Entry], id: Ident) -> Option<usize>
     }
 }
 
-// The same, but looks first at the place `near`: usually that of the last entry found.
+// The same, but looks first at the position `near`: usually that of the last entry found.
 #[inline]
-pub(crate) fn place_near(order: &[Entry], id: Ident, near: usize) -> Option<usize>
+pub(crate) fn position_near(order: &[Entry], id: Ident, near: usize) -> Option<usize>
     requires { Rising entry_id order.now }
-    ensures { MatchOption result (of_id entry_id order.now id ≡ None) (λ place. StandsAt entry_id order.now id place) }
+    ensures { MatchOption result (of_id entry_id order.now id ≡ None) (λ position. StandsAt entry_id order.now id position) }
 {
     if near < order.len() && order[near].id == id {
         return Some(near);
     }
-    place_of(order, id)
+    position_of(order, id)
 }
 
 // The first id above `n`.

@@ -2,9 +2,13 @@
 
 ghost use Rattle.std.specs.Prelude.{◌≡◌, ◌<◌, ◌≤◌, SomeIff};
 ghost use Rattle.wind_base.specs.Limits.{greatest_id};
+ghost use Rattle.id_table.specs.Idents.{shell_id};
 
 use std::marker::Model;
 use wind_base::limits::IDS;
+
+// The number of the first id, which the shell's task gets.
+const SHELL: u32 = 1;
 
 /// The id of a kernel object, from 1 to 1,048,576.
 #[derive(Clone, Copy, Debug, PartialEq, Eq)]
@@ -35,6 +39,14 @@ impl Ident {
         } else {
             None
         }
+    }
+
+    /// The id of the shell's task.
+    #[inline(always)]
+    pub fn shell() -> Ident
+        ensures { result ≡ shell_id }
+    {
+        Ident { number: SHELL }
     }
 
     /// Its number.

@@ -7,7 +7,7 @@ ghost use Rattle.wind_base.specs.Limits.{greatest_id};
 ghost use Rattle.id_table.specs.Rows.{object_of, objects, add_refusal, added, removed, IdsBelow, IsTable, Rises, next_above};
 ghost use Rattle.id_table.specs.Source.{one_given};
 
-use crate::entry::{Entry, id_above, place_near};
+use crate::entry::{Entry, id_above, position_near};
 use crate::ident::Ident;
 use crate::source::IdSource;
 use slab::Slab;
@@ -19,7 +19,7 @@ use wind_base::{Errno, NoMemory};
 #[derive(Drop)]
 pub struct Table<T> {
     room: usize,
-    // the place of the last object that was lent for writing; look-ups for writing begin there
+    // the position of the last object that was lent for writing; look-ups for writing begin there
     recent: usize,
     // by rising id
     order: Vec<Entry>,
@@ -74,12 +74,12 @@ impl<T> Table<T> {
         self.order.len()
     }
 
-    /// The object at this place; places count from 0 by rising id.
-    pub fn value_at(&self, place: usize) -> &T
-        requires { place < length self.now.rows }
-        ensures { result.now ≡ slice_index_or (objects self.now.rows) place result.now }
+    /// The object at this position; positions count from 0 by rising id.
+    pub fn value_at(&self, position: usize) -> &T
+        requires { position < length self.now.rows }
+        ensures { result.now ≡ slice_index_or (objects self.now.rows) position result.now }
     {
-        let key = self.order[place].key;
+        let key = self.order[position].key;
         &self.slots[key]
     }
 
@@ -87,7 +87,7 @@ impl<T> Table<T> {
     pub fn get(&self, id: Ident) -> Option<&T>
         ensures { option_copied result ≡ object_of self.now.rows id }
     {
-        let at = place_near(&self.order, id, self.recent)?;
+        let at = position_near(&self.order, id, self.recent)?;
         self.slots.get(self.order[at].key)
     }
 
@@ -139,7 +139,7 @@ impl<T> Table<T> {
         ensures* writes_back { sem 𝓛 (lends_object T.row self.entry id result) }
         ensures value { object_of self.old.rows id ≡ Some result.now }
     {
-        match place_near(&self.order, id, self.recent) {
+        match position_near(&self.order, id, self.recent) {
             Some(at) => {
                 self.recent = at;
                 let key = self.order[at].key;
@@ -166,7 +166,7 @@ impl<T> Table<T> {
         ensures value { result ≡ object_of self.old.rows id }
         ensures rows { self.new ≡ removed self.old id }
     {
-        let at = place_near(&self.order, id, self.recent)?;
+        let at = position_near(&self.order, id, self.recent)?;
         let Entry { id: _, key } = self.order.remove(at);
         Some(self.slots.remove(key))
     }

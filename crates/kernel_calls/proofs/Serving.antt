@@ -8,7 +8,8 @@ use Rattle.wind_core.specs.State.{Lives}
 use Rattle.msg_queue.specs.Kept.{IsKept}
 use Rattle.kernel_world.specs.State.{WorldState}
 use Rattle.kernel_world.specs.Objects.{KeepsObjects}
-use Rattle.kernel_world.specs.Actors.{is_interrupt, Acts, MayCall, shell_id}
+use Rattle.id_table.specs.Idents.{shell_id}
+use Rattle.kernel_world.specs.Actors.{is_interrupt, Acts, MayCall}
 use Rattle.kernel_world.specs.Kept.{KeepsWatch, IsWorld, IsEarly}
 use Rattle.kernel_calls.specs.Calls.{Row, scene_of, with_reply, refusal_before, made}
 use Rattle.kernel_world.specs.Replies.{left_gate, replied}

@@ -6,7 +6,8 @@ use Rattle.wind_outside.specs.Devices.{DeviceState}
 use Rattle.wind_core.specs.State.{KernState, Lives, task_of}
 use Rattle.task_safety.specs.Safety.{safe_of}
 use Rattle.kernel_world.specs.State.{WorldState, choice_of}
-use Rattle.kernel_world.specs.Actors.{MayCall, shell_id}
+use Rattle.id_table.specs.Idents.{shell_id}
+use Rattle.kernel_world.specs.Actors.{MayCall}
 use Rattle.kernel_calls.specs.Calls.{call}
 use Rattle.task_calls.specs.Ending.{ended}
 use Rattle.wind_base.specs.declared.profile.Profile.{Profile}

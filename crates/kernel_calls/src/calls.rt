@@ -2,8 +2,9 @@
 
 ghost use Rattle.std.specs.Prelude.{◌≡◌, ℕ, ◌<◌, ◌≤◌, [], true, false, None, Some, IfOk, IfSome, OnOk, OnErr};
 ghost use Rattle.wind_base.specs.OutBuf.{KeepsSpace};
+ghost use Rattle.id_table.specs.Idents.{shell_id};
 ghost use Rattle.wind_core.specs.State.{Lives};
-ghost use Rattle.kernel_world.specs.{Actors.{Acts, MayCall, is_interrupt as is_interrupt_lem, shell_id as shell_id_lem}, Kept.{IsWorld, IsEarly}, Allowed.may_exhaust_memory, Seen.{world_seen, world_with}};
+ghost use Rattle.kernel_world.specs.{Actors.{Acts, MayCall, is_interrupt as is_interrupt_lem}, Kept.{IsWorld, IsEarly}, Allowed.may_exhaust_memory, Seen.{world_seen, world_with}};
 ghost use Rattle.kernel_calls.specs.{Standing.{counter_of, standing_at}, Removing.{Removes, OnlyRemoves, IsNoneBack}, Calls.{refusal_before as refusal_before_lem, with_reply, outcome_by, outcome as outcome_lem, made, call, file_wanted as file_wanted_lem, is_made, asked_for}, Space.{makes_room, HoldsSpace}};
 ghost use Rattle.kernel_calls.specs.declared.calls.Called.TheVariants as called;
 
@@ -145,7 +146,7 @@ pub fn make_call(alloc: Global, w: &mut World, gate: Gate, who: &Actor) -> Resul
     ensures task { OnErr result (is_interrupt_lem who.now ≡ false) }
     ensures err { OnErr result (world_seen ⟦<dyn Device as Device>⟧ w.new ≡ world_seen ⟦<dyn Device as Device>⟧ w.old) }
     ensures kept { IsWorld (world_with [] w.new) }
-    ensures shell { Lives w.old.kern shell_id_lem → Lives w.new.kern shell_id_lem }
+    ensures shell { Lives w.old.kern shell_id → Lives w.new.kern shell_id }
     ensures space { makes_room gate ≡ false → KeepsSpace w.old.out w.new.out }
     ensures holds { HoldsSpace w.old.out w.new.out }
 {
@@ -185,7 +186,7 @@ pub fn kernel_call(alloc: Global, w: &mut World, gate: Gate, who: &Actor) -> Cal
         task slot }
     ensures back { IsNoneBack (world_seen ⟦<dyn Device as Device>⟧ w.old) (world_seen ⟦<dyn Device as Device>⟧ w.new) }
     ensures kept { IsWorld (world_with [] w.new) }
-    ensures shell { Lives w.old.kern shell_id_lem → Lives w.new.kern shell_id_lem }
+    ensures shell { Lives w.old.kern shell_id → Lives w.new.kern shell_id }
     ensures space { makes_room gate ≡ false → KeepsSpace w.old.out w.new.out }
     ensures holds { HoldsSpace w.old.out w.new.out }
 {

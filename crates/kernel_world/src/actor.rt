@@ -25,7 +25,7 @@ pub fn is_shell(who: &Actor) -> bool
     ensures { result ≡ is_shell_lem who.now }
 {
     match who {
-        Actor::Task(id) => id.get() == 1,
+        Actor::Task(id) => *id == Ident::shell(),
         Actor::Interrupt => false,
     }
 }

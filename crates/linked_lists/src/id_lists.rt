@@ -7,7 +7,7 @@ ghost use Rattle.linked_lists.specs.Named.{list_found};
 
 use crate::index::{key_at, key_of};
 use crate::lists::Lists;
-use id_table::entry::{Entry, place_of, rank_of};
+use id_table::entry::{Entry, position_of, rank_of};
 use id_table::{Ident, NoMemory};
 use std::alloc::Global;
 use std::marker::Model;
@@ -107,7 +107,7 @@ impl<T> IdLists<T> {
         ensures value { result ≡ value_of self.old.chains who }
         ensures chains { self.new ≡ without_cell self.old who }
     {
-        let at = place_of(&self.index, who)?;
+        let at = position_of(&self.index, who)?;
         let Entry { id: _, key } = self.index.remove(at);
         let Member { who: _, value } = self.lists.remove(key);
         Some(value)
@@ -117,7 +117,7 @@ impl<T> IdLists<T> {
     pub fn list_of(&self, who: Ident) -> Option<usize>
         ensures { list_found self.now.chains who result }
     {
-        let at = place_of(&self.index, who)?;
+        let at = position_of(&self.index, who)?;
         Some(self.lists.list_of(self.index[at].key))
     }
 
@@ -143,8 +143,8 @@ impl<T> IdLists<T> {
         ensures after { NextIs self.now.chains who result }
         ensures absent { value_of self.now.chains who ≡ None → result ≡ None }
     {
-        let place = place_of(&self.index, who)?;
-        let next = self.lists.next(self.index[place].key)?;
+        let position = position_of(&self.index, who)?;
+        let next = self.lists.next(self.index[position].key)?;
         Some(self.lists.value(next).who)
     }
 

@@ -6,7 +6,7 @@ ghost use Rattle.id_table.specs.Entries.{entry_id};
 ghost use Rattle.linked_lists.specs.Named.{key_found};
 
 use id_table::Ident;
-use id_table::entry::{Entry, place_of};
+use id_table::entry::{Entry, position_of};
 
 // The key of the node of an id that has one.
 pub(crate) fn key_at(index: &[Entry], who: Ident) -> usize
@@ -14,7 +14,7 @@ pub(crate) fn key_at(index: &[Entry], who: Ident) -> usize
     requires there { IsSome (of_id entry_id index.now who) }
     ensures { of_id entry_id index.now who ≡ Some (record { id = who; key = result }) }
 {
-    match place_of(index, who) {
+    match position_of(index, who) {
         Some(at) => index[at].key,
         None => unreachable!(),
     }
@@ -25,6 +25,6 @@ pub(crate) fn key_of(index: &[Entry], next: Option<Ident>) -> Option<usize>
     requires { Rising entry_id index.now }
     ensures { result ≡ key_found index.now next }
 {
-    let at = place_of(index, next?)?;
+    let at = position_of(index, next?)?;
     Some(index[at].key)
 }

@@ -34,7 +34,8 @@ use Rattle.wind_core.specs.Moves.{answer, change_task}
 use Rattle.wind_core.specs.Move.{Answer, DrawIds}
 use Rattle.wind_core.proofs.Ids.{lives_by, ids-change}
 use Rattle.kernel_world.specs.State.{WorldState}
-use Rattle.kernel_world.specs.Actors.{MayCall, shell_id, caller_words}
+use Rattle.id_table.specs.Idents.{shell_id}
+use Rattle.kernel_world.specs.Actors.{MayCall, caller_words}
 use Rattle.kernel_world.specs.Replies.{left_gate, with_answer, with_errno}
 use Rattle.kernel_world.specs.Kept.{Stack, routine_stack, KeepsPool, AreStacks, KeepsLoaded, task_stacks, IsWorld, Within, call_sinces}
 use Rattle.kernel_world.proofs.Boards.{pool_in_ram}

@@ -14,7 +14,8 @@ use Rattle.module_loader.specs.declared.module.Loaded.{Loaded}
 use Rattle.module_loader.specs.Loading.{LoaderState, count_refusal, verdict, file_verdict, loaded, loaded_answer, IsLoaded, IsVerdict}
 use Rattle.module_loader.proofs.Files.{read_verdict}
 use Rattle.kernel_world.specs.State.{WorldState}
-use Rattle.kernel_world.specs.Actors.{shell_id, caller_regs, caller_words}
+use Rattle.id_table.specs.Idents.{shell_id}
+use Rattle.kernel_world.specs.Actors.{caller_regs, caller_words}
 use Rattle.kernel_world.specs.Replies.{left_gate, with_answer}
 use Rattle.kernel_world.specs.declared.actor.Actor.TheVariants.{Task}
 use Rattle.live_loading.specs.declared.text.Cause.TheVariants as causes

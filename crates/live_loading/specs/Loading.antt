@@ -9,7 +9,8 @@ use Rattle.module_image.specs.declared.segments.Places.{Places}
 use Rattle.module_loader.specs.declared.module.LoadErr.{LoadErr}
 use Rattle.module_loader.specs.Loading.{LoaderState, file_verdict, loaded, loaded_answer}
 use Rattle.kernel_world.specs.State.{WorldState}
-use Rattle.kernel_world.specs.Actors.{shell_id, caller_words}
+use Rattle.id_table.specs.Idents.{shell_id}
+use Rattle.kernel_world.specs.Actors.{caller_words}
 use Rattle.kernel_world.specs.Replies.{left_gate, with_answer, with_errno}
 use Rattle.kernel_world.specs.declared.actor.Actor.{Actor}
 use Rattle.kernel_world.specs.declared.actor.Actor.TheVariants.{Task}

@@ -9,9 +9,10 @@ ghost use Rattle.kernel_calls.specs.{Calls.file_wanted, Space.HoldsSpace};
 ghost use Rattle.live_loading.specs.{Said.{Held, said_of}, Loading.{shell, loader_state, by_verdict, load_call}};
 
 use crate::answer::FileAnswer;
-use crate::outcome::{accept, refuse, shell_id};
+use crate::outcome::{accept, refuse};
 use crate::text::{Cause, undefined_room};
 use elf_read::{Module, Outline, fill};
+use id_table::Ident;
 use kernel_world::{Actor, World, caller_regs};
 use module_loader::LoadErr;
 use std::alloc::Global;
@@ -92,7 +93,7 @@ fn load_held(alloc: Global, w: &mut World, name: &Name, file: &[u8]) -> Result<(
     ensures err { OnErr result (world_seen ⟦<dyn Device as Device>⟧ w.new ≡ world_seen ⟦<dyn Device as Device>⟧ w.old) }
     ensures holds { HoldsSpace w.old.out w.new.out }
 {
-    let regs = caller_regs(&w.kern, &w.watch, &Actor::Task(shell_id()));
+    let regs = caller_regs(&w.kern, &w.watch, &Actor::Task(Ident::shell()));
     let mode = regs.gpr[3];
     let checked = w
         .mods

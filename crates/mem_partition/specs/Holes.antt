@@ -75,9 +75,9 @@ abbrev pub hole_on : Side → ℕ → ℕ → List Hole → Option ℕ
 hole_on side size align [] = None
 hole_on side size align (h ∷ hs) = nearer side (in_hole side size align h) (hole_on side size align hs)
 
--- the holes with the one from lo to hi inserted at a place, unless it is empty
+-- the holes with the one from lo to hi inserted at a position, unless it is empty
 abbrev pub put_gap : ℕ → ℕ → ℕ → List Hole → List Hole
-put_gap place lo hi hs = if nat_lt lo hi then insert hs place (record { start = lo; end = hi }) else hs
+put_gap at lo hi hs = if nat_lt lo hi then insert hs at (record { start = lo; end = hi }) else hs
 
 -- the holes with lo to hi cut out of the one that contains it
 abbrev pub cut_out : ℕ → ℕ → List Hole → List Hole

@@ -4,8 +4,8 @@ use Rattle.mem_partition.specs.declared.block.Block.{Block}
 use Rattle.mem_partition.specs.declared.block.Class.{Class}
 use Rattle.mem_partition.specs.State.{own_block}
 
--- the place in the list of the block of this class that begins at an address
-pub record IsOwn (blocks : List Block) (at : ℕ) (class : Class) (place : ℕ) : Type 0 where
-  pub within : place < length blocks
-  pub same : (d : Block) → (slice_index_or blocks place d).addr ≡ at
-  pub block : (d : Block) → own_block blocks at class ≡ Some (slice_index_or blocks place d)
+-- the position in the list of the block of this class that begins at an address
+pub record IsOwn (blocks : List Block) (at : ℕ) (class : Class) (position : ℕ) : Type 0 where
+  pub within : position < length blocks
+  pub same : (d : Block) → (slice_index_or blocks position d).addr ≡ at
+  pub block : (d : Block) → own_block blocks at class ≡ Some (slice_index_or blocks position d)

@@ -17,15 +17,15 @@ fn rank_of(blocks: &[Block], at: u32) -> usize
     blocks.partition_point(|block| block.addr <= at)
 }
 
-/// Inserts the block at its place.
+/// Inserts the block at its position.
 pub(crate) fn put_block(blocks: &mut Vec<Block>, block: Block)
     requires room { vec_len blocks.old < vec_capacity blocks.old }
     requires order { IsNonDecreasingBy (λ b. b.addr) blocks.old.items }
     ensures items { blocks.new.items ≡ with_block block blocks.old.items }
     ensures capacity { vec_capacity blocks.new ≡ vec_capacity blocks.old }
 {
-    let place = rank_of(blocks, block.addr);
-    let Ok(()) = blocks.insert(place, block) else {
+    let position = rank_of(blocks, block.addr);
+    let Ok(()) = blocks.insert(position, block) else {
         unreachable!()
     };
 }
@@ -39,13 +39,13 @@ fn is_same(a: Class, b: Class) -> bool
     }
 }
 
-/// The place of the block of this class that begins at an address.
-pub(crate) fn own_place(blocks: &[Block], at: u32, class: Class) -> Option<usize>
+/// The position of the block of this class that begins at an address.
+pub(crate) fn own_position(blocks: &[Block], at: u32, class: Class) -> Option<usize>
     ensures { MatchOption result (own_block blocks.now at class ≡ None) (λ k. IsOwn blocks.now at class k) }
 {
-    for (place, block) in blocks.iter().enumerate() {
+    for (position, block) in blocks.iter().enumerate() {
         if block.addr == at && is_same(block.class, class) {
-            return Some(place);
+            return Some(position);
         }
     }
     None

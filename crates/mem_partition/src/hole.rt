@@ -47,7 +47,7 @@ fn place_in(hole: Hole, size: u64, align: u64, side: Side) -> Option<u64>
     }
 }
 
-/// The place in the first hole that has room, from the lowest hole up.
+/// The address in the first hole that has room, from the lowest hole up.
 fn first_with_room(list: &[Hole], size: u64, align: u64) -> Option<u64>
     requires some { 1 ≤ align }
     requires align { align ≤ greatest_align }
@@ -63,7 +63,7 @@ fn first_with_room(list: &[Hole], size: u64, align: u64) -> Option<u64>
     None
 }
 
-/// The place in the last hole that has room, from the highest hole down.
+/// The address in the last hole that has room, from the highest hole down.
 fn last_with_room(list: &[Hole], size: u64, align: u64) -> Option<u64>
     requires some { 1 ≤ align }
     requires align { align ≤ greatest_align }
@@ -93,22 +93,22 @@ pub(crate) fn with_room(list: &[Hole], size: u64, align: u64, side: Side) -> Opt
     }
 }
 
-/// Inserts the hole from `lo` to `hi` at a place, unless it is empty.
-pub(crate) fn put_in(list: &mut Vec<Hole>, place: usize, lo: u32, hi: u32)
-    requires place { place ≤ length list.old.items }
+/// Inserts the hole from `lo` to `hi` at a position, unless it is empty.
+pub(crate) fn put_in(list: &mut Vec<Hole>, position: usize, lo: u32, hi: u32)
+    requires position { position ≤ length list.old.items }
     requires room { vec_len list.old < vec_capacity list.old }
-    ensures items { list.new.items ≡ put_gap place lo hi list.old.items }
+    ensures items { list.new.items ≡ put_gap position lo hi list.old.items }
     ensures capacity { vec_capacity list.new ≡ vec_capacity list.old }
 {
     if lo < hi {
-        let Ok(()) = list.insert(place, Hole { start: lo, end: hi }) else {
+        let Ok(()) = list.insert(position, Hole { start: lo, end: hi }) else {
             unreachable!()
         };
     }
 }
 
 /// The first hole that ends at or after an address.
-fn place_reaching(list: &[Hole], hi: u32) -> Option<usize>
+fn position_reaching(list: &[Hole], hi: u32) -> Option<usize>
     ensures is { result ≡ position (λ h. nat_le hi h.end) list.now }
     ensures within { MatchOption result (result ≡ None) (λ k. k < length list.now) }
 {
@@ -121,12 +121,12 @@ pub(crate) fn cut(list: &mut Vec<Hole>, lo: u32, hi: u32)
     ensures items { list.new.items ≡ cut_out lo hi list.old.items }
     ensures capacity { vec_capacity list.new ≡ vec_capacity list.old }
 {
-    let Some(place) = place_reaching(list, hi) else {
+    let Some(position) = position_reaching(list, hi) else {
         return;
     };
-    let hole = list.remove(place);
-    put_in(list, place, hi, hole.end);
-    put_in(list, place, hole.start, lo);
+    let hole = list.remove(position);
+    put_in(list, position, hi, hole.end);
+    put_in(list, position, hole.start, lo);
 }
 
 /// The hole that ends at an address.
@@ -176,9 +176,9 @@ fn rank_of(list: &[Hole], at: u32) -> usize
     ensures value { result ≡ rank at list.now }
     ensures within { result ≤ length list.now }
 {
-    for (place, hole) in list.iter().enumerate() {
+    for (position, hole) in list.iter().enumerate() {
         if at < hole.start {
-            return place;
+            return position;
         }
     }
     list.len()
@@ -193,6 +193,6 @@ pub(crate) fn merge(list: &mut Vec<Hole>, lo: u32, hi: u32)
     let from = start_below(list, lo);
     let to = end_above(list, hi);
     drop_touching(list, lo, hi);
-    let place = rank_of(list, from);
-    put_in(list, place, from, to);
+    let position = rank_of(list, from);
+    put_in(list, position, from, to);
 }

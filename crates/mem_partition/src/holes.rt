@@ -8,7 +8,7 @@ ghost use Rattle.mem_partition.specs.Holes.{AreHoles, with_holes};
 
 use crate::block::{Block, Class, PartErr};
 use crate::gaps::{GRAIN, is_align, round_up};
-use crate::held::{count_used, find_at, own_place, put_block};
+use crate::held::{count_used, find_at, own_position, put_block};
 use crate::hole::{Hole, cut, merge, put_in, with_room};
 use std::alloc::Global;
 use std::marker::Model;
@@ -87,7 +87,7 @@ impl Holes {
         self.end
     }
 
-    /// The place of a block of `size` bytes in the hole nearest to the side that has room for it,
+    /// The address of a block of `size` bytes in the hole nearest to the side that has room for it,
     /// at a multiple of `align`.
     fn place_on(&self, size: u64, align: u32, side: Side) -> Option<u64>
         requires some { 1 ≤ align }
@@ -157,10 +157,10 @@ impl Holes {
         ensures answer { result ≡ free_of self.old.part addr class }
         ensures after { self.new ≡ with_holes (after_free self.old.part addr class) }
     {
-        let Some(place) = own_place(&self.blocks, addr, class) else {
+        let Some(position) = own_position(&self.blocks, addr, class) else {
             return Err(PartErr::NotABlock);
         };
-        let block = self.blocks.remove(place);
+        let block = self.blocks.remove(position);
         merge(&mut self.list, block.addr, block.addr + block.size);
         Ok(block.size)
     }

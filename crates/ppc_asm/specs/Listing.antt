@@ -1,12 +1,12 @@
 -- The listing of a module: a line for each word of its executable sections.
-use Rattle.std.specs.Prelude.{◌≡◌, ◌≤◌, ℕ, zero, suc, ◌+◌, ◌/◌, ◌%◌, ◌==◌, false, if◌then◌else◌, List, [], ◌∷◌, ◌++◌, Option, Some, None, codes, bit_and}
+use Rattle.std.specs.Prelude.{◌≡◌, ◌≤◌, ℕ, ◌+◌, ◌==◌, if◌then◌else◌, List, [], ◌∷◌, ◌++◌, Option, Some, None, codes, bit_and}
 use Rattle.std.specs.List.{flat_map}
-use Rattle.std.specs.Fmt.{digit_glyph}
 use Rattle.std.specs.Int.{from_be_bytes, w32}
 use Rattle.elf_read.specs.declared.module.Body.{Body}
 use Rattle.elf_read.specs.declared.module.Body.TheVariants.{Bytes, Size}
 use Rattle.elf_read.specs.declared.module.Sect.{Sect}
 use Rattle.elf_read.specs.declared.module.Module.{Module}
+use Rattle.wind_base.specs.Texts.{hex_places}
 use Rattle.wind_outside.specs.declared.sink.Put.{Put}
 use Rattle.wind_outside.specs.declared.sink.Put.TheVariants as puts
 use Rattle.wind_outside.specs.Counts.{Rose}
@@ -15,11 +15,6 @@ use Rattle.ppc_word.specs.declared.row.Row.{Row}
 use Rattle.ppc_word.specs.Rows.{row_of, fields_of}
 use Rattle.ppc_text.specs.Mnemonics.{named_as}
 use Rattle.ppc_text.specs.Shown.{text_with}
-
--- the lowest `places` hexadecimal digits of a number, in lower case, with leading zeros
-abbrev pub hex_places : ℕ → ℕ → List ℕ
-hex_places zero n = []
-hex_places (suc places) n = hex_places places (n / 16) ++ digit_glyph false (n % 16) ∷ []
 
 -- the instruction of a word; `.long` and the word if it is outside the table
 abbrev pub item_text : Option Row → ℕ → List ℕ

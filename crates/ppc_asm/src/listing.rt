@@ -4,7 +4,8 @@ ghost use Rattle.std.specs.Prelude.{◌≡◌, ◌<◌, ◌≤◌, ◌+◌, [], 
 ghost use Rattle.std.specs.Int.{from_be_bytes, w32};
 ghost use Rattle.wind_base.specs.OutBuf.{Added, KeepsSpace};
 ghost use Rattle.ppc_word.specs.Rows.{row_of};
-ghost use Rattle.ppc_asm.specs.Listing.{hex_places, item_text, line_text, lines_from, section_lines, listing, PutsLines};
+ghost use Rattle.wind_base.specs.Texts.{hex_places};
+ghost use Rattle.ppc_asm.specs.Listing.{item_text, line_text, lines_from, section_lines, listing, PutsLines};
 
 use elf_read::{Body, Module, Sect};
 use ppc_text::show;

@@ -1,6 +1,7 @@
 -- The deletion of a task (Reference Manual, taskDelete).
 use Rattle.std.specs.Prelude.{ℕ, Bool, true, false, ◌==◌, if◌then◌else◌, List, Option, None, Some, Result, Ok, Err}
 use Rattle.std.specs.Option.{option_map}
+use Rattle.id_table.specs.Idents.{shell_id}
 use Rattle.wind_base.specs.Limits.{wait_forever}
 use Rattle.wind_base.specs.declared.errno.Errno.{Errno}
 use Rattle.wind_base.specs.declared.errno.Errno.TheVariants as errors
@@ -12,10 +13,6 @@ use Rattle.task_safety.specs.declared.deleting.Deed.TheVariants.{Refuses, EndsIt
 use Rattle.task_safety.specs.declared.deleting.Deleted.{Deleted}
 use Rattle.task_safety.specs.declared.deleting.Deleted.TheVariants.{Removed, Pended, SelfEnded}
 use Rattle.task_safety.specs.Safety.{deletion, lessen}
-
--- the shell's task
-abbrev pub shell_id : ℕ
-shell_id = 1
 
 -- whether a task's call is a repetition of a call that pended
 abbrev pub again_of : Option Task → Bool

@@ -13,9 +13,6 @@ use wind_base::Errno;
 use wind_base::words::WAIT_FOREVER;
 use wind_core::Kern;
 
-/// The id of the shell's task.
-const SHELL: u32 = 1;
-
 /// The outcome of a deletion that isn't refused.
 #[derive(Drop)]
 pub enum Deleted {
@@ -86,7 +83,7 @@ fn deed_for(task: &Task, caller: Ident) -> Deed
 fn deed_of(k: &Kern, caller: Ident, target: u32) -> Deed
     ensures { result ≡ deed_of_lem k.now.tasks caller target }
 {
-    if target == SHELL {
+    if target == Ident::shell().get() {
         return Deed::Refuses(Errno::InvalidOperation);
     }
     match target_task(k, target) {

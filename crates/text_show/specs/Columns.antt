@@ -1,6 +1,5 @@
 -- Texts in columns; the columns of the shell's tables are this project's own.
-use Rattle.std.specs.Prelude.{ℕ, zero, suc, ◌-◌, ◌/◌, ◌%◌, false, List, [], ◌∷◌, ◌++◌, length, replicate}
-use Rattle.std.specs.Fmt.{digit_glyph}
+use Rattle.std.specs.Prelude.{ℕ, ◌-◌, List, [], ◌∷◌, ◌++◌, length, replicate}
 use Rattle.wind_base.specs.OutBuf.{Output}
 use Rattle.text_show.specs.declared.page.Cell.{Cell}
 use Rattle.text_show.specs.declared.page.Cell.TheVariants.{Left, Right}
@@ -32,11 +31,6 @@ row_rest (c ∷ cells) = 32 ∷ c ++ row_rest cells
 abbrev pub row : List (List ℕ) → List ℕ
 row [] = 10 ∷ []
 row (c ∷ cells) = c ++ row_rest cells
-
--- the given number of lowest hexadecimal digits of a number, in lower case, with leading zeros
-abbrev pub hex_places : ℕ → ℕ → List ℕ
-hex_places zero v = []
-hex_places (suc places) v = hex_places places (v / 16) ++ digit_glyph false (v % 16) ∷ []
 
 -- the buffer with a text added, for which room was made
 abbrev pub with_text : Output → List ℕ → Output

@@ -1,7 +1,7 @@
 -- Dumps of memory.
 use Rattle.std.specs.Prelude.{ℕ, zero, suc, ◌+◌, ◌*◌, ◌/◌, ◌%◌, ◌==◌, ◌&&◌, nat_le, if◌then◌else◌, List, [], ◌∷◌, ◌++◌, length, take, drop, map, codes}
 use Rattle.board_mem.specs.Memory.{bytes_at}
-use Rattle.text_show.specs.Columns.{hex_places}
+use Rattle.wind_base.specs.Texts.{hex_places}
 
 -- a byte of a line, at its place in the line: a blank comes before each unit
 abbrev pub unit_byte : ℕ → ℕ → ℕ → List ℕ

@@ -4,7 +4,8 @@ use Rattle.std.specs.List.{flat_map}
 use Rattle.std.specs.Fmt.{digits}
 use Rattle.module_loader.specs.declared.module.LoadedModule.{LoadedModule}
 use Rattle.module_loader.specs.declared.module.Segment.{Segment}
-use Rattle.text_show.specs.Columns.{left_in, right_in, row, hex_places}
+use Rattle.wind_base.specs.Texts.{hex_places}
+use Rattle.text_show.specs.Columns.{left_in, right_in, row}
 
 -- the header of the table: each word is left-justified in its column
 unfoldable pub module_header : List ℕ

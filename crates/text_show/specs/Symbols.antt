@@ -7,7 +7,8 @@ use Rattle.symbol_table.specs.declared.symbol.SymKind.{SymKind}
 use Rattle.symbol_table.specs.declared.symbol.SymKind.TheVariants.{TextSym, DataSym, BssSym, AbsSym}
 use Rattle.symbol_table.specs.declared.symbol.Symbol.{Symbol}
 use Rattle.wind_lists.specs.Sorting.{sorted}
-use Rattle.text_show.specs.Columns.{left_in, row, hex_places}
+use Rattle.wind_base.specs.Texts.{hex_places}
+use Rattle.text_show.specs.Columns.{left_in, row}
 
 -- the text begins with this part
 abbrev pub begins_with : List ℕ → List ℕ → Bool

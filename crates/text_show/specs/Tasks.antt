@@ -6,7 +6,8 @@ use Rattle.task_block.specs.declared.task.Task.{Task}
 use Rattle.task_block.specs.Standing.{status_word}
 use Rattle.wind_core.specs.State.{KernState}
 use Rattle.wind_lists.specs.Sorting.{sorted}
-use Rattle.text_show.specs.Columns.{left_in, right_in, row, hex_places}
+use Rattle.wind_base.specs.Texts.{hex_places}
+use Rattle.text_show.specs.Columns.{left_in, right_in, row}
 
 -- the ticks until a wake, or 0 if there is none
 abbrev pub ticks_to : ℕ → Option ℕ → ℕ

@@ -2,7 +2,7 @@
 
 ghost use Rattle.std.specs.Prelude.{◌≡◌, ◌++◌, ◌∷◌, map, OnOk, OnErr, IfOk};
 ghost use Rattle.std.specs.List.{flat_map};
-ghost use Rattle.text_show.specs.Columns.{hex_places, row_rest, with_text};
+ghost use Rattle.text_show.specs.Columns.{row_rest, with_text};
 ghost use Rattle.text_show.specs.Modules.{module_header, module_row, module_table_of, segment_cell};
 
 use crate::numeral::{hex_digits, numeral};

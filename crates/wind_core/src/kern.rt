@@ -153,12 +153,12 @@ impl Kern {
         }
     }
 
-    /// The task at this place; places count from 0 by rising id.
-    pub fn task_at(&self, place: u32) -> &Task
-        requires { place < length self.now.tasks }
-        ensures { result.now ≡ slice_index_or self.now.tasks place result.now }
+    /// The task at this position; positions count from 0 by rising id.
+    pub fn task_at(&self, position: u32) -> &Task
+        requires { position < length self.now.tasks }
+        ensures { result.now ≡ slice_index_or self.now.tasks position result.now }
     {
-        self.tasks.value_at(place as usize)
+        self.tasks.value_at(position as usize)
     }
 
     /// A mutable reference to the registers of a live task.

@@ -8,7 +8,7 @@ use Rattle.kernel_world.specs.State.{WorldState}
 use Rattle.wind_base.specs.Boards.{board_rules}
 use Rattle.wind_base.specs.Gates.{gate_at}
 use Rattle.kernel_world.specs.Starting.{no_regs}
-use Rattle.kernel_world.specs.Actors.{shell_id}
+use Rattle.id_table.specs.Idents.{shell_id}
 use Rattle.live_loading.specs.KernelCalls.{file_wanted}
 use Rattle.kernel_world.specs.Objects.{IsReady}
 use Rattle.kernel_world.specs.declared.actor.Actor.{Actor}

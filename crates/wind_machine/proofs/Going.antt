@@ -13,7 +13,7 @@ use Rattle.kernel_world.specs.Safety.{safe_of}
 use Rattle.shell_parse.specs.Reading.{read_line}
 use Rattle.con_line.specs.Lines.{has_line, first_line, line_dropped}
 use Rattle.kernel_world.specs.State.{choice_of}
-use Rattle.kernel_world.specs.Actors.{shell_id}
+use Rattle.id_table.specs.Idents.{shell_id}
 use Rattle.kernel_world.specs.Objects.{IsReady}
 use Rattle.kernel_world.specs.declared.actor.Actor.{Actor}
 use Rattle.kernel_world.specs.declared.actor.Actor.TheVariants.{Task as by_task, Interrupt}

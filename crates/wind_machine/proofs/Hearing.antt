@@ -21,7 +21,7 @@ use Rattle.con_line.proofs.Kept.{byte_keeps}
 use Rattle.wind_machine.specs.State.{ShellState}
 use Rattle.wind_machine.specs.Good.{HasItsLine}
 use Rattle.wind_machine.specs.Feed.{is_end, first_end, taken_by, is_unended, supplied, chunk}
-use Rattle.kernel_world.specs.Actors.{shell_id}
+use Rattle.id_table.specs.Idents.{shell_id}
 use Rattle.wind_machine.specs.Task.{shell_task, is_at_console, waits_for_console, is_held, let_go, aborted}
 use Rattle.wind_machine.specs.Events.{Heard, hear, heard_all, heard_from, kern_after}
 use Rattle.wind_machine.proofs.TaskLemmas.{since-move}

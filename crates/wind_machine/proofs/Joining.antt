@@ -12,7 +12,7 @@ use Rattle.tick_file.specs.Schedule.{Timed, Timetable}
 use Rattle.tick_file.specs.declared.event.Event.{Event}
 use Rattle.tick_file.specs.declared.event.Event.TheVariants.{Tick, Rx, Irq}
 use Rattle.wind_core.specs.Orders.{running}
-use Rattle.kernel_world.specs.Actors.{shell_id}
+use Rattle.id_table.specs.Idents.{shell_id}
 use Rattle.live_loading.specs.Said.{FileSaid}
 use Rattle.wind_machine.specs.State.{State}
 use Rattle.wind_machine.specs.Feed.{brought}

@@ -23,7 +23,7 @@ use Rattle.wind_core.proofs.Moving.{move_keeps}
 use Rattle.wind_core.proofs.Stable.{All-change}
 use Rattle.wind_core.proofs.Unwritten.{map-change}
 use Rattle.kernel_world.specs.State.{WorldState, choice_of}
-use Rattle.kernel_world.specs.Actors.{shell_id}
+use Rattle.id_table.specs.Idents.{shell_id}
 use Rattle.kernel_world.specs.Starting.{cleared, framed}
 use Rattle.live_loading.specs.TaskEnding.{ended}
 use Rattle.kernel_world.specs.Kept.{stack_of, routine_stack, IsStack, AreStacks, task_stacks, IsWorld, HasCounts, Within, ReservedBy, call_sinces}

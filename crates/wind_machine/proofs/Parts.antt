@@ -13,7 +13,8 @@ use Rattle.wind_core.specs.State.{Lives, task_of}
 use Rattle.wind_core.specs.Moves.{suspend}
 use Rattle.wind_core.specs.Move.{Suspend}
 use Rattle.kernel_world.specs.State.{WorldState}
-use Rattle.kernel_world.specs.Actors.{shell_id, MayCall}
+use Rattle.id_table.specs.Idents.{shell_id}
+use Rattle.kernel_world.specs.Actors.{MayCall}
 use Rattle.live_loading.specs.KernelCalls.{call}
 use Rattle.kernel_world.specs.Allowed.{is_call}
 use Rattle.live_loading.specs.TaskEnding.{ended}

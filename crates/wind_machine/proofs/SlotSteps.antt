@@ -25,7 +25,8 @@ use Rattle.shell_eval.specs.Pending.{Pending}
 use Rattle.shell_eval.specs.Evaluate.{Ending, Value, Call, Fault, Waiting, evaluate}
 use Rattle.kernel_world.specs.State.{WorldState}
 use Rattle.kernel_world.specs.Starting.{no_regs}
-use Rattle.kernel_world.specs.Actors.{shell_id, caller_words}
+use Rattle.id_table.specs.Idents.{shell_id}
+use Rattle.kernel_world.specs.Actors.{caller_words}
 use Rattle.kernel_world.specs.Allowed.{is_call}
 use Rattle.kernel_world.specs.Replies.{left_gate}
 use Rattle.kernel_world.specs.declared.actor.Actor.{Actor}

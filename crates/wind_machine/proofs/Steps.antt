@@ -15,7 +15,7 @@ use Rattle.shell_parse.specs.Reading.{read_line}
 use Rattle.con_line.specs.State.{ConsoleState}
 use Rattle.con_line.specs.Lines.{KeepsLines, has_line, first_line, line_dropped}
 use Rattle.con_line.proofs.Kept.{drop_keeps}
-use Rattle.kernel_world.specs.Actors.{shell_id}
+use Rattle.id_table.specs.Idents.{shell_id}
 use Rattle.kernel_world.specs.declared.actor.Actor.{Actor}
 use Rattle.kernel_world.specs.declared.actor.Actor.TheVariants.{Task as by_task, Interrupt}
 use Rattle.isr_watch.specs.declared.watchdog.Watchdog.{Watchdog}

@@ -5,7 +5,7 @@ use Rattle.task_block.specs.Standing.{is_ready}
 use Rattle.wind_core.specs.State.{KernState, Lives, task_of}
 use Rattle.wind_core.specs.Moves.{move_found, move_task, released, release, unmarked, pended, renewed}
 use Rattle.wind_core.proofs.Ids.{ids, ids-change, ids-move, lives_by}
-use Rattle.kernel_world.specs.Actors.{shell_id}
+use Rattle.id_table.specs.Idents.{shell_id}
 use Rattle.wind_machine.specs.Task.{shell_task, console_place, is_held, let_go, aborted, listening}
 use Rattle.con_line.specs.declared.console.ByteDone.{ByteDone}
 use Rattle.con_line.specs.declared.console.ByteDone.TheVariants as done

@@ -4,7 +4,7 @@ use Rattle.wind_base.specs.declared.gate.Gate.{Gate}
 use Rattle.shell_parse.specs.Reading.{read_line}
 use Rattle.con_line.specs.Lines.{has_line, first_line, line_dropped}
 use Rattle.kernel_world.specs.State.{WorldState}
-use Rattle.kernel_world.specs.Actors.{shell_id}
+use Rattle.id_table.specs.Idents.{shell_id}
 use Rattle.kernel_world.specs.declared.actor.Actor.TheVariants.{Task as by_task, Interrupt}
 use Rattle.live_loading.specs.KernelCalls.{file_wanted}
 use Rattle.live_loading.specs.Said.{FileSaid}

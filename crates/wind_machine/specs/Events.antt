@@ -19,7 +19,7 @@ use Rattle.con_line.specs.Keys.{after_byte, byte_echo, byte_done}
 use Rattle.con_line.specs.declared.console.ByteDone.{ByteDone}
 use Rattle.con_line.specs.declared.console.ByteDone.TheVariants as done
 use Rattle.kernel_world.specs.State.{WorldState}
-use Rattle.kernel_world.specs.Actors.{shell_id}
+use Rattle.id_table.specs.Idents.{shell_id}
 use Rattle.wind_machine.specs.State.{ShellState, State}
 use Rattle.wind_machine.specs.Feed.{chunk, after_chunk, brought}
 use Rattle.wind_machine.specs.Task.{waits_for_console, aborted}

@@ -7,7 +7,7 @@ use Rattle.wind_base.specs.declared.profile.Profile.{Profile}
 use Rattle.wind_outside.specs.Devices.{DeviceState}
 use Rattle.tick_file.specs.Schedule.{Timetable}
 use Rattle.con_line.specs.State.{opening_console}
-use Rattle.kernel_world.specs.Actors.{shell_id}
+use Rattle.id_table.specs.Idents.{shell_id}
 use Rattle.kernel_world.specs.Allowed.{may_exhaust_memory as call_may_exhaust_memory}
 use Rattle.kernel_world.specs.Opening.{opening_world}
 use Rattle.kernel_world.specs.Settling.{settled_world}

@@ -16,7 +16,8 @@ use Rattle.ppc_core.specs.declared.trap.Trap.TheVariants as traps
 use Rattle.board_bus.specs.BusState.{BusState}
 use Rattle.board_bus.specs.Access.{board_meaning, fetched}
 use Rattle.kernel_world.specs.State.{WorldState}
-use Rattle.kernel_world.specs.Actors.{shell_id, caller_regs}
+use Rattle.id_table.specs.Idents.{shell_id}
+use Rattle.kernel_world.specs.Actors.{caller_regs}
 use Rattle.kernel_world.specs.Replies.{at_level}
 use Rattle.live_loading.specs.KernelCalls.{call}
 use Rattle.kernel_world.specs.Allowed.{is_call}

@@ -8,7 +8,7 @@ use Rattle.shell_eval.specs.State.{State as EvalState}
 use Rattle.shell_eval.specs.Pending.{Pending, begun_stmt, filled}
 use Rattle.shell_eval.specs.Evaluate.{Evaluated, Ending, Value, Call, Fault, Waiting, evaluate}
 use Rattle.kernel_world.specs.State.{WorldState}
-use Rattle.kernel_world.specs.Actors.{shell_id}
+use Rattle.id_table.specs.Idents.{shell_id}
 use Rattle.kernel_world.specs.Starting.{framed}
 use Rattle.wind_machine.specs.State.{ShellState}
 use Rattle.wind_machine.specs.Part.{Part, part_of, with_kern, writing}

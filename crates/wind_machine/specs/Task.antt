@@ -12,7 +12,7 @@ use Rattle.task_block.specs.declared.task.Task.{Task}
 use Rattle.wind_core.specs.State.{KernState, task_of}
 use Rattle.wind_core.specs.Orders.{waits_at}
 use Rattle.wind_core.specs.Moves.{pend, release, reset}
-use Rattle.kernel_world.specs.Actors.{shell_id}
+use Rattle.id_table.specs.Idents.{shell_id}
 use Rattle.kernel_world.specs.Starting.{starting_regs}
 
 abbrev pub shell_task : KernState → Option Task

@@ -10,7 +10,8 @@ use Rattle.msg_queue.specs.Kept.{IsKept}
 use Rattle.msg_queue.specs.Machine.{Event, accepted_next, taken_next}
 use Rattle.msg_queue.specs.Laws.{Stock, IsBalanced}
 use Rattle.kernel_world.specs.State.{WorldState}
-use Rattle.kernel_world.specs.Actors.{shell_id, is_interrupt, is_shell, caller_words}
+use Rattle.id_table.specs.Idents.{shell_id}
+use Rattle.kernel_world.specs.Actors.{is_interrupt, is_shell, caller_words}
 use Rattle.kernel_calls.specs.Calls.{Row, scene_of, row_unless, allowed_row, made, answered, call}
 use Rattle.kernel_world.specs.Allowed.{is_call, is_isr_callable, is_shells_own}
 use Rattle.kernel_world.specs.Replies.{left_gate}

@@ -16,7 +16,8 @@ use Rattle.shell_eval.specs.Evaluate.{Ending, Value, Call, Fault, Waiting, evalu
 use Rattle.msg_queue.specs.State.{Scene}
 use Rattle.msg_queue.specs.Kept.{IsKept}
 use Rattle.kernel_world.specs.State.{WorldState}
-use Rattle.kernel_world.specs.Actors.{shell_id, caller_words}
+use Rattle.id_table.specs.Idents.{shell_id}
+use Rattle.kernel_world.specs.Actors.{caller_words}
 use Rattle.kernel_calls.specs.Calls.{scene_of}
 use Rattle.kernel_world.specs.Allowed.{is_call}
 use Rattle.kernel_world.specs.Replies.{left_gate}

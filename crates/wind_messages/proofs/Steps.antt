@@ -18,7 +18,7 @@ use Rattle.msg_queue.specs.Machine.{Event as Call}
 use Rattle.msg_queue.proofs.Calm.{next-tick, calms}
 use Rattle.kernel_world.specs.State.{WorldState}
 use Rattle.kernel_world.specs.Objects.{IsReady}
-use Rattle.kernel_world.specs.Actors.{shell_id}
+use Rattle.id_table.specs.Idents.{shell_id}
 use Rattle.kernel_calls.specs.Calls.{scene_of}
 use Rattle.kernel_world.specs.Replies.{left_gate}
 use Rattle.kernel_world.specs.declared.actor.Actor.{Actor}

@@ -1,6 +1,6 @@
 use Rattle.std.proofs.Common.{[], ap, ◌∙◌}
 use Rattle.wind_base.specs.OutBuf.{Output}
-use Rattle.kernel_world.specs.Actors.{shell_id}
+use Rattle.id_table.specs.Idents.{shell_id}
 use Rattle.kernel_world.specs.Seen.{world_with}
 use Rattle.live_loading.proofs.Going.{lives_loaded}
 use Rattle.live_loading.proofs.Whole.{named, loaded_world}

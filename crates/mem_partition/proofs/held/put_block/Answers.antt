@@ -5,4 +5,4 @@ use Rattle.mem_partition.proofs.held.put_block.Goals as goal
 pub returns-clause-items : goal.returns-clause-items
 returns-clause-items c =
     c.in-Ok.ensures.items
-    ∙ inserted c.args.block c.args.blocks.now.items c.rank_of-place.result (rw c.deref.ensures.value at c.rank_of-place.ensures.value)
+    ∙ inserted c.args.block c.args.blocks.now.items c.rank_of-position.result (rw c.deref.ensures.value at c.rank_of-position.ensures.value)

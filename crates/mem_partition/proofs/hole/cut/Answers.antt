@@ -11,11 +11,11 @@ returns-in_default-clause-items c =
 
 pub returns-clause-items : goal.returns-clause-items
 returns-clause-items c =
-    let place = c.in-Some.place in
+    let k = c.in-Some.position in
     let items = c.args.list.now.items in
     let hole = c.remove-hole.result in
     let is = c.remove-hole.ensures.value in
     c.put_in-2.ensures.items
-    ∙ ap (put_gap place hole.start c.args.lo) (c.put_in.ensures.items ∙ ap (put_gap place c.args.hi hole.end) c.remove-hole.ensures.items)
-    ∙ ap (λ (h : Hole). put_gap place h.start c.args.lo (put_gap place c.args.hi h.end (remove items place))) is
-    ∙ cut_found c.args.lo c.args.hi place items hole (c.in-Some.ensures.is ∙ ap (position (λ h. leb c.args.hi h.end)) c.deref.ensures.value)
+    ∙ ap (put_gap k hole.start c.args.lo) (c.put_in.ensures.items ∙ ap (put_gap k c.args.hi hole.end) c.remove-hole.ensures.items)
+    ∙ ap (λ (h : Hole). put_gap k h.start c.args.lo (put_gap k c.args.hi h.end (remove items k))) is
+    ∙ cut_found c.args.lo c.args.hi k items hole (c.in-Some.ensures.is ∙ ap (position (λ h. leb c.args.hi h.end)) c.deref.ensures.value)

@@ -13,7 +13,7 @@ returns-clause-items c =
     let to = c.end_above-to.ensures ∙ ap (λ (hs : List Hole). reach_up hi (find (λ h. eqb h.start hi) hs)) c.deref-2.ensures.value in
     c.put_in.ensures.items
     ∙ ap (λ n. put_gap n c.start_below-from.result c.end_above-to.result c.drop_touching.new.list.items)
-    (c.rank_of-place.ensures.value ∙ ap (rank c.start_below-from.result) c.deref-3.ensures.value)
+    (c.rank_of-position.ensures.value ∙ ap (rank c.start_below-from.result) c.deref-3.ensures.value)
     ∙ ap (λ (hs : List Hole). put_gap (rank c.start_below-from.result hs) c.start_below-from.result c.end_above-to.result hs) rest
     ∙ ap (λ n. put_gap (rank n (apart_from lo hi c.args.list.now.items)) n c.end_above-to.result (apart_from lo hi c.args.list.now.items)) from
     ∙ ap (λ n. put_gap (rank (reach_down lo (find (λ h. eqb h.end lo) c.args.list.now.items)) (apart_from lo hi c.args.list.now.items)) (reach_down lo (find (λ h. eqb h.end lo) c.args.list.now.items)) n (apart_from lo hi c.args.list.now.items)) to

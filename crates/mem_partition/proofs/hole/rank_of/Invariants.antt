@@ -3,5 +3,5 @@ use Rattle.std.specs.Prelude.{drop}
 use Rattle.mem_partition.specs.Holes.{rank}
 use Rattle.mem_partition.proofs.hole.rank_of.Given as goal
 
-abbrev pub invariant-loop-place : goal.invariant-loop-place
-invariant-loop-place l = l.place + rank l.at (drop l.place l.list) ≡ rank l.at l.list
+abbrev pub invariant-loop-position : goal.invariant-loop-position
+invariant-loop-position l = l.position + rank l.at (drop l.position l.list) ≡ rank l.at l.list

@@ -1,6 +1,7 @@
 use Rattle.std.proofs.Common.{◌++◌, codes, append_assoc, ap, ◌∙◌, arith, Option}
 use Rattle.ppc_word.specs.declared.row.Row.{Row}
-use Rattle.ppc_asm.specs.Listing.{hex_places, item_text}
+use Rattle.wind_base.specs.Texts.{hex_places}
+use Rattle.ppc_asm.specs.Listing.{item_text}
 use Rattle.ppc_asm.proofs.listing.put_item.Goals as goal
 
 pub returns-in-None : goal.returns-in-None

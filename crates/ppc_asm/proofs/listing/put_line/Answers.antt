@@ -1,6 +1,7 @@
 use Rattle.std.proofs.Common.{◌≡◌, ◌++◌, codes, ap, ◌∙◌, arith}
 use Rattle.ppc_word.specs.Rows.{row_of}
-use Rattle.ppc_asm.specs.Listing.{hex_places, item_text, line_text}
+use Rattle.wind_base.specs.Texts.{hex_places}
+use Rattle.ppc_asm.specs.Listing.{item_text, line_text}
 use Rattle.ppc_asm.proofs.Listed.{then_piece}
 use Rattle.ppc_asm.proofs.listing.put_line.Goals as goal
 

@@ -1,4 +1,5 @@
-use Rattle.text_show.specs.Columns.{left_in, hex_places}
+use Rattle.wind_base.specs.Texts.{hex_places}
+use Rattle.text_show.specs.Columns.{left_in}
 use Rattle.text_show.specs.Symbols.{symbol_row, kind_word}
 use Rattle.text_show.proofs.Cells.{value_row}
 use Rattle.text_show.proofs.symbols.add_symbol.Goals as goal

@@ -2,13 +2,13 @@ use Rattle.std.proofs.Common.{◌≡◌, ◌+◌, ◌-◌, length, take, drop, a
 use Rattle.std.specs.Prelude.{vec_capacity}
 use Rattle.board_mem.specs.Memory.{bytes_at}
 use Rattle.board_mem.specs.Pages.{PagesState}
-use Rattle.board_mem.specs.Store.{place_of}
+use Rattle.board_mem.specs.Store.{offset_of}
 use Rattle.board_mem.proofs.Stores.{length-bytes_of}
 use Rattle.board_mem.proofs.Windows.{IsWindow, window_in, bytes_at-window}
 use Rattle.board_mem.proofs.pages.Pages.piece.Goals as goal
 
-pub place-start-requires : goal.place-start-requires
-place-start-requires c =
+pub offset-start-requires : goal.offset-start-requires
+offset-start-requires c =
     let size = ap (λ (s : PagesState). length s.bytes) c.self.view_is in
     record { there = omega (arith, c.self.invariant.cover, size, length-bytes_of c.self.inside.size c.self.inside.index.items c.self.inside.store.items) }
 
@@ -19,6 +19,6 @@ window c = window_in c.args.self.now c.self.invariant c.self.view_is c.requires.
 pub returns : goal.returns
 returns c =
     let index = c.self.inside.index.items in let store = c.self.inside.store.items in
-    let start : c.place-start.result ≡ place_of index c.args.at = c.place-start.ensures ∙ ap (λ i. place_of i c.args.at) c.deref.ensures.value in
-    let count : c.place-start.result + c.args.n - c.place-start.result ≡ c.args.n = omega arith in
+    let start : c.offset-start.result ≡ offset_of index c.args.at = c.offset-start.ensures ∙ ap (λ i. offset_of i c.args.at) c.deref.ensures.value in
+    let count : c.offset-start.result + c.args.n - c.offset-start.result ≡ c.args.n = omega arith in
     ap₂ take count (ap₂ drop start c.deref-2.ensures.value) ∙ bytes_at-window (window c) ∙ ap (λ (s : PagesState). bytes_at s.bytes c.args.at c.args.n) c.self.view_is

@@ -8,8 +8,8 @@ use Rattle.board_mem.proofs.Stores.{length-bytes_of}
 use Rattle.board_mem.proofs.Windows.{IsWindow, window_in}
 use Rattle.board_mem.proofs.pages.Pages.put_same.Goals as goal
 
-pub place_made-start-requires-clause-there : goal.place_made-start-requires-clause-there
-place_made-start-requires-clause-there c =
+pub offset_made-start-requires-clause-there : goal.offset_made-start-requires-clause-there
+offset_made-start-requires-clause-there c =
     let size = ap (λ (s : PagesState). length s.bytes) c.self.view_is in
     omega (arith, c.self.invariant.cover, size, length-bytes_of c.self.inside.size c.self.inside.index.items c.self.inside.store.items)
 
@@ -20,8 +20,8 @@ window c =
     window_in c.args.self.now c.self.invariant c.self.view_is (omega (arith, count)) (omega (arith, count)) (omega (arith, count))
 
 -- the written bytes and their place
-put_is : (c : goal.After-self-2-1) → IsPut c.self.inside.size c.self.inside.index.items c.self.inside.store.items c.place_made-start.new.index c.place_made-start.new.store.items (with_items c.self.inside.index c.place_made-start.new.index).items (with_items c.place_made-start.new.store c.fill_in.new.store).items (vec_capacity c.self.inside.store) (vec_capacity c.place_made-start.new.store) c.args.at (replicate c.args.n c.args.byte)
-put_is c = put_made (window c) (rw c.deref_mut.ensures.value at c.place_made-start.ensures.made) (omega arith) (with_items_is c.self.inside.index c.place_made-start.new.index (omega arith)) (with_items_is c.place_made-start.new.store c.fill_in.new.store (omega arith) ∙ c.fill_in.ensures) c.deref_mut-2.ensures.value c.place_made-start.ensures.place
+put_is : (c : goal.After-self-2-1) → IsPut c.self.inside.size c.self.inside.index.items c.self.inside.store.items c.offset_made-start.new.index c.offset_made-start.new.store.items (with_items c.self.inside.index c.offset_made-start.new.index).items (with_items c.offset_made-start.new.store c.fill_in.new.store).items (vec_capacity c.self.inside.store) (vec_capacity c.offset_made-start.new.store) c.args.at (replicate c.args.n c.args.byte)
+put_is c = put_made (window c) (rw c.deref_mut.ensures.value at c.offset_made-start.ensures.made) (omega arith) (with_items_is c.self.inside.index c.offset_made-start.new.index (omega arith)) (with_items_is c.offset_made-start.new.store c.fill_in.new.store (omega arith) ∙ c.fill_in.ensures) c.deref_mut-2.ensures.value c.offset_made-start.ensures.offset
 
 pub invariant_of-self : goal.invariant_of-self
 invariant_of-self c = IsStore-after (put_is c) _ refl

@@ -5,7 +5,7 @@ use Rattle.delay_queue.proofs.Waiting.{no_value, one_cells, next_there, length-w
 use Rattle.delay_queue.proofs.delays.Delays.put.Goals as goal
 
 pub insert_before-requires-clause-next : goal.insert_before-requires-clause-next
-insert_before-requires-clause-next c x e = next_there (chain_at c.self.inside.tasks.chains 0) c.args.wake c.place_of-next.result.next c.place_of-next.result.left x c.place_of-next.ensures e
+insert_before-requires-clause-next c x e = next_there (chain_at c.self.inside.tasks.chains 0) c.args.wake c.position_of-next.result.next c.position_of-next.result.left x c.position_of-next.ensures e
 
 pub insert_before-requires-clause-absent : goal.insert_before-requires-clause-absent
 insert_before-requires-clause-absent c =
@@ -19,21 +19,21 @@ insert_before-requires-clause-room c =
 
 pub lessen-requires : goal.lessen-requires
 lessen-requires c x e =
-    lessened_fits c.self.inside.tasks c.args.who c.args.wake c.place_of-next.result.next c.next-next.result c.place_of-next.result.left c.insert_before.new.self c.self.invariant.one
-    (c.facts.ensures.apart 0 (omega (arith, c.self.invariant.one))) (ap (λ o. wake_of o.tasks c.args.who) c.self.view_is ∙ c.requires.absent) c.place_of-next.ensures
+    lessened_fits c.self.inside.tasks c.args.who c.args.wake c.position_of-next.result.next c.next-next.result c.position_of-next.result.left c.insert_before.new.self c.self.invariant.one
+    (c.facts.ensures.apart 0 (omega (arith, c.self.invariant.one))) (ap (λ o. wake_of o.tasks c.args.who) c.self.view_is ∙ c.requires.absent) c.position_of-next.ensures
     c.insert_before.ensures c.next-next.ensures.after x e
 
 pub invariant_of-self : goal.invariant_of-self
 invariant_of-self c =
-    put_timed c.self.inside.tasks c.args.who c.args.wake c.place_of-next.result.next c.next-next.result c.place_of-next.result.left c.insert_before.new.self c.self.invariant.one
-    (c.facts.ensures.apart 0 (omega (arith, c.self.invariant.one))) (ap (λ o. wake_of o.tasks c.args.who) c.self.view_is ∙ c.requires.absent) c.place_of-next.ensures
+    put_timed c.self.inside.tasks c.args.who c.args.wake c.position_of-next.result.next c.next-next.result c.position_of-next.result.left c.insert_before.new.self c.self.invariant.one
+    (c.facts.ensures.apart 0 (omega (arith, c.self.invariant.one))) (ap (λ o. wake_of o.tasks c.args.who) c.self.view_is ∙ c.requires.absent) c.position_of-next.ensures
     c.insert_before.ensures c.next-next.ensures.after
     c.lessen.new.tasks c.lessen.ensures c.ranges.wake.fits c.self.invariant.wakes
 
 pub returns : goal.returns
 returns c =
-    put_order c.self.inside.tasks c.args.who c.args.wake c.place_of-next.result.next c.next-next.result c.place_of-next.result.left c.insert_before.new.self c.self.invariant.one
-    (c.facts.ensures.apart 0 (omega (arith, c.self.invariant.one))) (ap (λ o. wake_of o.tasks c.args.who) c.self.view_is ∙ c.requires.absent) c.place_of-next.ensures
+    put_order c.self.inside.tasks c.args.who c.args.wake c.position_of-next.result.next c.next-next.result c.position_of-next.result.left c.insert_before.new.self c.self.invariant.one
+    (c.facts.ensures.apart 0 (omega (arith, c.self.invariant.one))) (ap (λ o. wake_of o.tasks c.args.who) c.self.view_is ∙ c.requires.absent) c.position_of-next.ensures
     c.insert_before.ensures c.next-next.ensures.after
     c.lessen.new.tasks c.lessen.ensures
     ∙ ap (λ o. with_task o (c.args.who, c.args.wake)) c.self.view_is

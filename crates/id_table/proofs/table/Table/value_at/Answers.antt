@@ -10,11 +10,11 @@ index-requires g c =
 
 pub index-requires-2 : goal.index-requires-2
 index-requires-2 g c =
-    subst (λ e. IsSome (slabs.get c.self.inside.slots e.key)) (sym c.index.ensures) (c.self.invariant.1.present c.args.place c.index.result.now (omega (arith, length-rows c.self.inside.order.items c.self.inside.slots c.self.invariant.1.present, ap (λ t. length t.rows) c.self.view_is, c.requires)))
+    subst (λ e. IsSome (slabs.get c.self.inside.slots e.key)) (sym c.index.ensures) (c.self.invariant.1.present c.args.position c.index.result.now (omega (arith, length-rows c.self.inside.order.items c.self.inside.slots c.self.invariant.1.present, ap (λ t. length t.rows) c.self.view_is, c.requires)))
 
 pub returns : goal.returns
 returns g c =
     let k = c.self.inside in
-    object_in k.order.items k.slots c.args.place c.index.result.now c.index-2.result.now c.self.invariant.1.present (omega (arith, length-rows c.self.inside.order.items c.self.inside.slots c.self.invariant.1.present, ap (λ t. length t.rows) c.self.view_is, c.requires))
+    object_in k.order.items k.slots c.args.position c.index.result.now c.index-2.result.now c.self.invariant.1.present (omega (arith, length-rows c.self.inside.order.items c.self.inside.slots c.self.invariant.1.present, ap (λ t. length t.rows) c.self.view_is, c.requires))
     (sym (ap (λ e. slabs.get k.slots e.key) c.index.ensures) ∙ c.index-2.ensures)
-    ∙ ap (λ t. get_or (objects t.rows) c.args.place c.index-2.result.now) c.self.view_is
+    ∙ ap (λ t. get_or (objects t.rows) c.args.position c.index-2.result.now) c.self.view_is

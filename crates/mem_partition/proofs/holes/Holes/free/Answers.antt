@@ -19,7 +19,7 @@ returns-in_default-clause-after c =
 pub overflow_add-block : goal.overflow_add-block
 overflow_add-block c =
     let s = the_view c.self.inside in
-    let k = c.in-Some.place in
+    let k = c.in-Some.position in
     let own : IsOwn s.part.blocks c.args.addr c.args.class k = rw c.deref.ensures.value at c.in-Some.ensures in
     let inside = place_inside s.part.start s.part.end s.part.blocks k c.remove-block.result c.self.invariant.2.part.laid own.within in
     let bound = c.self.invariant.2.part.bound in
@@ -31,7 +31,7 @@ overflow_add-block c =
 pub merge-requires : goal.merge-requires
 merge-requires c =
     let s = the_view c.self.inside in
-    let k = c.in-Some.place in
+    let k = c.in-Some.position in
     let own : IsOwn s.part.blocks c.args.addr c.args.class k = rw c.deref.ensures.value at c.in-Some.ensures in
     let few = apart_few s (c.remove-block.result.addr + c.remove-block.result.size) k c.remove-block.result c.self.invariant.2 own.within c.remove-block.ensures.value in
     let all = c.self.invariant.2.part.few in
@@ -41,7 +41,7 @@ merge-requires c =
 pub invariant_of-self : goal.invariant_of-self
 invariant_of-self c =
     let s = the_view c.self.inside in
-    let k = c.in-Some.place in
+    let k = c.in-Some.position in
     let own : IsOwn s.part.blocks c.args.addr c.args.class k = rw c.deref.ensures.value at c.in-Some.ensures in (
       rw c.remove-block.ensures.capacity c.self.invariant.0,
       rw c.merge.ensures.capacity c.self.invariant.1,
@@ -52,7 +52,7 @@ invariant_of-self c =
 pub returns-clause-after : goal.returns-clause-after
 returns-clause-after c =
     let s = the_view c.self.inside in
-    let k = c.in-Some.place in
+    let k = c.in-Some.position in
     let own : IsOwn s.part.blocks c.args.addr c.args.class k = rw c.deref.ensures.value at c.in-Some.ensures in
     free_is_whole s c.args.addr c.args.class k c.remove-block.result c.remove-block.new.self.items c.merge.new.list.items c.self.invariant.2 own c.remove-block.ensures.value
     c.remove-block.ensures.items c.merge.ensures.items
