@@ -4,7 +4,7 @@ ghost use Rattle.std.specs.Prelude.{◌≡◌};
 ghost use Rattle.kernel_world.specs.CallWords.{seven_words as seven_words_lem, two_words as two_words_lem, ten_arguments as ten_arguments_lem, quick_arguments as quick_arguments_lem, seven_values as seven_values_lem, call_of as call_of_lem, gate_of, call_by};
 ghost use Rattle.kernel_world.specs.Seen.{world_seen};
 
-use crate::actor::{Actor, regs, stack_word};
+use crate::actor::{Actor, found_regs, stack_word};
 use crate::world::World;
 use board_mem::Ram;
 use wind_base::Gate;
@@ -442,7 +442,7 @@ fn call_of(gate: Gate, ram: &Ram, gpr: &[u32; 32]) -> Option<Call>
 pub fn read_call(w: &World, gate: Gate, who: &Actor) -> Option<Call>
     ensures { result ≡ call_by gate (world_seen ⟦<dyn Device as Device>⟧ w.now) who.now }
 {
-    match regs(&w.kern, &w.watch, who) {
+    match found_regs(&w.kern, &w.watch, who) {
         Some(regs) => call_of(gate, &w.bus.ram, &regs.gpr),
         None => call_of(gate, &w.bus.ram, &[0; 32]),
     }
