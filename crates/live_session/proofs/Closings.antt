@@ -5,7 +5,7 @@ use Rattle.wind_session.specs.declared.run.RunEnd.{RunEnd}
 use Rattle.wind_session.specs.declared.run.RunEnd.TheVariants as ends
 use Rattle.live_session.specs.Ending.{IsGoing}
 use Rattle.live_session.specs.Session.{IsStatusOf, IsTyped, status_of}
-use Rattle.live_session.specs.declared.serving.Place.{Place}
+use Rattle.live_session.specs.declared.serving.Position.{Position}
 use Rattle.live_session.specs.declared.status.Status.{Status}
 use Rattle.live_session.specs.declared.status.Status.TheVariants as status
 use Rattle.live_session.proofs.Typing.{IsEarly, Typing, typed_all, typed_early}
@@ -59,8 +59,8 @@ heard_put status.NoMemory h e = cc
 heard_put status.WriteFault h e = absurd (cc)
 heard_put status.Usage h e = h
 
-pub typed_end : (s taken : Status) (old new : Option (List ℕ)) (console : List ℕ) (place : Place) (count : ℕ) → Typing old new console place count
+pub typed_end : (s taken : Status) (old new : Option (List ℕ)) (console : List ℕ) (position : Position) (count : ℕ) → Typing old new console position count
     → (s ≡ status.Ended → taken ≡ status.Ended) → s ≢ status.Unrecorded → (taken ≡ status.Ended → IfSome new (λ left. left ≡ [])) → IsTyped s old new console
-typed_end status.Ended taken old new console place count t first known last = typed_all status.Ended old new console place count t (last (first refl))
-typed_end status.Unrecorded taken old new console place count t first known last = absurd (known refl)
-typed_end s taken old new console place count t first known last = typed_early s old new console place count t tt
+typed_end status.Ended taken old new console position count t first known last = typed_all status.Ended old new console position count t (last (first refl))
+typed_end status.Unrecorded taken old new console position count t first known last = absurd (known refl)
+typed_end s taken old new console position count t first known last = typed_early s old new console position count t tt

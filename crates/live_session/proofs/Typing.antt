@@ -4,12 +4,12 @@ use Rattle.std.specs.Prelude.{IfSome}
 use Rattle.std.specs.Option.{option_map}
 use Rattle.std.proofs.lemmas.List.{append-nil, length-append}
 use Rattle.live_session.specs.Input.{IsLongest, IsPart, Takes}
-use Rattle.live_session.specs.Places.{asked_by, place_after, sent_of}
+use Rattle.live_session.specs.Positions.{asked_by, position_after, sent_of}
 use Rattle.live_session.specs.Seen.{LiveState, Sends}
-use Rattle.live_session.specs.Session.{AreParts, Parts, IsStop, IsTyped, IsWhole, joined, most_parts, place_of, sent_by}
+use Rattle.live_session.specs.Session.{AreParts, Parts, IsStop, IsTyped, IsWhole, joined, most_parts, position_of, sent_by}
 use Rattle.live_session.specs.declared.dot_line.DotLine.TheVariants as lines
-use Rattle.live_session.specs.declared.serving.Place.{Place}
-use Rattle.live_session.specs.declared.serving.Place.TheVariants.{Start}
+use Rattle.live_session.specs.declared.serving.Position.{Position}
+use Rattle.live_session.specs.declared.serving.Position.TheVariants.{Start}
 use Rattle.live_session.specs.declared.status.Status.{Status}
 use Rattle.live_session.specs.declared.status.Status.TheVariants as status
 
@@ -18,19 +18,19 @@ joined_more : (xs : Parts) (y : List ℕ × Bool) → joined (xs ++ y ∷ []) �
 joined_more [] y = append-nil y.0
 joined_more (x ∷ xs) y = ap (λ bytes. x.0 ++ bytes) (joined_more xs y) ∙ sym (append_assoc x.0 (joined xs) y.0)
 
-place_more : (place : Place) (xs : Parts) (y : List ℕ × Bool) → place_of place (xs ++ y ∷ []) ≡ place_after (place_of place xs) y.0
-place_more place [] y = refl
-place_more place (x ∷ xs) y = place_more (place_after place x.0) xs y
+position_more : (position : Position) (xs : Parts) (y : List ℕ × Bool) → position_of position (xs ++ y ∷ []) ≡ position_after (position_of position xs) y.0
+position_more position [] y = refl
+position_more position (x ∷ xs) y = position_more (position_after position x.0) xs y
 
 -- what a part sends, if it is sent
 abbrev sent_if : Bool → List ℕ → List ℕ
 sent_if sent bytes = cond sent bytes []
 
-sent_more : (place : Place) (xs : Parts) (y : List ℕ × Bool) → sent_by place (xs ++ y ∷ []) ≡ sent_by place xs ++ sent_if y.1 (sent_of (place_of place xs) y.0)
-sent_more place [] y = append-nil (sent_if y.1 (sent_of place y.0))
-sent_more place (x ∷ xs) y =
-    ap (λ bytes. sent_if x.1 (sent_of place x.0) ++ bytes) (sent_more (place_after place x.0) xs y)
-    ∙ sym (append_assoc (sent_if x.1 (sent_of place x.0)) (sent_by (place_after place x.0) xs) (sent_if y.1 (sent_of (place_of (place_after place x.0) xs) y.0)))
+sent_more : (position : Position) (xs : Parts) (y : List ℕ × Bool) → sent_by position (xs ++ y ∷ []) ≡ sent_by position xs ++ sent_if y.1 (sent_of (position_of position xs) y.0)
+sent_more position [] y = append-nil (sent_if y.1 (sent_of position y.0))
+sent_more position (x ∷ xs) y =
+    ap (λ bytes. sent_if x.1 (sent_of position x.0) ++ bytes) (sent_more (position_after position x.0) xs y)
+    ∙ sym (append_assoc (sent_if x.1 (sent_of position x.0)) (sent_by (position_after position x.0) xs) (sent_if y.1 (sent_of (position_of (position_after position x.0) xs) y.0)))
 
 -- ---- what is taken from the input
 takes_none : (left : Option (List ℕ)) → Takes left left []
@@ -61,17 +61,17 @@ are_more (x ∷ xs) y mid new takes are part longest =
     (are.0, subst (λ (o : Option (List ℕ)). IsLongest x.0 o) after are.1, are_more xs y mid new takes are.2 part longest)
 
 -- ---- what has been typed so far
-pub record Typing (old now : Option (List ℕ)) (console : List ℕ) (place : Place) (count : ℕ) : Type 0 where
+pub record Typing (old now : Option (List ℕ)) (console : List ℕ) (position : Position) (count : ℕ) : Type 0 where
   pub parts : Parts
   pub taken : Takes old now (joined parts)
   pub parts_are : AreParts parts now
   pub sent : console ≡ sent_by Start parts
-  pub there : place ≡ place_of Start parts
+  pub there : position ≡ position_of Start parts
   pub counted : length parts ≡ count
 
--- the same at equal places
-pub typed_at : (old now : Option (List ℕ)) (console later : List ℕ) (place after : Place) (count : ℕ) → later ≡ console → after ≡ place → Typing old now console place count → Typing old now later after count
-typed_at old now console later place after count same there t = record { parts = t.parts; taken = t.taken; parts_are = t.parts_are; sent = same ∙ t.sent; there = there ∙ t.there; counted = t.counted }
+-- the same at equal positions
+pub typed_at : (old now : Option (List ℕ)) (console later : List ℕ) (position after : Position) (count : ℕ) → later ≡ console → after ≡ position → Typing old now console position count → Typing old now later after count
+typed_at old now console later position after count same there t = record { parts = t.parts; taken = t.taken; parts_are = t.parts_are; sent = same ∙ t.sent; there = there ∙ t.there; counted = t.counted }
 
 pub typed_none : (left : Option (List ℕ)) (console : List ℕ) → console ≡ [] → Typing left left console Start 0
 typed_none left console empty = record { parts = []; taken = takes_none left; parts_are = tt; sent = empty; there = refl; counted = refl }
@@ -85,7 +85,7 @@ stop_whole status.ReadFault left parts whole = tt
 stop_whole status.WriteFault left parts whole = tt
 stop_whole status.NoMemory left parts whole = tt
 
--- a status with which a session stops at any place of its input
+-- a status with which a session stops at any position of its input
 abbrev pub IsEarly : Status → Type 0
 IsEarly status.Ended = ⊥
 IsEarly status.Unrecorded = ⊥
@@ -99,23 +99,23 @@ stop_early status.ReadFault left parts early = tt
 stop_early status.WriteFault left parts early = tt
 stop_early status.NoMemory left parts early = tt
 
-pub typed_early : (s : Status) (old new : Option (List ℕ)) (console : List ℕ) (place : Place) (count : ℕ) → Typing old new console place count → IsEarly s → IsTyped s old new console
-typed_early s old new console place count t early = record { parts = t.parts; taken = t.taken; parts_are = t.parts_are; sent = t.sent; stop = stop_early s new t.parts early }
+pub typed_early : (s : Status) (old new : Option (List ℕ)) (console : List ℕ) (position : Position) (count : ℕ) → Typing old new console position count → IsEarly s → IsTyped s old new console
+typed_early s old new console position count t early = record { parts = t.parts; taken = t.taken; parts_are = t.parts_are; sent = t.sent; stop = stop_early s new t.parts early }
 
-pub typed_most : (s : Status) (old new : Option (List ℕ)) (console : List ℕ) (place : Place) → Typing old new console place most_parts → IsTyped s old new console
-typed_most s old new console place t = record { parts = t.parts; taken = t.taken; parts_are = t.parts_are; sent = t.sent; stop = stop_whole s new t.parts (inr (inr t.counted)) }
+pub typed_most : (s : Status) (old new : Option (List ℕ)) (console : List ℕ) (position : Position) → Typing old new console position most_parts → IsTyped s old new console
+typed_most s old new console position t = record { parts = t.parts; taken = t.taken; parts_are = t.parts_are; sent = t.sent; stop = stop_whole s new t.parts (inr (inr t.counted)) }
 
-pub typed_all : (s : Status) (old new : Option (List ℕ)) (console : List ℕ) (place : Place) (count : ℕ) → Typing old new console place count → IfSome new (λ left. left ≡ []) → IsTyped s old new console
-typed_all s old new console place count t none = record { parts = t.parts; taken = t.taken; parts_are = t.parts_are; sent = t.sent; stop = stop_whole s new t.parts (inl none) }
+pub typed_all : (s : Status) (old new : Option (List ℕ)) (console : List ℕ) (position : Position) (count : ℕ) → Typing old new console position count → IfSome new (λ left. left ≡ []) → IsTyped s old new console
+typed_all s old new console position count t none = record { parts = t.parts; taken = t.taken; parts_are = t.parts_are; sent = t.sent; stop = stop_whole s new t.parts (inl none) }
 
 -- whether it was sent
 was_sent : (bytes : List ℕ) (l m : LiveState) → Sends bytes l m → (sent : Bool) × (m.console.bytes ≡ l.console.bytes ++ sent_if sent bytes)
 was_sent bytes l m (inl e) = (true, e)
 was_sent bytes l m (inr same) = (false, ap (λ (x : LiveState). x.console.bytes) same ∙ sym (append-nil l.console.bytes))
 
-module _ (old mid new : Option (List ℕ)) (place : Place) (count : ℕ) (part : List ℕ) (l m : LiveState) (t : Typing old mid l.console.bytes place count) (takes : Takes mid new part) (is_part : IsPart part) (longest : IsLongest part new) (sends : Sends (sent_of place part) l m) where
+module _ (old mid new : Option (List ℕ)) (position : Position) (count : ℕ) (part : List ℕ) (l m : LiveState) (t : Typing old mid l.console.bytes position count) (takes : Takes mid new part) (is_part : IsPart part) (longest : IsLongest part new) (sends : Sends (sent_of position part) l m) where
   y : List ℕ × Bool
-  y = (part, (was_sent (sent_of place part) l m sends).0)
+  y = (part, (was_sent (sent_of position part) l m sends).0)
 
   all_taken : Takes old new (joined (t.parts ++ y ∷ []))
   unfolding y
@@ -128,29 +128,29 @@ module _ (old mid new : Option (List ℕ)) (place : Place) (count : ℕ) (part :
   all_sent : m.console.bytes ≡ sent_by Start (t.parts ++ y ∷ [])
   unfolding y
   all_sent =
-      (was_sent (sent_of place part) l m sends).1
-      ∙ ap (λ bytes. bytes ++ sent_if y.1 (sent_of place part)) t.sent
-      ∙ ap (λ (p : Place). sent_by Start t.parts ++ sent_if y.1 (sent_of p part)) t.there
+      (was_sent (sent_of position part) l m sends).1
+      ∙ ap (λ bytes. bytes ++ sent_if y.1 (sent_of position part)) t.sent
+      ∙ ap (λ (p : Position). sent_by Start t.parts ++ sent_if y.1 (sent_of p part)) t.there
       ∙ sym (sent_more Start t.parts y)
 
-  pub typed_more : Typing old new m.console.bytes (place_after place part) (count + 1)
+  pub typed_more : Typing old new m.console.bytes (position_after position part) (count + 1)
   unfolding y
   typed_more = record {
     parts = t.parts ++ y ∷ [];
     taken = all_taken;
     parts_are = all_parts;
     sent = all_sent;
-    there = ap (λ (p : Place). place_after p part) t.there ∙ sym (place_more Start t.parts y);
+    there = ap (λ (p : Position). position_after p part) t.there ∙ sym (position_more Start t.parts y);
     counted = omega (arith, length-append t.parts (y ∷ []), t.counted);
   }
 
   -- and the part asked for the end
-  pub typed_quit : (s : Status) → asked_by place part ≡ Some lines.Quit → IsTyped s old new m.console.bytes
+  pub typed_quit : (s : Status) → asked_by position part ≡ Some lines.Quit → IsTyped s old new m.console.bytes
   unfolding y
   typed_quit s quits = record {
     parts = t.parts ++ y ∷ [];
     taken = all_taken;
     parts_are = all_parts;
     sent = all_sent;
-    stop = stop_whole s new (t.parts ++ y ∷ []) (inr (inl (record { before = t.parts; last = y; parts_are = refl; quits = subst (λ (p : Place). asked_by p part ≡ Some lines.Quit) t.there quits })));
+    stop = stop_whole s new (t.parts ++ y ∷ []) (inr (inl (record { before = t.parts; last = y; parts_are = refl; quits = subst (λ (p : Position). asked_by p part ≡ Some lines.Quit) t.there quits })));
   }

@@ -4,7 +4,7 @@ pub mod Ending
 pub mod Folder
 pub mod Input
 pub mod MemFolder
-pub mod Places
+pub mod Positions
 pub mod Record
 pub mod Saving
 pub mod Seen

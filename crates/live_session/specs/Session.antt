@@ -15,13 +15,13 @@ use Rattle.wind_session.specs.declared.run.RunEnd.TheVariants as ends
 use Rattle.live_session.specs.Command.{CommandState}
 use Rattle.live_session.specs.Ending.{IsAfterRun, IsGoing, is_quiet}
 use Rattle.live_session.specs.Input.{IsLongest, IsPart, Takes}
-use Rattle.live_session.specs.Places.{place_after, sent_of, asked_by}
+use Rattle.live_session.specs.Positions.{position_after, sent_of, asked_by}
 use Rattle.live_session.specs.Saving.{IsFree, IsSaved, IsTaken, WritesOnly, replay_limit}
 use Rattle.live_session.specs.declared.dot_line.DotLine.TheVariants as lines
 use Rattle.live_session.specs.declared.saving.Unsaved.{Unsaved}
 use Rattle.live_session.specs.declared.saving.Unsaved.TheVariants as unsaved
-use Rattle.live_session.specs.declared.serving.Place.{Place}
-use Rattle.live_session.specs.declared.serving.Place.TheVariants.{Start as LineStart}
+use Rattle.live_session.specs.declared.serving.Position.{Position}
+use Rattle.live_session.specs.declared.serving.Position.TheVariants.{Start as LineStart}
 use Rattle.live_session.specs.declared.status.Status.{Status}
 use Rattle.live_session.specs.declared.status.Status.TheVariants as status
 
@@ -40,21 +40,21 @@ AreParts [] left = Unit {0}
 AreParts (x ∷ xs) left = IsPart x.0 × IsLongest x.0 (option_map (λ rest. joined xs ++ rest) left) × AreParts xs left
 
 -- where the input is after them
-abbrev pub place_of : Place → Parts → Place
-place_of place [] = place
-place_of place (x ∷ xs) = place_of (place_after place x.0) xs
+abbrev pub position_of : Position → Parts → Position
+position_of position [] = position
+position_of position (x ∷ xs) = position_of (position_after position x.0) xs
 
 -- what they sent to the console
-abbrev pub sent_by : Place → Parts → List ℕ
-sent_by place [] = []
-sent_by place (x ∷ xs) = (if x.1 then sent_of place x.0 else []) ++ sent_by (place_after place x.0) xs
+abbrev pub sent_by : Position → Parts → List ℕ
+sent_by position [] = []
+sent_by position (x ∷ xs) = (if x.1 then sent_of position x.0 else []) ++ sent_by (position_after position x.0) xs
 
 -- the last of them is the line `.quit`
 pub record EndsByQuit (parts : Parts) : Type 0 where
   pub before : Parts
   pub last : List ℕ × Bool
   pub parts_are : parts ≡ before ++ last ∷ []
-  pub quits : asked_by (place_of LineStart before) last.0 ≡ Some lines.Quit
+  pub quits : asked_by (position_of LineStart before) last.0 ≡ Some lines.Quit
 
 -- the most parts that a session takes: no computer reaches it
 abbrev pub most_parts : ℕ

@@ -7,7 +7,7 @@ ghost use Rattle.wind_session.specs.Keeping.{around};
 ghost use Rattle.wind_session.specs.declared.run.RunEnd.TheVariants as ends;
 ghost use Rattle.live_session.specs.Ending.{IsGoing};
 ghost use Rattle.live_session.specs.Input.{Takes, IsPart, IsLongest};
-ghost use Rattle.live_session.specs.Places.{IsIdle};
+ghost use Rattle.live_session.specs.Positions.{IsIdle};
 ghost use Rattle.live_session.specs.Saving.{WritesOnly};
 ghost use Rattle.live_session.specs.Seen.{live_seen, IsSound, Runs};
 ghost use Rattle.live_session.specs.Session.{IsStatusOf, IsTyped, status_of};
@@ -21,7 +21,7 @@ use crate::messages::{tell, tell_of, tell_state};
 use crate::record_folder::RecordFolder;
 use crate::running::run;
 use crate::saving::Target;
-use crate::serving::{Place, Then, place_after, take_part};
+use crate::serving::{Position, Then, position_after, take_part};
 use crate::status::Status;
 use std::alloc::Global;
 use wind_outside::{Device, Folder, Sink};
@@ -152,7 +152,7 @@ pub(crate) fn converse<I: Input, F: Folder, O: Sink, E: Sink, D: RecordFolder>(
     ensures input_faults { I.faults input.old ≤ I.faults input.new }
 {
     let steps = target.command.quiet_after;
-    let mut place = Place::Start;
+    let mut position = Position::Start;
     let mut end = run(alloc, target.command, live, folder, out, err, steps, 0);
     for _ in 0..u64::MAX {
         if !is_going(end) {
@@ -161,18 +161,18 @@ pub(crate) fn converse<I: Input, F: Folder, O: Sink, E: Sink, D: RecordFolder>(
         let part = match hear(alloc, input) {
             Ok(part) => part,
             // The last line has no end.
-            Err(Status::Ended) if place == Place::Text => {
+            Err(Status::Ended) if position == Position::Text => {
                 let last = run(alloc, target.command, live, folder, out, err, steps, 0);
                 return closing_of(last);
             }
             Err(status) => return Closing { end, status },
         };
-        let then = take_part(alloc, live, err, place, &part, steps);
+        let then = take_part(alloc, live, err, position, &part, steps);
         end = act(alloc, target, live, folder, out, err, records, then, end);
         if then == Then::Quit {
             return closing_of(end);
         }
-        place = place_after(place, &part);
+        position = position_after(position, &part);
     }
     closing_of(end)
 }

@@ -64,9 +64,9 @@ pub fn live_program<I: Input, F: Folder, O: Sink, E: Sink, D: RecordFolder>(
         tell_no_memory(err);
         return Status::NoMemory.number();
     };
-    let (latch, fifo, counter, mut slots) = devices.into_parts();
-    slots.push(Some(latch)).unwrap();
-    slots.push(Some(fifo)).unwrap();
-    slots.push(Some(counter)).unwrap();
+    let mut slots = devices.slots;
+    slots.push(Some(devices.latch)).unwrap();
+    slots.push(Some(devices.fifo)).unwrap();
+    slots.push(Some(devices.counter)).unwrap();
     play_on(alloc, words, input, folder, out, err, records, slots).number()
 }

@@ -2,7 +2,7 @@
 
 ghost use Rattle.std.specs.Prelude.{◌≡◌, ◌≢◌, Some};
 ghost use Rattle.live_session.specs.Input.{IsPart};
-ghost use Rattle.live_session.specs.Places.{ends_line as ends_line_lem, place_after as place_after_lem, dot_sent, sent_of, asked_by, IsIdle};
+ghost use Rattle.live_session.specs.Positions.{ends_line as ends_line_lem, position_after as position_after_lem, dot_sent, sent_of, asked_by, IsIdle};
 ghost use Rattle.live_session.specs.DotLines.{dot_line_of};
 ghost use Rattle.live_session.specs.Seen.{live_seen, Delivers, IsSound};
 ghost use Rattle.live_session.specs.declared.dot_line.DotLine.TheVariants as lines;
@@ -17,7 +17,7 @@ use wind_outside::{Device, Sink};
 
 /// Where the input is, before its next part.
 #[derive(Clone, Copy, Debug, PartialEq, Eq)]
-pub enum Place {
+pub enum Position {
     /// At the start of a line.
     Start,
     /// In a line for the board.
@@ -56,16 +56,16 @@ fn ends_line(part: &[u8]) -> bool
 }
 
 /// Where the input is after a part.
-pub(crate) fn place_after(place: Place, part: &[u8]) -> Place
-    ensures { result ≡ place_after_lem place part.now }
+pub(crate) fn position_after(position: Position, part: &[u8]) -> Position
+    ensures { result ≡ position_after_lem position part.now }
 {
     if ends_line(part) {
-        return Place::Start;
+        return Position::Start;
     }
-    match place {
-        Place::Start if is_dotted(part) => Place::Command,
-        Place::Start | Place::Text => Place::Text,
-        Place::Command => Place::Command,
+    match position {
+        Position::Start if is_dotted(part) => Position::Command,
+        Position::Start | Position::Text => Position::Text,
+        Position::Command => Position::Command,
     }
 }
 
@@ -126,24 +126,24 @@ pub(crate) fn take_part<E: Sink>(
     alloc: Global,
     live: &mut Live,
     err: &mut E,
-    place: Place,
+    position: Position,
     part: &[u8],
     quiet_after: u64,
 ) -> Then
     requires sound { IsSound (live_seen ⟦<dyn Device as Device>⟧ live.old) }
     requires part { IsPart part.now }
-    ensures sent { Delivers (sent_of place part.now) (live_seen ⟦<dyn Device as Device>⟧ live.old)
+    ensures sent { Delivers (sent_of position part.now) (live_seen ⟦<dyn Device as Device>⟧ live.old)
         (live_seen ⟦<dyn Device as Device>⟧ live.new) }
     ensures idle { IsIdle result → live_seen ⟦<dyn Device as Device>⟧ live.new
         ≡ live_seen ⟦<dyn Device as Device>⟧ live.old }
-    ensures quits { result ≡ thens.Quit → asked_by place part.now ≡ Some lines.Quit }
+    ensures quits { result ≡ thens.Quit → asked_by position part.now ≡ Some lines.Quit }
 {
-    match place {
-        Place::Start if is_dotted(part) => obey(alloc, live, err, part, quiet_after),
-        Place::Command => Then::Nothing,
-        Place::Start | Place::Text if ends_line(part) => {
+    match position {
+        Position::Start if is_dotted(part) => obey(alloc, live, err, part, quiet_after),
+        Position::Command => Then::Nothing,
+        Position::Start | Position::Text if ends_line(part) => {
             send_bytes(alloc, live, err, part, Then::Run(quiet_after))
         }
-        Place::Start | Place::Text => send_bytes(alloc, live, err, part, Then::Sent),
+        Position::Start | Position::Text => send_bytes(alloc, live, err, part, Then::Sent),
     }
 }

@@ -17,8 +17,8 @@ use trace_run::trace_board;
 use wind_base::NoMemory;
 use wind_outside::{Device, Folder, Sink, Slots};
 use wind_session::{
-    Board, CommandErr, Inputs, Stand, Status, inputs_of, instant_law, status_of, tell,
-    tell_no_memory, tell_usage,
+    Board, CommandErr, Inputs, Stand, Status, inputs_of, instant_law, tell, tell_no_memory,
+    tell_usage,
 };
 
 // The ending of a session without a board.
@@ -61,7 +61,7 @@ fn play_board<F: Folder, O: Sink>(
     let (form, modules, limit) = (command.form, command.session.modules, command.session.limit);
     match trace_board(alloc, form, board, folder, modules, out, limit) {
         Ok(tracing) => Outcome {
-            status: status_of(tracing.end),
+            status: Status::from(tracing.end),
             spans: tracing.spans,
         },
         Err(NoMemory) => Outcome {

@@ -2,6 +2,7 @@
 
 ghost use Rattle.std.specs.Prelude.{◌≡◌};
 
+use crate::run::RunEnd;
 use board_player::Board;
 use wind_outside::Slots;
 
@@ -54,6 +55,23 @@ impl Status {
             Status::NoMemory => 6,
             Status::BadTicks(_) => 7,
             Status::TooLong(_) => 8,
+        }
+    }
+}
+
+/// The status of a session whose run ended so.
+impl From<RunEnd> for Status {
+    ghost use Rattle.wind_session.specs.Headline.{status_of};
+
+    ghost from_gives = { λ end s. s ≡ status_of end };
+
+    fn from(end: RunEnd) -> Status {
+        match end {
+            RunEnd::Quiet => Status::Quiet,
+            RunEnd::Limit => Status::Limit,
+            RunEnd::ReadFault => Status::ReadFault,
+            RunEnd::WriteFault => Status::WriteFault,
+            RunEnd::NoMemory => Status::NoMemory,
         }
     }
 }

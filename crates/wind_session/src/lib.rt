@@ -24,7 +24,7 @@ pub use laws::{growing_law, words_law};
 pub use modules::step;
 pub use opening::OpeningDevices;
 pub use paths::path_in;
-pub use playing::{Inputs, inputs_of, play, status_of};
+pub use playing::{Inputs, inputs_of, play};
 pub use program::play_program;
 pub use report::{put_pieces, tell, tell_no_memory, tell_usage};
 pub use resuming::resume_board;

@@ -7,7 +7,7 @@ ghost use Rattle.board_player.specs.Seen.{seen};
 ghost use Rattle.generated_session.specs.Session.{most_rounds, summary_line};
 ghost use Rattle.wind_outside.specs.declared.folder.FetchOutcome.{FetchOutcome};
 ghost use Rattle.wind_outside.specs.declared.folder.FetchOutcome.TheVariants as outcomes;
-ghost use Rattle.wind_session.specs.{Keeping.{KeepsFiles, KeepsFolder}, Command.{command_of as command_of_lem}, Fetches.{LeadsTo, IsAfterFiles, EndsWithFiles, EndsWithRounds, FailsLast, file_requests, rounds_requests, text_request}, Outside.outside, Words.command_state, Plan.{Start, IsFilePlan, IsPlanOf, IsHeld, plan_ticks, generated_plan}, Headline.{Plays, IsRefusal, IsUnread, RefusesFiles, Refuses, IsComplete, IsKept, IsLeft, IsSummed, status_of as status_of_lem}, Runs.{is_given_up as is_given_up_lem}, Status.status_number, Texts.Tells};
+ghost use Rattle.wind_session.specs.{Keeping.{KeepsFiles, KeepsFolder}, Command.{command_of as command_of_lem}, Fetches.{LeadsTo, IsAfterFiles, EndsWithFiles, EndsWithRounds, FailsLast, file_requests, rounds_requests, text_request}, Outside.outside, Words.command_state, Plan.{Start, IsFilePlan, IsPlanOf, IsHeld, plan_ticks, generated_plan}, Headline.{Plays, IsRefusal, IsUnread, RefusesFiles, Refuses, IsComplete, IsKept, IsLeft, IsSummed, status_of}, Runs.{is_given_up as is_given_up_lem}, Status.status_number, Texts.Tells};
 ghost use Rattle.wind_session.specs.declared.run.RunEnd.{RunEnd};
 ghost use Rattle.wind_session.specs.declared.run.RunEnd.TheVariants as ends;
 ghost use Rattle.wind_session.specs.declared.ending.Status.TheVariants as status;
@@ -32,19 +32,6 @@ fn refused(status: Status, devices: Slots) -> Ending
     Ending {
         status,
         stand: Stand::NotBooted(devices),
-    }
-}
-
-/// The status of a run.
-pub fn status_of(end: RunEnd) -> Status
-    ensures { result ≡ status_of_lem end }
-{
-    match end {
-        RunEnd::Quiet => Status::Quiet,
-        RunEnd::Limit => Status::Limit,
-        RunEnd::ReadFault => Status::ReadFault,
-        RunEnd::WriteFault => Status::WriteFault,
-        RunEnd::NoMemory => Status::NoMemory,
     }
 }
 
@@ -169,12 +156,12 @@ fn sum_up<O: Sink>(rounds: u32, board: &Board, tally: Tally, out: &mut O) -> Sta
     requires all_put { tally.end ≢ ends.WriteFault }
     ensures summed { IsSummed tally.end result (summary_line rounds tally.bytes
         (seen ⟦<dyn Device as Device>⟧ board.now).steps (seen ⟦<dyn Device as Device>⟧ board.now).world.kern.tick
-        (status_number (status_of_lem tally.end))) (O.bytes out.old) (O.bytes out.new) }
+        (status_number (status_of tally.end))) (O.bytes out.old) (O.bytes out.new) }
     ensures read_fault { result ≡ status.ReadFault → tally.end ≡ ends.ReadFault }
     ensures fault { result ≡ status.WriteFault → Rose (O.faults out.old) (O.faults out.new) }
     ensures faults { O.faults out.old ≤ O.faults out.new }
 {
-    let status = status_of(tally.end);
+    let status = Status::from(tally.end);
     if is_given_up(tally.end) {
         return status;
     }
@@ -213,7 +200,8 @@ fn played<F: Folder, O: Sink>(
     ensures keeps { KeepsFiles ⟦<F as Folder>⟧ ⟦<O as Sink>⟧ folder.old out.old folder.new out.new }
 {
     if command.generate == 0 {
-        return status_of(run_board(alloc, board, folder, command.modules, out, command.limit));
+        let end = run_board(alloc, board, folder, command.modules, out, command.limit);
+        return Status::from(end);
     }
     let tally = count_board(alloc, board, folder, command.modules, command.limit);
     sum_up(command.generate, board, tally, out)

@@ -56,9 +56,9 @@ pub fn play_program<F: Folder, O: Sink, E: Sink>(
         tell_no_memory(PROGRAM, err);
         return Status::NoMemory.number();
     };
-    let (latch, fifo, counter, mut slots) = devices.into_parts();
-    slots.push(Some(latch)).unwrap();
-    slots.push(Some(fifo)).unwrap();
-    slots.push(Some(counter)).unwrap();
+    let mut slots = devices.slots;
+    slots.push(Some(devices.latch)).unwrap();
+    slots.push(Some(devices.fifo)).unwrap();
+    slots.push(Some(devices.counter)).unwrap();
     play_on(alloc, words, folder, out, err, slots).number()
 }

@@ -1,7 +1,7 @@
 use Rattle.std.proofs.Common.{◌≡◌, ◌∙◌, ℕ, List, ap, arith, rules, subst, sym}
 use Rattle.live_session.specs.Ending.{IsGoing}
 use Rattle.live_session.specs.Input.{IsLongest, IsPart, Takes}
-use Rattle.live_session.specs.Places.{place_after}
+use Rattle.live_session.specs.Positions.{position_after}
 use Rattle.live_session.specs.Seen.{live_by}
 use Rattle.live_session.specs.Session.{IsTyped, status_of}
 use Rattle.live_session.specs.declared.serving.Then.TheVariants as thens
@@ -35,7 +35,7 @@ returns-then-eq-2-clause-typed g c =
     let quits : c.take_part-then.result ≡ thens.Quit = search rules in
     rw c.closing_of-then-eq-2.ensures
     (subst (λ (b : List ℕ). IsTyped (status_of c.act-end.result) old new b) (sym c.act-end.ensures.console)
-    (typed_quit old mid new c.loop.place c.loop.counter part (live c.loop.live) (live c.take_part-then.new.live) c.loop.invariant.typing heard.0 heard.1 heard.2 c.take_part-then.ensures.sent.sent
+    (typed_quit old mid new c.loop.position c.loop.counter part (live c.loop.live) (live c.take_part-then.new.live) c.loop.invariant.typing heard.0 heard.1 heard.2 c.take_part-then.ensures.sent.sent
     (status_of c.act-end.result) (c.take_part-then.ensures.quits quits)))
 
 -- another part was taken, and what follows it was done
@@ -52,8 +52,8 @@ loop-preserved g c =
     record {
       runs = runs_on c.loop.end _ _ _ _ _ _ _ _ _ going on.runs c.take_part-then.ensures.sent.stays act.ensures.runs;
       typing =
-          typed_at _ _ _ _ _ _ _ act.ensures.console (c.place_after-place.ensures ∙ ap (place_after c.loop.place) (c.deref-in-loop.ensures.value ∙ sym c.deref.ensures.value))
-          (typed_more _ mid new c.loop.place c.loop.counter part (live c.loop.live) (live c.take_part-then.new.live) on.typing heard.0 heard.1 heard.2 c.take_part-then.ensures.sent.sent);
+          typed_at _ _ _ _ _ _ _ act.ensures.console (c.position_after-position.ensures ∙ ap (position_after c.loop.position) (c.deref-in-loop.ensures.value ∙ sym c.deref.ensures.value))
+          (typed_more _ mid new c.loop.position c.loop.counter part (live c.loop.live) (live c.take_part-then.new.live) on.typing heard.0 heard.1 heard.2 c.take_part-then.ensures.sent.sent);
       writes = writes_both _ _ _ _ on.writes act.ensures.writes;
       record_faults = omega (arith, on.record_faults, act.ensures.record_faults);
       input_faults = omega (arith, on.input_faults, c.hear.ensures.never_falls);

@@ -11,7 +11,7 @@ invariant-loop g l =
     let live = live_by (λ d. (goal.Device-dyn g (d.vtable, d.value)).kind_of d.value) (λ d. (goal.Device-dyn g (d.vtable, d.value)).words_of d.value) in
     record {
       runs : Runs l.end l.target.command.now.modules.now (live l.fn.live) (around g.F.Folder g.O.Sink l.fn.folder l.fn.out) (live l.live) (around g.F.Folder g.O.Sink l.folder l.out);
-      typing : Typing (g.I.Input.left l.fn.input) (g.I.Input.left l.input) (live l.live).console.bytes l.place l.counter;
+      typing : Typing (g.I.Input.left l.fn.input) (g.I.Input.left l.input) (live l.live).console.bytes l.position l.counter;
       writes : WritesOnly l.target.command.now.record.now (g.D.RecordFolder.files l.fn.records) (g.D.RecordFolder.files l.records);
       record_faults : g.D.RecordFolder.faults l.fn.records ≤ g.D.RecordFolder.faults l.records;
       input_faults : g.I.Input.faults l.fn.input ≤ g.I.Input.faults l.input;

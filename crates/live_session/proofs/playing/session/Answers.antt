@@ -1,4 +1,4 @@
-use Rattle.std.proofs.Common.{◌≡◌, ◌≢◌, ◌∙◌, ℕ, List, [], ◌∷◌, Option, arith, eqb, eqb-true, false, inr, length, rules, subst, sym}
+use Rattle.std.proofs.Common.{refl, inl, ◌≡◌, ◌≢◌, ◌∙◌, ℕ, List, [], ◌∷◌, Option, arith, eqb, eqb-true, false, inr, length, rules, subst, sym}
 use Rattle.std.proofs.lemmas.List.{nil_from_length}
 use Rattle.wind_outside.specs.Files.{Files}
 use Rattle.wind_session.specs.Keeping.{around}
@@ -89,3 +89,12 @@ returns-clause-fault g c = λ e.
 
 pub returns-clause-keeps : goal.returns-clause-keeps
 returns-clause-keeps g c = c.converse-closing.ensures.runs.keeps
+
+-- ---- nothing was played
+pub returns-in_default-clause-leaves : goal.returns-in_default-clause-leaves
+returns-in_default-clause-leaves g c = inl (tt, record { outside = refl; input = refl; record_files = c.may_record.ensures.files })
+
+pub returns-then-not-may_record-clause-leaves : goal.returns-then-not-may_record-clause-leaves
+returns-then-not-may_record-clause-leaves g c =
+    let no : c.may_record.result ≡ false = search rules in
+    inl (c.may_record.ensures.refused no, record { outside = refl; input = refl; record_files = c.may_record.ensures.files })
