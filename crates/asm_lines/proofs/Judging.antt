@@ -1,5 +1,5 @@
 -- What the code finds is the first cause for which a line is refused.
-use Rattle.std.proofs.Common.{◌≡◌, ℕ, ◌+◌, ◌≤◌, Bool, true, false, not, List, [], ◌∷◌, ◌++◌, Option, Some, None, refl, sym, ap, ◌∙◌, subst, ltb-false}
+use Rattle.std.proofs.Common.{◌≡◌, ◌+◌, Bool, true, false, not, List, [], ◌∷◌, ◌++◌, Option, Some, None, refl, sym, ap, ◌∙◌, subst, ltb-false}
 use Rattle.std.specs.Prelude.{if◌then◌else◌, ◌||◌, is_some}
 use Rattle.ppc_text.specs.declared.line.Instruction.{Instruction as Insn}
 use Rattle.ppc_text.specs.declared.line.Item.{Item}
@@ -84,7 +84,3 @@ unfolding exceeds
 small_draft d h =
     let (a, b, c, e, f) = none_of_five _ _ _ _ _ h in
     record { small_text = ltb-false _ _ a; small_data = ltb-false _ _ b; few_names = ltb-false _ _ c; few_labels = ltb-false _ _ e }
-
-pub some_not_none : (o : Option Cause) → is_some o ≡ true → o ≡ None → ⊥
-some_not_none None h e = cc
-some_not_none (Some c) h e = cc

@@ -1,5 +1,5 @@
 -- A draft with one more line.
-use Rattle.std.proofs.Common.{◌≡◌, ℕ, zero, suc, ◌+◌, ◌≤◌, ◌<◌, ◌^◌, Bool, true, false, List, [], ◌∷◌, ◌++◌, length, sym, ap, ◌∙◌, subst, arith, append_assoc}
+use Rattle.std.proofs.Common.{◌≡◌, ℕ, zero, suc, ◌+◌, ◌≤◌, true, false, List, [], ◌∷◌, ◌++◌, length, sym, ap, ◌∙◌, subst, arith, append_assoc}
 use Rattle.std.specs.Prelude.{if◌then◌else◌, ◌==◌}
 use Rattle.ppc_text.specs.declared.line.Item.{Item}
 use Rattle.ppc_text.specs.declared.line.Item.TheVariants.{Nothing, Text, Data, Global, Long, Ascii, Space, Align, Instruction}
@@ -9,8 +9,7 @@ use Rattle.asm_lines.specs.declared.names.Label.{Label}
 use Rattle.asm_lines.specs.declared.draft.Draft.{Draft}
 use Rattle.asm_lines.specs.Items.{Placed, section_after, section_at, next, item_bytes, size}
 use Rattle.asm_lines.specs.Names.{label_names, item_names, global_names, defined, globals, mentions, label_at, line_label, labels, item_fixes, fixes}
-use Rattle.asm_lines.specs.Causes.{longest_section}
-use Rattle.asm_lines.specs.Drafts.{AreNames, IsSection, IsDraft, IsSmall}
+use Rattle.asm_lines.specs.Drafts.{AreNames, IsSection, IsDraft}
 use Rattle.asm_lines.proofs.Steps.{section_at-snoc, section_grows, section_stays, fixes_grow, fixes_stay, labels-snoc, mentions-snoc, defined-snoc, globals-snoc}
 
 pub section_more : (w : ℕ) (ps : List Placed) (p : Placed) (s s' : Section) → IsSection w ps s → (p.section == w) ≡ true → s'.bytes.items ≡ s.bytes.items ++ item_bytes (length s.bytes.items) p.item
@@ -42,20 +41,13 @@ size_pick (suc zero) ps x y h p q = q
 size_pick (suc (suc k)) ps x y h p q = absurd (omega arith)
 
 -- the size of the section that the lines end in
-pub size_at : (d : Draft) (ps : List Placed) → IsDraft d ps → (if d.place == 0 then length d.text_part.bytes.items else length d.data_part.bytes.items) ≡ size (section_at ps) ps
-size_at d ps a = size_pick d.place ps _ _ a.known (ap length a.in_text.bytes) (ap length a.in_data.bytes) ∙ ap (λ k. size k ps) a.place
-
-either_small : (b : Bool) (x y n : ℕ) → x ≤ n → y ≤ n → (if b then x else y) ≤ n
-either_small true x y n p q = p
-either_small false x y n p q = q
-
-pub small_size : (d : Draft) → IsSmall d → (if d.place == 0 then length d.text_part.bytes.items else length d.data_part.bytes.items) ≤ longest_section
-small_size d a = either_small (d.place == 0) _ _ longest_section a.small_text a.small_data
+pub size_at : (d : Draft) (ps : List Placed) → IsDraft d ps → (if d.section == 0 then length d.text_part.bytes.items else length d.data_part.bytes.items) ≡ size (section_at ps) ps
+size_at d ps a = size_pick d.section ps _ _ a.known (ap length a.in_text.bytes) (ap length a.in_data.bytes) ∙ ap (λ k. size k ps) a.section
 
 -- the part of a line's effect that doesn't depend on its section
 pub record After (d d' : Draft) (l : Line) : Type 0 where
-  pub place : d'.place ≡ section_after l.item d.place
-  pub labels : d'.labels.items ≡ d.labels.items ++ label_at l.label d.place (if d.place == 0 then length d.text_part.bytes.items else length d.data_part.bytes.items)
+  pub section : d'.section ≡ section_after l.item d.section
+  pub labels : d'.labels.items ≡ d.labels.items ++ label_at l.label d.section (if d.section == 0 then length d.text_part.bytes.items else length d.data_part.bytes.items)
   pub names : (ns ls gs : List (List ℕ)) → AreNames d.names ns ls gs → AreNames d'.names ((ns ++ label_names l.label) ++ item_names l.item) (ls ++ label_names l.label) (gs ++ global_names l.item)
 
 draft_with : (d d' : Draft) (ps : List Placed) (l : Line) → IsDraft d ps → After d d' l → IsSection 0 (ps ++ next ps l ∷ []) d'.text_part → IsSection 1 (ps ++ next ps l ∷ []) d'.data_part → IsDraft d' (ps ++ next ps l ∷ [])
@@ -63,11 +55,11 @@ draft_with d d' ps l a b t u =
     let named = b.names (mentions ps) (defined ps) (globals ps) a.names in
     let m : (mentions ps ++ label_names l.label) ++ item_names l.item ≡ mentions (ps ++ next ps l ∷ []) = append_assoc (mentions ps) (label_names l.label) (item_names l.item) ∙ sym (mentions-snoc ps (next ps l)) in
     record {
-      place = b.place ∙ ap (section_after l.item) a.place ∙ sym (section_at-snoc ps (next ps l));
-      known = subst (λ k. k ≤ 1) (sym b.place) (known_after l.item d.place a.known);
+      section = b.section ∙ ap (section_after l.item) a.section ∙ sym (section_at-snoc ps (next ps l));
+      known = subst (λ k. k ≤ 1) (sym b.section) (known_after l.item d.section a.known);
       in_text = t;
       in_data = u;
-      labels = b.labels ∙ ap (λ k. d.labels.items ++ label_at l.label d.place k) (size_at d ps a) ∙ ap (λ k. d.labels.items ++ label_at l.label k (size (section_at ps) ps)) a.place
+      labels = b.labels ∙ ap (λ k. d.labels.items ++ label_at l.label d.section k) (size_at d ps a) ∙ ap (λ k. d.labels.items ++ label_at l.label k (size (section_at ps) ps)) a.section
           ∙ ap (λ (ls : List Label). ls ++ line_label ps (next ps l)) a.labels ∙ sym (labels-snoc ps (next ps l));
       names = subst (λ ns. AreNames d'.names ns (defined (ps ++ next ps l ∷ [])) (globals (ps ++ next ps l ∷ []))) m
           (subst (λ ls. AreNames d'.names ((mentions ps ++ label_names l.label) ++ item_names l.item) ls (globals (ps ++ next ps l ∷ []))) (sym (defined-snoc ps (next ps l)))
@@ -80,22 +72,22 @@ is_zero k e = ap (λ (n : ℕ). n == 0) e
 is_one : (k : ℕ) → k ≡ 1 → (k == 1) ≡ true
 is_one k e = ap (λ (n : ℕ). n == 1) e
 
-pub in_text : (d d' : Draft) (ps : List Placed) (l : Line) → IsDraft d ps → After d d' l → d'.place ≡ 0
+pub in_text : (d d' : Draft) (ps : List Placed) (l : Line) → IsDraft d ps → After d d' l → d'.section ≡ 0
     → d'.text_part.bytes.items ≡ d.text_part.bytes.items ++ item_bytes (length d.text_part.bytes.items) l.item → d'.text_part.fixes.items ≡ d.text_part.fixes.items ++ item_fixes (length d.text_part.bytes.items) l.item
     → d'.data_part ≡ d.data_part → IsDraft d' (ps ++ next ps l ∷ [])
 in_text d d' ps l a b z e f s =
-    let p : section_after l.item (section_at ps) ≡ 0 = sym (b.place ∙ ap (section_after l.item) a.place) ∙ z in
+    let p : section_after l.item (section_at ps) ≡ 0 = sym (b.section ∙ ap (section_after l.item) a.section) ∙ z in
     draft_with d d' ps l a b
     (section_more 0 ps (next ps l) d.text_part d'.text_part a.in_text (is_zero _ p) e f)
     (subst (λ (t : Section). IsSection 1 (ps ++ next ps l ∷ []) t) (sym s) (section_same 1 ps (next ps l) d.data_part a.in_data (ap (λ (n : ℕ). n == 1) p)))
 
-pub in_data : (d d' : Draft) (ps : List Placed) (l : Line) → IsDraft d ps → After d d' l → (d'.place ≡ 0 → ⊥)
+pub in_data : (d d' : Draft) (ps : List Placed) (l : Line) → IsDraft d ps → After d d' l → (d'.section ≡ 0 → ⊥)
     → d'.data_part.bytes.items ≡ d.data_part.bytes.items ++ item_bytes (length d.data_part.bytes.items) l.item → d'.data_part.fixes.items ≡ d.data_part.fixes.items ++ item_fixes (length d.data_part.bytes.items) l.item
     → d'.text_part ≡ d.text_part → IsDraft d' (ps ++ next ps l ∷ [])
 in_data d d' ps l a b z e f s =
-    let k : section_after l.item d.place ≤ 1 = known_after l.item d.place a.known in
-    let o : d'.place ≡ 1 = omega (arith, b.place) in
-    let p : section_after l.item (section_at ps) ≡ 1 = sym (b.place ∙ ap (section_after l.item) a.place) ∙ o in
+    let k : section_after l.item d.section ≤ 1 = known_after l.item d.section a.known in
+    let o : d'.section ≡ 1 = omega (arith, b.section) in
+    let p : section_after l.item (section_at ps) ≡ 1 = sym (b.section ∙ ap (section_after l.item) a.section) ∙ o in
     draft_with d d' ps l a b
     (subst (λ (t : Section). IsSection 0 (ps ++ next ps l ∷ []) t) (sym s) (section_same 0 ps (next ps l) d.text_part a.in_text (ap (λ (n : ℕ). n == 0) p)))
     (section_more 1 ps (next ps l) d.data_part d'.data_part a.in_data (is_one _ p) e f)

@@ -1,5 +1,5 @@
 -- What one more line or one more name adds to the others.
-use Rattle.std.proofs.Common.{◌≡◌, ℕ, ◌+◌, ◌≤◌, Bool, true, false, List, [], ◌∷◌, ◌++◌, length, length-append, take, get_or, ◌<◌, Option, Some, refl, sym, ap, ◌∙◌, subst, arith, append_assoc, zero-add}
+use Rattle.std.proofs.Common.{◌≡◌, ℕ, ◌+◌, Bool, true, false, List, [], ◌∷◌, ◌++◌, length, length-append, take, get_or, ◌<◌, Option, Some, refl, sym, ap, ◌∙◌, subst, arith, append_assoc, zero-add}
 use Rattle.std.proofs.lemmas.List.{append-nil, take_more}
 use Rattle.std.specs.Int.{bytes_high_first}
 use Rattle.ppc_text.specs.declared.values.Value.{Value}
@@ -197,10 +197,3 @@ names_labelled n n' ns ls gs w v a e m g s =
       labelled = has_more n.labelled n'.labelled w v ls a.labelled s;
       global = λ q. ap (λ (k : NameMap). is_some (number_at k q)) g ∙ a.global q;
     }
-
--- adding no names changes nothing
-pub names_nil : (n : Names) (ns ls gs : List (List ℕ)) → AreNames n ns ls gs → AreNames n (ns ++ []) ls gs
-names_nil n ns ls gs a = subst (λ (ms : List (List ℕ)). AreNames n ms ls gs) (sym (append-nil ns)) a
-
-pub names_nils : (n : Names) (ns ls gs : List (List ℕ)) → AreNames n ns ls gs → AreNames n (ns ++ []) ls (gs ++ [])
-names_nils n ns ls gs a = subst (λ (hs : List (List ℕ)). AreNames n (ns ++ []) ls hs) (sym (append-nil gs)) (names_nil n ns ls gs a)

@@ -1,6 +1,6 @@
 -- Why a line is refused. A source text gives its lines, or the first refused line with its first cause.
 use Rattle.std.specs.Prelude.{◌≡◌, ℕ, ◌+◌, ◌%◌, Bool, false, not, ◌==◌, ◌&&◌, ◌||◌, nat_lt, if◌then◌else◌, List, [], ◌∷◌, ◌++◌, length, map, Option, Some, None, Result, Ok, Err}
-use Rattle.text_lines.specs.Lines.{pieces}
+use Rattle.source_text.specs.Lines.{pieces}
 use Rattle.ppc_word.specs.Rows.{are_fields}
 use Rattle.ppc_text.specs.declared.line.Item.{Item}
 use Rattle.ppc_text.specs.declared.line.Item.TheVariants as kinds

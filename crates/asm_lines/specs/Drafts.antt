@@ -33,8 +33,8 @@ pub record IsSection (which : ℕ) (ps : List Placed) (s : Section) : Type 0 whe
 
 -- a draft is that of these lines
 pub record IsDraft (d : Draft) (ps : List Placed) : Type 0 where
-  pub place : d.place ≡ section_at ps
-  pub known : d.place ≤ 1
+  pub section : d.section ≡ section_at ps
+  pub known : d.section ≤ 1
   pub in_text : IsSection 0 ps d.text_part
   pub in_data : IsSection 1 ps d.data_part
   pub labels : d.labels.items ≡ labels ps

@@ -1,5 +1,5 @@
 -- The lines of a source text with their sections, and the bytes of their items. Offsets are sums of sizes.
-use Rattle.std.specs.Prelude.{ℕ, ◌+◌, ◌-◌, ◌/◌, ◌%◌, ◌^◌, ◌==◌, if◌then◌else◌, List, [], ◌∷◌, ◌++◌, length, replicate, Option}
+use Rattle.std.specs.Prelude.{ℕ, ◌+◌, ◌-◌, ◌%◌, ◌==◌, if◌then◌else◌, List, [], ◌∷◌, ◌++◌, length, replicate, Option}
 use Rattle.std.specs.List.{flat_map}
 use Rattle.std.specs.Int.{bytes_high_first}
 use Rattle.ppc_word.specs.Rows.{word_with}

@@ -1,6 +1,6 @@
 //! The draft of a module, made line by line from a source text.
 
-ghost use Rattle.std.specs.Prelude.{◌≡◌, ℕ, List, [], ◌∷◌, ◌++◌, ◌+◌, ◌<◌, ◌^◌, ◌≤◌, Option, None, Ok, OnOk, IfOk, IfErr, length, if◌then◌else◌, ◌==◌, false, nat_lt};
+ghost use Rattle.std.specs.Prelude.{◌≡◌, ℕ, List, [], ◌∷◌, ◌++◌, ◌+◌, ◌<◌, Option, None, Ok, OnOk, IfOk, IfErr, length, if◌then◌else◌, ◌==◌, false, nat_lt};
 ghost use Rattle.ppc_text.specs.declared.line.Line.{Line};
 ghost use Rattle.ppc_text.specs.Lines.{line_of};
 ghost use Rattle.asm_lines.specs.Items.{Placed, next, section_after};
@@ -31,7 +31,7 @@ const DATA: u32 = 1;
 #[derive(Drop)]
 pub struct Draft<'a> {
     /// The section that the lines end in: 0 for text, 1 for data.
-    pub place: u32,
+    pub section: u32,
     /// The text section.
     pub text_part: Section<'a>,
     /// The data section.
@@ -42,13 +42,13 @@ pub struct Draft<'a> {
     pub names: Names<'a>,
 }
 
-fn section_after_item(item: &Item, place: u32) -> u32
-    ensures { result ≡ section_after item.now place }
+fn section_after_item(item: &Item, section: u32) -> u32
+    ensures { result ≡ section_after item.now section }
 {
     match item {
         Item::Text => TEXT,
         Item::Data => DATA,
-        _ => place,
+        _ => section,
     }
 }
 
@@ -102,7 +102,7 @@ fn new_draft<'a>(alloc: Global) -> Draft<'a>
     let labels = Vec::new(alloc);
     let names = Names::new(alloc);
     Draft {
-        place: TEXT,
+        section: TEXT,
         text_part,
         data_part,
         labels,
@@ -112,9 +112,9 @@ fn new_draft<'a>(alloc: Global) -> Draft<'a>
 
 // The number of bytes of the section that the lines end in.
 fn size(draft: &Draft) -> usize
-    ensures { result ≡ (if draft.now.place == 0 then length draft.now.text_part.bytes.items else length draft.now.data_part.bytes.items) }
+    ensures { result ≡ (if draft.now.section == 0 then length draft.now.text_part.bytes.items else length draft.now.data_part.bytes.items) }
 {
-    if draft.place == TEXT {
+    if draft.section == TEXT {
         draft.text_part.bytes.len()
     } else {
         draft.data_part.bytes.len()
@@ -143,7 +143,7 @@ fn exceeds(draft: &Draft) -> bool
 fn takes(draft: &Draft) -> bool
     ensures { (ps : List Placed) → IsDraft draft.now ps → result ≡ takes_instruction ps }
 {
-    draft.place == TEXT && draft.text_part.bytes.len() % 4 == 0
+    draft.section == TEXT && draft.text_part.bytes.len() % 4 == 0
 }
 
 fn cause_in_item(draft: &Draft, item: &Item) -> Option<Cause>
@@ -182,11 +182,11 @@ fn put<'a>(draft: &mut Draft<'a>, line: &Line<'a>) -> Result<(), AllocError>
         → IsDraft draft.new (ps ++ next ps line.now ∷ [])) }
 {
     let offset = size(draft) as u32;
-    put_label(&mut draft.labels, &line.label, draft.place, offset)?;
+    put_label(&mut draft.labels, &line.label, draft.section, offset)?;
     define(&mut draft.names, &line.label)?;
     draft.names.mention_item(&line.item)?;
-    draft.place = section_after_item(&line.item, draft.place);
-    if draft.place == TEXT {
+    draft.section = section_after_item(&line.item, draft.section);
+    if draft.section == TEXT {
         put_item(&mut draft.text_part, &line.item)?;
         Ok(())
     } else {

@@ -2,7 +2,7 @@
 use Rattle.std.proofs.Common.{◌≡◌, List, [], ◌∷◌, map, drop, Some, refl}
 use Rattle.shell_parse.specs.Trees.{PlainStmt, Nothing, Load, Command, Expr}
 use Rattle.shell_eval.specs.Pending.{begun_stmt}
-use Rattle.kernel_world.specs.State.{WorldState}
+use Rattle.live_loading.specs.KernelWorldState.{WorldState}
 use Rattle.wind_machine.specs.Part.{part_of}
 use Rattle.wind_machine.specs.Shell.{begun_tree, shell_with, eval_part}
 use Rattle.board_actors.specs.ShellInside.{IsBlank}

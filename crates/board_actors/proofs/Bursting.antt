@@ -12,10 +12,10 @@ use Rattle.ppc_core.specs.declared.trap.Trap.{Trap}
 use Rattle.board_bus.specs.BusState.{BusState}
 use Rattle.board_mem.specs.Memory.{number_at, read}
 use Rattle.board_bus.specs.Access.{board_meaning, fetched}
-use Rattle.kernel_world.specs.State.{WorldState}
-use Rattle.kernel_world.specs.Starting.{no_regs}
-use Rattle.kernel_world.specs.Actors.{found_regs}
-use Rattle.kernel_world.specs.declared.actor.Actor.{Actor}
+use Rattle.live_loading.specs.KernelWorldState.{WorldState}
+use Rattle.live_loading.specs.KernelWorldStarting.{no_regs}
+use Rattle.live_loading.specs.KernelWorldActors.{found_regs}
+use Rattle.live_loading.specs.KernelWorldActor.{Actor}
 use Rattle.wind_machine.specs.Processor.{bus_of, regs_of}
 use Rattle.wind_machine.proofs.Executing.{IfDone, executing_lasts, sizes_last}
 use Rattle.board_actors.specs.Instructions.{ExecutesMany, executed_to}

@@ -5,7 +5,7 @@ use Rattle.shell_eval.specs.Evaluate.{evaluate}
 use Rattle.shell_eval.specs.Moved.{came}
 use Rattle.shell_eval.specs.declared.went.Went.{Went}
 use Rattle.shell_eval.specs.declared.went.Went.TheVariants as went
-use Rattle.kernel_world.specs.State.{WorldState}
+use Rattle.live_loading.specs.KernelWorldState.{WorldState}
 use Rattle.wind_machine.specs.Part.{part_of}
 use Rattle.wind_machine.specs.Shell.{eval_state, with_eval, calling, evaluated_part, eval_part}
 use Rattle.wind_machine.specs.declared.phase.Phase.TheVariants as phases

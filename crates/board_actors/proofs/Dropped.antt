@@ -1,11 +1,11 @@
 -- What the code drops is what the machine drops.
 use Rattle.std.proofs.Common.{◌≡◌, ℕ, Bool, true, false, cond, eqb, List, Option, None, Some, is_some, refl, sym, ap, ◌∙◌, subst, eqb-true}
 use Rattle.task_block.specs.declared.task.Task.{Task}
-use Rattle.wind_lists.specs.Records.{change}
+use Rattle.id_table.specs.Records.{change}
 use Rattle.wind_core.specs.State.{KernState, task_id, task_of}
 use Rattle.wind_core.specs.Moves.{unreserved, unreserve}
-use Rattle.wind_lists.proofs.Places.{not_there}
-use Rattle.kernel_world.specs.Kept.{ReservedBy}
+use Rattle.id_table.proofs.Places.{not_there}
+use Rattle.live_loading.specs.KernelWorldKept.{ReservedBy}
 use Rattle.wind_machine.specs.Reserving.{drop_others, drop_all}
 use Rattle.wind_machine.proofs.Reserving.{last_own, last_other, last_none, all_none, all_last}
 use Rattle.board_actors.specs.StepStart.{if_live, if_other, other_holder, without}

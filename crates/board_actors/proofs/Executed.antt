@@ -10,11 +10,11 @@ use Rattle.ppc_core.specs.Outcomes.{Outcome, Done, Trapped, Leaves}
 use Rattle.ppc_core.specs.declared.trap.Trap.{Trap}
 use Rattle.board_bus.specs.BusState.{BusState}
 use Rattle.board_bus.specs.Access.{board_meaning}
-use Rattle.kernel_world.specs.State.{WorldState}
-use Rattle.kernel_world.specs.Starting.{no_regs}
-use Rattle.kernel_world.specs.Actors.{Acts, found_regs}
-use Rattle.kernel_world.specs.declared.actor.Actor.{Actor}
-use Rattle.kernel_world.specs.declared.actor.Actor.TheVariants.{Task, Interrupt}
+use Rattle.live_loading.specs.KernelWorldState.{WorldState}
+use Rattle.live_loading.specs.KernelWorldStarting.{no_regs}
+use Rattle.live_loading.specs.KernelWorldActors.{Acts, found_regs}
+use Rattle.live_loading.specs.KernelWorldActor.{Actor}
+use Rattle.live_loading.specs.KernelWorldActor.TheVariants.{Task, Interrupt}
 use Rattle.wind_machine.specs.Part.{with_kern}
 use Rattle.wind_machine.specs.Processor.{bus_of, regs_of}
 use Rattle.wind_machine.proofs.Reserving.{own_regs}

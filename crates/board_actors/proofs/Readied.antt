@@ -5,13 +5,13 @@ use Rattle.std.specs.Prelude.{unwrap_or}
 use Rattle.std.proofs.lemmas.List.Elements.{All-weaker}
 use Rattle.wind_base.specs.declared.regs.Regs.{Regs}
 use Rattle.task_block.specs.declared.task.Task.{Task}
-use Rattle.wind_lists.proofs.Records.{found_id}
+use Rattle.id_table.proofs.Records.{found_id}
 use Rattle.wind_core.specs.State.{KernState, IsKern, task_id, task_of}
 use Rattle.wind_core.specs.Moves.{unreserve, set_regs}
-use Rattle.wind_lists.proofs.Places.{not_there}
-use Rattle.kernel_world.specs.State.{WorldState}
-use Rattle.kernel_world.specs.Starting.{no_regs}
-use Rattle.kernel_world.specs.Kept.{IsWorld, IsEarly, ReservedBy, HasCounts, Within}
+use Rattle.id_table.proofs.Places.{not_there}
+use Rattle.live_loading.specs.KernelWorldState.{WorldState}
+use Rattle.live_loading.specs.KernelWorldStarting.{no_regs}
+use Rattle.live_loading.specs.KernelWorldKept.{IsWorld, IsEarly, ReservedBy, HasCounts, Within}
 use Rattle.wind_machine.specs.Events.{cleared, unreserved_world}
 use Rattle.wind_machine.specs.ActorSteps.{at_step_start}
 use Rattle.wind_machine.specs.Reserving.{drop_others, drop_all}

@@ -1,14 +1,14 @@
 -- What an instruction leaves.
-use Rattle.std.specs.Prelude.{◌≡◌, ℕ, Bool, true, is_some, Result, Ok, Err}
+use Rattle.std.specs.Prelude.{◌≡◌, ℕ, true, is_some, Result, Ok, Err}
 use Rattle.wind_base.specs.Boards.{board_rules}
 use Rattle.wind_base.specs.declared.regs.Regs.{Regs}
 use Rattle.wind_core.specs.State.{Lives}
 use Rattle.ppc_core.specs.Outcomes.{Outcome, Done, Trapped}
 use Rattle.ppc_core.specs.declared.trap.Trap.{Trap}
 use Rattle.board_bus.specs.BusState.{BusState}
-use Rattle.kernel_world.specs.State.{WorldState}
-use Rattle.kernel_world.specs.declared.actor.Actor.{Actor}
-use Rattle.kernel_world.specs.declared.actor.Actor.TheVariants.{Task, Interrupt}
+use Rattle.live_loading.specs.KernelWorldState.{WorldState}
+use Rattle.live_loading.specs.KernelWorldActor.{Actor}
+use Rattle.live_loading.specs.KernelWorldActor.TheVariants.{Task, Interrupt}
 use Rattle.wind_machine.specs.Processor.{bus_of, regs_of}
 use Rattle.board_actors.specs.Instructions.{ExecutesMany, executed_to}
 

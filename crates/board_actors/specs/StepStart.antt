@@ -4,10 +4,10 @@ use Rattle.wind_base.specs.declared.regs.Regs.{Regs}
 use Rattle.task_block.specs.declared.task.Task.{Task}
 use Rattle.wind_core.specs.State.{KernState, Lives, task_of}
 use Rattle.wind_core.specs.Moves.{set_regs, unreserve}
-use Rattle.kernel_world.specs.Objects.{IsReady}
-use Rattle.kernel_world.specs.State.{WorldState}
-use Rattle.kernel_world.specs.Kept.{IsWorld, IsEarly}
-use Rattle.kernel_world.specs.declared.actor.Actor.TheVariants.{Task as by_task}
+use Rattle.live_loading.specs.KernelWorldObjects.{IsReady}
+use Rattle.live_loading.specs.KernelWorldState.{WorldState}
+use Rattle.live_loading.specs.KernelWorldKept.{IsWorld, IsEarly}
+use Rattle.live_loading.specs.KernelWorldActor.TheVariants.{Task as by_task}
 use Rattle.wind_machine.specs.Processor.{regs_of}
 
 -- the task, if there is one and it lives

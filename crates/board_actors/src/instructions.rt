@@ -3,11 +3,11 @@
 ghost use Rattle.std.specs.Prelude.{◌≡◌, ℕ, ◌≤◌, length};
 ghost use Rattle.wind_base.specs.Boards.{board_rules};
 ghost use Rattle.board_bus.specs.Seen.{bus_seen};
-ghost use Rattle.kernel_world.specs.Seen.{world_seen};
+ghost use Rattle.live_loading.specs.KernelWorldSeen.{world_seen};
 ghost use Rattle.board_actors.specs.{Instructions.ExecutesMany, Running.{IsThere, RanMany}};
 
 use board_bus::BoardBus;
-use kernel_world::{Actor, World};
+use live_loading::{Actor, World};
 use ppc_core::exec_inline;
 use wind_base::Regs;
 use wind_outside::Device;

@@ -19,7 +19,7 @@ pub use feed::{Feed, brought, chunk_len};
 pub use instructions::execute_many;
 pub use processor::{at_gate, counter, execute, run_routine};
 pub use reserving::{drop_all, drop_own};
-pub use routine::{INTERRUPT_TOP, put_return};
+pub use routine::INTERRUPT_TOP;
 pub use shell::Shell;
 pub use shell_task::{listen, waits_for_console};
 pub use step_kind::StepKind;

@@ -3,7 +3,7 @@
 ghost use Rattle.std.specs.Prelude.{◌≡◌, IfSome};
 ghost use Rattle.wind_core.specs.State.{Lives};
 ghost use Rattle.wind_core.specs.Moves.{unreserve};
-ghost use Rattle.kernel_world.specs.Kept.{ReservedBy};
+ghost use Rattle.live_loading.specs.KernelWorldKept.{ReservedBy};
 ghost use Rattle.board_actors.specs.StepStart.{if_live as if_live_lem, if_other, other_holder as other_holder_lem, without};
 ghost use Rattle.wind_machine.specs.Reserving.{drop_others as drop_others_lem, drop_all as drop_all_lem};
 

@@ -1,28 +1,17 @@
 //! How interrupt routines end and begin.
 
 ghost use Rattle.std.specs.Prelude.{◌≡◌};
-ghost use Rattle.kernel_world.specs.Seen.{world_seen};
-ghost use Rattle.kernel_world.specs.Replies.{level_by};
-ghost use Rattle.wind_machine.specs.Routine.{next_routine as next_routine_lem, without_reserve, with_return};
+ghost use Rattle.live_loading.specs.KernelWorldSeen.{world_seen};
+ghost use Rattle.live_loading.specs.KernelWorldReplies.{level_by};
+ghost use Rattle.wind_machine.specs.Routine.{next_routine as next_routine_lem, without_reserve};
 
 use isr_watch::Watch;
-use kernel_world::{World, gate_address};
+use live_loading::World;
 use wind_base::limits::{INTERRUPT_STACK_BYTES, POOL_START, SHELL_STACK_BYTES};
-use wind_base::{BoardKind, Gate};
 use wind_outside::Device;
 
 /// The end of the interrupt stack, which comes after the stack of the shell's task.
 pub const INTERRUPT_TOP: u32 = POOL_START + SHELL_STACK_BYTES + INTERRUPT_STACK_BYTES;
-
-/// Puts the address of the board's gate for the return of interrupt routines into the link register
-/// of the active routine, if there is one. `Watch` has put that of board 1 there.
-pub fn put_return(watch: &mut Watch, board: BoardKind)
-    ensures { watch.new ≡ with_return board watch.old }
-{
-    if let Some(regs) = watch.regs_mut() {
-        regs.lr = gate_address(board, Gate::InterruptReturn);
-    }
-}
 
 /// The routine is done: the next listed one becomes active, if there is one.
 pub(crate) fn next_routine(world: &mut World)
@@ -31,7 +20,6 @@ pub(crate) fn next_routine(world: &mut World)
     ensures out { world.new.out ≡ world.old.out }
 {
     world.watch.finish(INTERRUPT_TOP);
-    put_return(&mut world.watch, world.board);
 }
 
 /// Drops the routine's reservation.

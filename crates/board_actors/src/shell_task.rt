@@ -3,13 +3,13 @@
 ghost use Rattle.std.specs.Prelude.{◌≡◌, ◌+◌, ◌^◌, ◌<◌};
 ghost use Rattle.wind_core.specs.State.{Lives};
 ghost use Rattle.wind_core.specs.Orders.{waits_at};
-ghost use Rattle.kernel_world.specs.Seen.{world_seen};
+ghost use Rattle.live_loading.specs.KernelWorldSeen.{world_seen};
 ghost use Rattle.wind_machine.specs.Shell.{calling};
-ghost use Rattle.wind_machine.specs.Task.{console_place, waits_for_console as waits_for_console_lem, is_held as is_held_lem, shell_task, listening, let_go as let_go_lem, aborted, stack_pointer, return_address as return_address_lem};
+ghost use Rattle.wind_machine.specs.Task.{console_place, waits_for_console as waits_for_console_lem, is_held as is_held_lem, shell_task, listening, let_go as let_go_lem, aborted, return_address as return_address_lem};
 
 use id_table::sides::CONSOLE;
 use id_table::{Ident, Place};
-use kernel_world::{World, gate_address, put_frame, starting_regs};
+use live_loading::{World, gate_address, put_frame, starting_regs};
 use task_block::Task;
 use wind_base::limits::{FRAME_BYTES, POOL_START, SHELL_STACK_BYTES};
 use wind_base::words::WAIT_FOREVER;

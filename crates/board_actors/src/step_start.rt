@@ -1,15 +1,15 @@
 //! How the step of a task begins, and how it is undone if it runs out of memory.
 
 ghost use Rattle.std.specs.Prelude.{◌≡◌, ◌+◌, [], Some, length};
-ghost use Rattle.kernel_world.specs.Kept.{ReservedBy};
-ghost use Rattle.kernel_world.specs.Seen.{world_seen, world_with};
+ghost use Rattle.live_loading.specs.KernelWorldKept.{ReservedBy};
+ghost use Rattle.live_loading.specs.KernelWorldSeen.{world_seen, world_with};
 ghost use Rattle.wind_machine.specs.Events.{cleared, unreserved_world};
 ghost use Rattle.wind_machine.specs.ActorSteps.{at_step_start};
 ghost use Rattle.board_actors.specs.StepStart.{kept_of as kept_of_lem, put_back as put_back_lem, restored, Readies, IsEarlyWorld};
 
 use crate::reserving::{drop_all, drop_others, other_holder};
 use id_table::Ident;
-use kernel_world::World;
+use live_loading::World;
 use std::mem::swap;
 use wind_base::{OutBuf, Regs};
 use wind_core::Kern;

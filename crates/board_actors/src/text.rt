@@ -1,13 +1,13 @@
 //! The texts that the board writes.
 
-ghost use Rattle.std.specs.Prelude.{◌≡◌, ◌+◌, ◌*◌, ◌≤◌, length};
+ghost use Rattle.std.specs.Prelude.{◌≡◌, ◌≤◌, length};
 ghost use Rattle.wind_base.specs.OutBuf.{Added};
-ghost use Rattle.wind_machine.specs.Text.{syntax_text, last_digits, eight_digits, fault_text, kind_text as kind_text_lem, cause_text, place_text, exception_text, level_text, routine_text};
+ghost use Rattle.wind_machine.specs.Text.{syntax_text, eight_digits, fault_text, kind_text as kind_text_lem, cause_text, place_text, exception_text, level_text, routine_text};
 ghost use Rattle.shell_eval.specs.declared.fault.EvalFault.TheVariants as faults;
 
 use ppc_core::Trap;
 use shell_eval::EvalFault;
-use wind_base::text::{add, add_decimal, add_hex};
+use wind_base::text::{add, add_decimal, add_hex, add_places};
 use wind_base::{Name, OutBuf, ShortName};
 
 /// Adds the line that reports the column of a syntax error.
@@ -20,24 +20,12 @@ pub(crate) fn add_syntax(out: &mut OutBuf, column: u32)
     add(out, b"\n");
 }
 
-// Adds the lowest `places` hexadecimal digits of a word.
-fn add_last_digits(out: &mut OutBuf, v: u32, places: u32)
-    requires { 8 * places ≤ out.old.room }
-    ensures { Added (8 * places) out.old out.new (last_digits places v) }
-{
-    if places > 0 {
-        add_last_digits(out, v / 16, places - 1);
-        add_hex(out, v % 16);
-    }
-}
-
 // Adds a word in eight hexadecimal digits.
-#[tactic(auto, unfolding(wind_machine::specs::Text::eight_digits))]
 fn add_eight_digits(out: &mut OutBuf, v: u32)
     requires { 64 ≤ out.old.room }
     ensures { Added 64 out.old out.new (eight_digits v) }
 {
-    add_last_digits(out, v, 8);
+    add_places(out, 8, u64::from(v));
 }
 
 // Adds the line that reports a name that means no symbol.

@@ -1,9 +1,9 @@
 -- A change of one slot, seen as plain data.
-use Rattle.std.proofs.Common.{◌≡◌, ℕ, Bool, true, false, ◌≤◌, ◌<◌, List, Option, Some, None, length, map, ◌∙◌, ap, arith, sym, get_or, [], ◌∷◌, zero, suc, refl}
-use Rattle.std.specs.Prelude.{slice_set, option_map, is_some, if◌then◌else◌}
+use Rattle.std.proofs.Common.{◌≡◌, ℕ, Bool, ◌≤◌, ◌<◌, List, Option, Some, None, length, map, ◌∙◌, ap, arith, sym, get_or, [], ◌∷◌, zero, suc, refl}
+use Rattle.std.specs.Prelude.{slice_set, option_map, is_some}
 use Rattle.std.proofs.lemmas.List.{map-set, length-map}
 use Rattle.wind_outside.specs.Devices.{DeviceState}
-use Rattle.board_bus.specs.Slots.{device_at, is_occupied, with_device, without_device, is_slot_word, slot_number, reached}
+use Rattle.board_bus.specs.Slots.{device_at, is_occupied, with_device, without_device}
 
 -- the content of slot i
 pub device_seen : {D : Type 0} (f : D → DeviceState) (xs : List (Option D)) (i : ℕ) (d : Option D) → i < length xs → option_map f (get_or xs i d) ≡ device_at (map (option_map f) xs) i
@@ -17,12 +17,6 @@ none_stays [] i e h = absurd (omega arith)
 none_stays (x ∷ xs) zero e h = ap (λ (y : Option DeviceState). y ∷ xs) (sym e)
 none_stays (x ∷ xs) (suc i) e h = ap (λ (ys : List (Option DeviceState)). x ∷ ys) (none_stays xs i e (omega arith))
 
--- after the last slot there is no device
-pub no_slot : (xs : List (Option DeviceState)) (i : ℕ) → length xs ≤ i → device_at xs i ≡ None
-no_slot [] i h = refl
-no_slot (x ∷ xs) zero h = absurd (omega arith)
-no_slot (x ∷ xs) (suc i) h = no_slot xs i (omega arith)
-
 set_is : (xs : List (Option DeviceState)) (i : ℕ) (h : DeviceState → DeviceState) (o : Option DeviceState) → device_at xs i ≡ o → i < length xs → slice_set xs i (option_map h o) ≡ with_device xs i (option_map h o)
 set_is xs i h None e lt = none_stays xs i e lt
 set_is xs i h (Some d) e lt = refl
@@ -32,20 +26,6 @@ pub slot_changed : {D : Type 0} (f : D → DeviceState) (h : DeviceState → Dev
     → map (option_map f) (slice_set xs i new) ≡ with_device (map (option_map f) xs) i (option_map h (device_at (map (option_map f) xs) i))
 slot_changed f h xs i old new d lt same e p =
     map-set (option_map f) xs i new ∙ ap (slice_set (map (option_map f) xs) i) (p ∙ ap (λ o. option_map h (option_map f o)) e ∙ ap (option_map h) (device_seen f xs i d lt)) ∙ set_is (map (option_map f) xs) i h (device_at (map (option_map f) xs) i) refl (omega (arith, lt, same))
-
--- an access that isn't one of a slot's word, or is after the last slot, reaches no device
-pub unreached : (xs : List (Option DeviceState)) (n at : ℕ) → is_slot_word n at ≡ false → reached xs n at ≡ None
-unreached xs n at h = rw h refl
-
-pub after_last : (xs : List (Option DeviceState)) (n at : ℕ) → length xs ≤ slot_number at → reached xs n at ≡ None
-after_last xs n at h = go (is_slot_word n at) where
-  go : (t : Bool) → (if t then device_at xs (slot_number at) else None) ≡ None
-  go true = no_slot xs (slot_number at) h
-  go false = refl
-
--- if an access reaches no device, no slot changes
-pub nothing_changed : (h : DeviceState → DeviceState) (xs : List (Option DeviceState)) (n at : ℕ) → reached xs n at ≡ None → xs ≡ with_device xs (slot_number at) (option_map h (reached xs n at))
-nothing_changed h xs n at e = ap (λ o. with_device xs (slot_number at) (option_map h o)) (sym e)
 
 -- ---- removals
 -- a device is there however it is seen

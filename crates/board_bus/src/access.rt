@@ -42,7 +42,6 @@ impl BoardBus {
 }
 
 impl Bus for BoardBus {
-    ghost use Rattle.wind_outside.specs.Devices.{slots_of};
     ghost use Rattle.board_bus.specs.BusState.{BusState};
     ghost use Rattle.board_bus.specs.Access.{board_meaning};
     ghost use Rattle.board_bus.specs.Seen.{bus_by};

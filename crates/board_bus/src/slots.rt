@@ -1,6 +1,6 @@
 //! The device slots by address.
 
-ghost use Rattle.std.specs.Prelude.{◌≡◌, ◌<◌, ◌≤◌, ◌%◌, Some, None, length, option_map, option_and_then, is_some, map};
+ghost use Rattle.std.specs.Prelude.{◌≡◌, ◌<◌, ◌≤◌, ◌%◌, Some, None, length, is_some};
 ghost use Rattle.wind_base.specs.Limits.{slots_start, slot_bytes};
 ghost use Rattle.wind_outside.specs.Devices.{slots_of};
 ghost use Rattle.board_bus.specs.Slots.{is_occupied as is_occupied_lem, without_device, is_slot_word as is_slot_word_lem, slot_number as slot_number_lem, slot_offset as slot_offset_lem, device_at, with_device, reached, answer_of, device_loaded, device_stored, slots_loaded, slots_stored, slot_seen};

@@ -1,3 +1,5 @@
+pub mod Looks
+pub mod Spans
 pub mod Views
 pub mod Listed
 pub mod Tasks

@@ -1,7 +1,7 @@
 -- What a step changes of tasks, from the views before and after it.
 use Rattle.std.specs.Prelude.{ℕ, Bool, true, false, ◌==◌, ◌&&◌, if◌then◌else◌, List, [], ◌∷◌, ◌++◌, Option, None, Some}
 use Rattle.wind_base.specs.Limits.{error_word}
-use Rattle.wind_lists.specs.Records.{of_id}
+use Rattle.id_table.specs.Records.{of_id}
 use Rattle.board_changes.specs.Views.{task_id}
 use Rattle.board_changes.specs.declared.awaited.Awaited.{Awaited}
 use Rattle.board_changes.specs.declared.awaited.Awaited.TheVariants as awaited

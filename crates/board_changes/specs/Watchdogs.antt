@@ -1,6 +1,6 @@
 -- What a step changes of watchdogs, from the views before and after it.
 use Rattle.std.specs.Prelude.{ℕ, ◌==◌, nat_le, if◌then◌else◌, List, [], ◌∷◌, ◌++◌, Option, None, Some}
-use Rattle.wind_lists.specs.Records.{of_id}
+use Rattle.id_table.specs.Records.{of_id}
 use Rattle.isr_watch.specs.declared.watchdog.Timer.{Timer}
 use Rattle.board_changes.specs.Views.{watchdog_id}
 use Rattle.board_changes.specs.declared.view.WatchdogView.{WatchdogView}

@@ -50,20 +50,13 @@ pub struct WatchdogView {
     pub timer: Option<Timer>,
 }
 
-// A copy of a name.
-fn copied(name: &ShortName) -> ShortName
-    ensures { result ≡ name.now }
-{
-    ShortName::cut(name.bytes())
-}
-
 /// The view of a task, given what it waits for.
 pub fn task_view(task: &Task, wait: Option<Awaited>) -> TaskView
     ensures { result ≡ view_of_task wait task.now }
 {
     TaskView {
         id: task.id,
-        name: copied(&task.name),
+        name: task.name.copied(),
         pri: task.pri,
         normal: task.normal,
         wait,

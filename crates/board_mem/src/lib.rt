@@ -6,8 +6,6 @@ mod pages;
 mod ram;
 mod ram_string;
 mod store;
-#[cfg(test)]
-mod tests;
 
 pub use outside::Outside;
 pub use pages::Pages;

@@ -1,6 +1,6 @@
 //! Memory in pages, each created at its first write.
 
-ghost use Rattle.std.specs.Prelude.{◌≡◌, ◌+◌, ◌-◌, ◌*◌, ◌%◌, ◌<◌, ◌≤◌, ◌^◌, ◌↔◌, IsTrue, IsOk, IfOk, if◌then◌else◌, length, replicate};
+ghost use Rattle.std.specs.Prelude.{◌≡◌, ◌+◌, ◌-◌, ◌*◌, ◌%◌, ◌<◌, ◌≤◌, ◌↔◌, IsTrue, IsOk, IfOk, if◌then◌else◌, length, replicate};
 ghost use Rattle.board_mem.specs.Memory.{has as has_lem, bytes_at};
 ghost use Rattle.board_mem.specs.Pages.{page_bytes, unmade, written_at, made_count, ArePages};
 

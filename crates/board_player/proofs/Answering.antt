@@ -1,13 +1,13 @@
 -- What a board answers for its next step.
-use Rattle.std.proofs.Common.{◌≡◌, List, ℕ, true, Option, None, Some, IfSome, Result, Ok, Err, sym, ap, ◌∙◌, subst}
+use Rattle.std.proofs.Common.{◌≡◌, List, ℕ, true, Option, Some, IfSome, Result, Ok, Err, sym, ap, ◌∙◌, subst}
 use Rattle.std.specs.Prelude.{OnOk, OnErr, ◌↔◌}
 use Rattle.std.specs.Option.{option_map}
 use Rattle.wind_base.specs.declared.NoMemory.{NoMemory}
-use Rattle.wind_machine.specs.Said.{FileSaid}
+use Rattle.wind_machine.specs.LiveLoadingSaid.{FileSaid}
 use Rattle.wind_machine.specs.State.{State}
 use Rattle.wind_machine.specs.ActorSteps.{load_step}
 use Rattle.wind_machine.specs.Next.{next}
-use Rattle.wind_machine.specs.Machine.{state_after, file_of, file_asked, settled_state, machine_step, Steps, IsOver, next_may, may_exhaust_memory}
+use Rattle.wind_machine.specs.Machine.{state_after, file_of, file_asked, settled_state, machine_step, Steps, IsOver, may_exhaust_memory}
 use Rattle.wind_machine.specs.declared.next.Next.{Next}
 use Rattle.wind_machine.specs.declared.next.Next.TheVariants.{Load, Over}
 use Rattle.dev_irq.specs.State.{IsIrqs}
@@ -25,17 +25,9 @@ pub asked_is : (s : State) (n : Next) (o : Option (List ℕ)) → n ≡ next s �
 unfolding file_asked
 asked_is s n o e q = q ∙ ap file_of e
 
-pub asked_name : (o p : Option (List ℕ)) → o ≡ p → IfSome o (λ name. p ≡ Some name)
-asked_name None p e = tt
-asked_name (Some name) p e = sym e
-
 -- the run is over exactly if `Over` comes next
 pub is_over : {A : Type 0} (s : State) (n : Next) (r quiet : A) → n ≡ next s → (r ≡ quiet) ↔ (n ≡ Over) → (r ≡ quiet) ↔ IsOver s
 is_over s n r quiet e both = (λ q. sym e ∙ both.0 q, λ over. both.1 (e ∙ over))
-
--- a run that may run out of memory isn't over
-pub exhausting_goes_on : (s : State) → may_exhaust_memory s ≡ true → IsOver s → ⊥
-exhausting_goes_on s may over = let bad : next_may s Over ≡ true = sym (ap (next_may s) over) ∙ may in absurd (cc)
 
 -- a load is made with what is said of its file
 by_case : (said : FileSaid) (s : State) (name : List ℕ) (n : Next) → file_of n ≡ Some name → state_after said s n ≡ Some (load_step said s name)

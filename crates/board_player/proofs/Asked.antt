@@ -8,14 +8,14 @@ use Rattle.wind_base.specs.Gates.{gate_at}
 use Rattle.wind_base.specs.declared.gate.Gate.{Gate}
 use Rattle.wind_base.specs.declared.gate.Gate.TheVariants as gates
 use Rattle.board_mem.specs.Memory.{string_at}
-use Rattle.kernel_world.specs.State.{WorldState}
-use Rattle.kernel_world.specs.Starting.{no_regs}
+use Rattle.live_loading.specs.KernelWorldState.{WorldState}
+use Rattle.live_loading.specs.KernelWorldStarting.{no_regs}
 use Rattle.id_table.specs.Idents.{shell_id}
-use Rattle.kernel_world.specs.Actors.{caller_regs, caller_words}
-use Rattle.wind_machine.specs.KernelCalls.{file_name, file_wanted}
-use Rattle.kernel_world.specs.Objects.{IsReady}
-use Rattle.kernel_world.specs.declared.actor.Actor.TheVariants.{Task as by_task, Interrupt}
-use Rattle.wind_machine.specs.LiveLoading.{shell}
+use Rattle.live_loading.specs.KernelWorldActors.{caller_regs, caller_words}
+use Rattle.wind_machine.specs.KernelCallsCalls.{file_name, file_of, file_wanted}
+use Rattle.live_loading.specs.KernelWorldObjects.{IsReady}
+use Rattle.live_loading.specs.KernelWorldActor.TheVariants.{Task as by_task}
+use Rattle.wind_machine.specs.LiveLoadingLoading.{shell}
 use Rattle.wind_machine.specs.State.{State}
 use Rattle.wind_machine.specs.Good.{Good}
 use Rattle.wind_machine.specs.Processor.{regs_of, gate_under}
@@ -37,7 +37,7 @@ at_load_is o w e = ap (λ p. file_at p w) e
 -- ---- a step that needs no file
 -- its call needs none, at the gate where the task is
 others_want : (g : Gate) (w : WorldState) (who : ℕ) → eqb who shell_id ≡ false → file_wanted g w (by_task who) ≡ None
-others_want gates.Ld w who e = ap (λ b. cond b (file_name (string_at w.ram (slice_index (caller_words w (by_task who)) 5))) None) e
+others_want gates.Ld w who e = ap (λ b. file_of w.ram (cond b (Some (record { name = slice_index (caller_words w (by_task who)) 5; mode = slice_index (caller_words w (by_task who)) 3 })) None)) e
 others_want g w who e = refl
 
 -- the registers of the shell's task, and so the file of its call, are those before other tasks' reservations are
@@ -68,8 +68,3 @@ wanted s name e = same_wanted s gates.Ld ∙ (at_load s.shell.phase s.world name
 
 pub asker_ready : (s : State) (name : List ℕ) → Good s → file_asked s ≡ Some name → IsReady s.world.kern shell_id
 asker_ready s name g e = shell_ready s g (shells s name e).who
-
--- no routine needs one
-pub routine_wants : (g : Gate) (w : WorldState) (name : List ℕ) → file_wanted g w Interrupt ≡ Some name → ⊥
-routine_wants gates.Ld w name e = absurd (cc)
-routine_wants g w name e = absurd (cc)

@@ -4,7 +4,7 @@ use Rattle.std.proofs.lemmas.List.Elements.{All-weaker}
 use Rattle.task_block.specs.declared.task.Task.{Task}
 use Rattle.wind_core.specs.State.{KernState, Lives, task_of}
 use Rattle.wind_core.specs.Moves.{unreserved}
-use Rattle.kernel_world.specs.Kept.{IsEarly, HasCounts}
+use Rattle.live_loading.specs.KernelWorldKept.{IsEarly, HasCounts}
 use Rattle.board_actors.specs.StepStart.{IsEarlyWorld}
 use Rattle.wind_machine.specs.State.{State}
 use Rattle.wind_machine.specs.Good.{Good}

@@ -7,12 +7,12 @@ use Rattle.std.proofs.lemmas.Bool.{eqb-true}
 use Rattle.tick_file.specs.Schedule.{Timed, at}
 use Rattle.tick_file.specs.declared.event.Event.{Event}
 use Rattle.con_line.specs.Lines.{has_line}
-use Rattle.wind_lists.specs.Records.{Rising}
+use Rattle.id_table.specs.Records.{Rising}
 use Rattle.wind_core.specs.State.{Lives, task_id}
 use Rattle.wind_core.specs.Orders.{running, runner}
 use Rattle.wind_core.proofs.Ticks.{runner_lives}
 use Rattle.id_table.specs.Idents.{shell_id}
-use Rattle.kernel_world.specs.Objects.{IsReady}
+use Rattle.live_loading.specs.KernelWorldObjects.{IsReady}
 use Rattle.wind_machine.specs.State.{State}
 use Rattle.wind_machine.specs.Good.{Good}
 use Rattle.wind_machine.specs.Task.{waits_for_console}

@@ -7,16 +7,16 @@ use Rattle.std.proofs.lemmas.Simd.{map-map}
 use Rattle.wind_base.specs.declared.regs.Regs.{Regs}
 use Rattle.task_block.specs.declared.task.Task.{Task}
 use Rattle.task_block.specs.Standing.{is_ready}
-use Rattle.wind_lists.specs.Records.{Rising}
-use Rattle.wind_lists.specs.Sorting.{insert_sorted, sorted, in_line, first}
+use Rattle.id_table.specs.Records.{Rising}
+use Rattle.id_table.specs.Sorting.{insert_sorted, sorted, in_line, first}
 use Rattle.wind_core.specs.State.{KernState, task_id, task_of}
 use Rattle.wind_core.specs.Orders.{is_before, most_urgent, keeps_running, keeper, last_task, or_else, running, runner}
 use Rattle.wind_core.specs.Moves.{set_regs, unreserved}
 use Rattle.wind_core.proofs.Ticks.{running_found}
 use Rattle.wind_core.proofs.Waking.{id_found}
 use Rattle.isr_watch.specs.State.{WatchState}
-use Rattle.kernel_world.specs.State.{WorldState}
-use Rattle.kernel_world.specs.declared.actor.Actor.TheVariants.{Task as by_task}
+use Rattle.live_loading.specs.KernelWorldState.{WorldState}
+use Rattle.live_loading.specs.KernelWorldActor.TheVariants.{Task as by_task}
 use Rattle.wind_machine.specs.Reserving.{unless_own, drop_others}
 use Rattle.wind_machine.specs.Next.{holds_back}
 use Rattle.board_actors.specs.Running.{OnlyRegs}

@@ -5,8 +5,8 @@ use Rattle.std.specs.Prelude.{◌&&◌, nat_lt}
 use Rattle.std.proofs.lemmas.List.{nil_from_length, length-map}
 use Rattle.task_block.specs.declared.task.Task.{Task}
 use Rattle.task_block.specs.Standing.{is_ready}
-use Rattle.wind_lists.specs.Sorting.{first, in_line}
-use Rattle.wind_lists.proofs.Sorting.{length-sorted}
+use Rattle.id_table.specs.Sorting.{first, in_line}
+use Rattle.id_table.proofs.Sorting.{length-sorted}
 use Rattle.wind_core.specs.State.{KernState, task_of}
 use Rattle.wind_core.specs.Orders.{is_before, keeper, last_task, most_urgent, or_else, running}
 use Rattle.wind_core.specs.Queues.{as_ready, ready_of}

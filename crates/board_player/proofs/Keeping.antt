@@ -9,13 +9,13 @@ use Rattle.tick_file.specs.Schedule.{Timed, Timetable, at}
 use Rattle.tick_file.specs.declared.event.Event.{Event}
 use Rattle.tick_file.specs.Laws.{IsEarly}
 use Rattle.con_line.specs.State.{ConsoleState, opening_console}
-use Rattle.kernel_world.specs.State.{WorldState}
-use Rattle.kernel_world.specs.Opening.{opening_world}
+use Rattle.live_loading.specs.KernelWorldState.{WorldState}
+use Rattle.live_loading.specs.KernelWorldOpening.{opening_world}
 use Rattle.wind_machine.specs.State.{ShellState, State}
 use Rattle.wind_machine.specs.Shell.{at_prompt}
 use Rattle.wind_machine.specs.Good.{Good}
 use Rattle.wind_machine.specs.Laws.{StartLaw, StepLaw}
-use Rattle.wind_machine.specs.Said.{FileSaid, Missing}
+use Rattle.wind_machine.specs.LiveLoadingSaid.{FileSaid, Missing}
 use Rattle.wind_base.specs.declared.NoMemory.{NoMemory}
 use Rattle.wind_machine.specs.Events.{next_event}
 use Rattle.wind_machine.specs.ActorSteps.{load_step}

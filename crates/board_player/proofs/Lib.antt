@@ -13,4 +13,4 @@ pub mod Settled
 pub mod ManySteps
 pub mod TaskBursts
 pub mod RoutineBursts
-pub use Rattle.wind_machine.proofs.Asking
+pub use Rattle.wind_machine.proofs.Asking as WindMachineAsking

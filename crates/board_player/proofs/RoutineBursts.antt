@@ -1,5 +1,5 @@
 -- An instruction of an interrupt routine is a silent step, and the routine goes on.
-use Rattle.std.proofs.Common.{◌≡◌, ℕ, ◌+◌, true, cond, List, [], ◌∷◌, Option, None, Some, is_some, IsSome, refl, sym, ap, ap₂, ◌∙◌, subst, arith}
+use Rattle.std.proofs.Common.{◌≡◌, ℕ, true, cond, List, [], ◌∷◌, Option, None, Some, is_some, IsSome, refl, sym, ap, ap₂, ◌∙◌, subst}
 use Rattle.std.specs.List.{All}
 use Rattle.std.proofs.lemmas.List.Elements.{All-nil, All-cons, All-map}
 use Rattle.std.specs.Prelude.{unwrap_or}
@@ -10,11 +10,11 @@ use Rattle.task_block.specs.declared.task.Task.{Task}
 use Rattle.wind_core.specs.State.{KernState, IsKern}
 use Rattle.wind_core.specs.Moves.{unreserved}
 use Rattle.board_bus.specs.BusState.{BusState}
-use Rattle.kernel_world.specs.State.{WorldState}
-use Rattle.kernel_world.specs.declared.actor.Actor.TheVariants.{Task as by_task, Interrupt}
-use Rattle.kernel_world.specs.Kept.{ReservedBy}
-use Rattle.kernel_world.specs.Settling.{HasExact}
-use Rattle.kernel_world.specs.Starting.{no_regs}
+use Rattle.live_loading.specs.KernelWorldState.{WorldState}
+use Rattle.live_loading.specs.KernelWorldActor.TheVariants.{Task as by_task, Interrupt}
+use Rattle.live_loading.specs.KernelWorldKept.{ReservedBy}
+use Rattle.live_loading.specs.KernelWorldSettling.{HasExact}
+use Rattle.live_loading.specs.KernelWorldStarting.{no_regs}
 use Rattle.wind_machine.specs.State.{State}
 use Rattle.wind_machine.specs.Silent.{IsSilentStep}
 use Rattle.wind_machine.specs.Reserving.{drop_all}

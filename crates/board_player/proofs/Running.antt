@@ -5,7 +5,7 @@ use Rattle.std.specs.Option.{option_map}
 use Rattle.task_block.specs.declared.task.Task.{Task}
 use Rattle.wind_core.specs.State.{KernState, IsKern, task_id}
 use Rattle.wind_core.specs.Orders.{running}
-use Rattle.kernel_world.specs.Objects.{IsReady}
+use Rattle.live_loading.specs.KernelWorldObjects.{IsReady}
 use Rattle.wind_machine.specs.State.{State}
 use Rattle.wind_machine.specs.Next.{holds_back, is_open, is_active}
 use Rattle.wind_machine.proofs.Free.{runner_ready}

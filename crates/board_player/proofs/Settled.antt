@@ -4,7 +4,7 @@ use Rattle.std.specs.Option.{option_map}
 use Rattle.wind_base.specs.Limits.{most_steps}
 use Rattle.wind_base.specs.declared.regs.Regs.{Regs}
 use Rattle.task_block.specs.declared.task.Task.{Task}
-use Rattle.wind_lists.specs.Records.{change}
+use Rattle.id_table.specs.Records.{change}
 use Rattle.wind_core.specs.State.{KernState, IsKern, task_id}
 use Rattle.wind_core.specs.Moves.{unreserved, set_regs}
 use Rattle.wind_core.specs.Move.{SetRegs}
@@ -14,9 +14,9 @@ use Rattle.inheritance.specs.Mutexes.{both as with_mutexes}
 use Rattle.inheritance.specs.Reach.{IsExact}
 use Rattle.tick_file.specs.Laws.{IsEarly}
 use Rattle.tick_file.specs.declared.event.Event.{Event}
-use Rattle.kernel_world.specs.Settling.{HasExact}
-use Rattle.kernel_world.proofs.Settling.{settled_same}
-use Rattle.wind_machine.specs.Said.{FileSaid}
+use Rattle.live_loading.specs.KernelWorldSettling.{HasExact}
+use Rattle.live_loading.proofs.KernelWorldSettling.{settled_same}
+use Rattle.wind_machine.specs.LiveLoadingSaid.{FileSaid}
 use Rattle.wind_machine.specs.State.{State}
 use Rattle.wind_machine.specs.Good.{Good, KeepsEffect}
 use Rattle.wind_machine.specs.Laws.{EffectLaw, CountLaw}

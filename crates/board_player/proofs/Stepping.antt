@@ -6,9 +6,9 @@ use Rattle.wind_base.specs.declared.gate.Gate.{Gate}
 use Rattle.wind_base.specs.declared.regs.Regs.{Regs}
 use Rattle.board_bus.specs.BusState.{BusState}
 use Rattle.board_bus.specs.Access.{fetched}
-use Rattle.kernel_world.specs.State.{WorldState}
-use Rattle.kernel_world.specs.declared.actor.Actor.{Actor}
-use Rattle.kernel_world.specs.declared.actor.Actor.TheVariants.{Task as by_task}
+use Rattle.live_loading.specs.KernelWorldState.{WorldState}
+use Rattle.live_loading.specs.KernelWorldActor.{Actor}
+use Rattle.live_loading.specs.KernelWorldActor.TheVariants.{Task as by_task}
 use Rattle.wind_machine.specs.State.{ShellState, State}
 use Rattle.wind_machine.specs.Part.{part_of}
 use Rattle.wind_machine.specs.ActorSteps.{at_step_start, stepped, task_step}

@@ -10,8 +10,8 @@ use Rattle.wind_base.specs.declared.regs.Regs.{Regs}
 use Rattle.task_block.specs.declared.task.Task.{Task}
 use Rattle.tick_file.specs.Schedule.{Timed}
 use Rattle.tick_file.specs.Laws.{IsEarly}
-use Rattle.wind_lists.specs.Records.{Rising, change}
-use Rattle.wind_lists.specs.Sorting.{first}
+use Rattle.id_table.specs.Records.{Rising, change}
+use Rattle.id_table.specs.Sorting.{first}
 use Rattle.wind_core.specs.State.{KernState, IsKern, task_id, task_of}
 use Rattle.wind_core.specs.Orders.{running, runner}
 use Rattle.wind_core.specs.Moves.{set_regs, unreserved}
@@ -21,13 +21,13 @@ use Rattle.con_line.specs.Lines.{has_line}
 use Rattle.dev_irq.specs.State.{is_waiting}
 use Rattle.board_bus.specs.BusState.{BusState}
 use Rattle.isr_watch.specs.State.{WatchState}
-use Rattle.kernel_world.specs.State.{WorldState}
-use Rattle.kernel_world.specs.declared.actor.Actor.TheVariants.{Task as by_task, Interrupt}
+use Rattle.live_loading.specs.KernelWorldState.{WorldState}
+use Rattle.live_loading.specs.KernelWorldActor.TheVariants.{Task as by_task, Interrupt}
 use Rattle.id_table.specs.Idents.{shell_id}
-use Rattle.kernel_world.specs.Kept.{ReservedBy}
-use Rattle.kernel_world.specs.Settling.{HasExact}
-use Rattle.kernel_world.specs.Starting.{no_regs}
-use Rattle.wind_machine.specs.Said.{Missing}
+use Rattle.live_loading.specs.KernelWorldKept.{ReservedBy}
+use Rattle.live_loading.specs.KernelWorldSettling.{HasExact}
+use Rattle.live_loading.specs.KernelWorldStarting.{no_regs}
+use Rattle.wind_machine.specs.LiveLoadingSaid.{Missing}
 use Rattle.wind_machine.specs.State.{State}
 use Rattle.wind_machine.specs.Good.{Good}
 use Rattle.wind_machine.specs.Laws.{StepLaw}

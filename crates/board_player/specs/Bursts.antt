@@ -5,7 +5,7 @@ use Rattle.board_bus.specs.BusState.{BusState}
 use Rattle.tick_file.specs.Schedule.{Timed}
 use Rattle.wind_core.specs.Orders.{runner}
 use Rattle.id_table.specs.Idents.{shell_id}
-use Rattle.kernel_world.specs.declared.actor.Actor.{Actor}
+use Rattle.live_loading.specs.KernelWorldActor.{Actor}
 use Rattle.wind_machine.specs.State.{State}
 use Rattle.wind_machine.specs.Reserving.{drop_others, drop_all}
 use Rattle.wind_machine.specs.Next.{is_active, console_is_due}

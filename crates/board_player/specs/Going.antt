@@ -7,9 +7,9 @@ use Rattle.wind_base.specs.declared.regs.Regs.{Regs}
 use Rattle.wind_core.specs.State.{KernState, Lives}
 use Rattle.wind_core.specs.Orders.{running, runner}
 use Rattle.wind_core.specs.Moves.{set_regs}
-use Rattle.kernel_world.specs.Kept.{ReservedBy}
-use Rattle.kernel_world.specs.Objects.{IsReady}
-use Rattle.kernel_world.specs.declared.actor.Actor.TheVariants.{Task as by_task}
+use Rattle.live_loading.specs.KernelWorldKept.{ReservedBy}
+use Rattle.live_loading.specs.KernelWorldObjects.{IsReady}
+use Rattle.live_loading.specs.KernelWorldActor.TheVariants.{Task as by_task}
 use Rattle.wind_machine.specs.State.{State}
 use Rattle.wind_machine.specs.Processor.{regs_of}
 use Rattle.wind_machine.specs.ActorSteps.{file_for}

@@ -5,7 +5,7 @@ use Rattle.std.specs.declared.alloc.Global.{Global}
 use Rattle.wind_outside.specs.Devices.{DeviceState, slots_of}
 use Rattle.wind_outside.specs.declared.device.Device.{Ghosts}
 use Rattle.wind_outside.specs.declared.device.DeviceKind.{DeviceKind}
-use Rattle.kernel_world.specs.Seen.{world_with}
+use Rattle.live_loading.specs.KernelWorldSeen.{world_with}
 use Rattle.wind_machine.specs.State.{State}
 use Rattle.board_player.specs.declared.parts.Parts.{Parts}
 

@@ -7,11 +7,11 @@ pub mod Going
 pub mod Bursts
 pub mod Knowing
 pub mod Settling
-pub use Rattle.wind_machine.specs.Said
-pub use Rattle.wind_machine.specs.State as MachineState
-pub use Rattle.wind_machine.specs.Machine
-pub use Rattle.wind_machine.specs.Extending
-pub use Rattle.wind_machine.specs.Run
-pub use Rattle.wind_machine.specs.Good
-pub use Rattle.wind_machine.specs.Instants
-pub use Rattle.wind_machine.specs.Silent
+pub use Rattle.wind_machine.specs.LiveLoadingSaid
+pub use Rattle.wind_machine.specs.State as WindMachineState
+pub use Rattle.wind_machine.specs.Machine as WindMachineMachine
+pub use Rattle.wind_machine.specs.Extending as WindMachineExtending
+pub use Rattle.wind_machine.specs.Run as WindMachineRun
+pub use Rattle.wind_machine.specs.Good as WindMachineGood
+pub use Rattle.wind_machine.specs.Instants as WindMachineInstants
+pub use Rattle.wind_machine.specs.Silent as WindMachineSilent

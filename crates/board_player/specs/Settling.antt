@@ -2,7 +2,7 @@
 use Rattle.std.specs.Prelude.{◌≡◌, ◌≤◌, Some}
 use Rattle.std.specs.Option.{option_map}
 use Rattle.wind_base.specs.Limits.{most_steps}
-use Rattle.wind_machine.specs.Said.{FileSaid}
+use Rattle.wind_machine.specs.LiveLoadingSaid.{FileSaid}
 use Rattle.wind_machine.specs.State.{State}
 use Rattle.wind_machine.specs.Good.{KeepsEffect}
 use Rattle.wind_machine.specs.Machine.{state_after, settled_state}

@@ -13,12 +13,12 @@ use crate::order::{Known, is_early, make, next};
 use crate::parts::Parts;
 use board_actors::{Feed, Shell};
 use con_line::Console;
-use kernel_world::World;
+use live_loading::{FileAnswer, World};
 use std::alloc::Global;
 use tick_file::{Event, Schedule};
 use wind_base::limits::CHUNK_BYTES;
 use wind_base::{BoardKind, Name, NoMemory, OutBuf, Profile};
-use wind_machine::{FileAnswer, Next, Phase, slot_law, step_law};
+use wind_machine::{Next, Phase, slot_law, step_law};
 use wind_outside::{Device, Slots};
 
 // The room, in bytes, for what one step writes. Each byte of the console echoes at most three
@@ -39,7 +39,7 @@ pub struct Board {
 impl Board {
     ghost use Rattle.std.specs.Prelude.{IfOk, IfErr};
     ghost use Rattle.wind_outside.specs.Devices.{slots_of};
-    ghost use Rattle.kernel_world.specs.Seen.{world_seen};
+    ghost use Rattle.live_loading.specs.KernelWorldSeen.{world_seen};
     ghost use Rattle.board_player.specs.Seen.{seen};
     ghost use Rattle.wind_machine.specs.Machine.{opening};
     ghost use Rattle.wind_base.specs.Limits.{most_slots};
@@ -102,7 +102,7 @@ impl Board {
     ghost use Rattle.std.specs.Prelude.{◌≢◌, ◌↔◌, ◌<◌, ◌≤◌, ◌-◌, ◌^◌, ℕ, Some, None, IfSome, OnOk, OnErr, true};
     ghost use Rattle.std.specs.List.{All};
     ghost use Rattle.wind_base.specs.Limits.{most_steps};
-    ghost use Rattle.wind_machine.specs.{Said.said_of, Extending.{extended, more_of}, Silent.SilentSteps, Interrupts.StepsSlot, Machine.{file_asked, machine_step, Steps, IsOver, may_exhaust_memory}};
+    ghost use Rattle.wind_machine.specs.{LiveLoadingSaid.said_of, Extending.{extended, more_of}, Silent.SilentSteps, Interrupts.StepsSlot, Machine.{file_asked, machine_step, Steps, IsOver, may_exhaust_memory}};
     ghost use Rattle.board_player.specs.{Asking.needed, Seen.seen};
     ghost use Rattle.board_player.specs.declared.Step.TheVariants as steps;
 

@@ -18,7 +18,7 @@ use crate::order::{Known, Running, console_is_due, may_deliver};
 use crate::parts::Parts;
 use board_actors::execute_many;
 use id_table::Ident;
-use kernel_world::Actor;
+use live_loading::Actor;
 use tick_file::Event;
 use wind_machine::Phase;
 use wind_outside::Device;

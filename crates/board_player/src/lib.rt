@@ -14,8 +14,9 @@ mod shell_steps;
 mod task_steps;
 
 pub use board::Board;
+pub use live_loading::FileAnswer;
 use wind_base::Name;
-pub use wind_machine::{FileAnswer, Next, Phase, extend_law, instant_law, live_law, silent_law};
+pub use wind_machine::{Next, Phase, extend_law, instant_law, live_law, silent_law};
 
 /// What the board answers when it is asked for the next step.
 #[derive(Drop)]

@@ -3,8 +3,8 @@
 ghost use Rattle.std.specs.Prelude.{◌≡◌, ◌<◌, ◌↔◌, true, Some, IfOk, OnOk, OnErr, IsSome};
 ghost use Rattle.wind_base.specs.Limits.{most_steps};
 ghost use Rattle.wind_base.specs.declared.gate.Gate.TheVariants as gates;
-ghost use Rattle.kernel_world.specs.declared.actor.Actor.TheVariants as actors;
-ghost use Rattle.wind_machine.specs.Said.{said_of};
+ghost use Rattle.live_loading.specs.KernelWorldActor.TheVariants as actors;
+ghost use Rattle.wind_machine.specs.LiveLoadingSaid.{said_of};
 ghost use Rattle.wind_machine.specs.Good.{Good};
 ghost use Rattle.wind_machine.specs.declared.phase.Phase.TheVariants as phases;
 ghost use Rattle.wind_machine.specs.ActorSteps.{file_in, file_for as file_for_lem, load_step};
@@ -18,9 +18,9 @@ use crate::settling::settle;
 use crate::task_steps::end;
 use board_actors::{counter, drop_own, give_back, start_revocable_step};
 use id_table::Ident;
-use kernel_world::{Actor, gate_at};
+use live_loading::{Actor, FileAnswer, file_wanted, gate_at, kernel_load};
 use wind_base::{Gate, Name, NoMemory};
-use wind_machine::{FileAnswer, Phase, file_wanted, kernel_load};
+use wind_machine::Phase;
 use wind_outside::Device;
 
 // Whether the shell's task is at the gate of `ld`.

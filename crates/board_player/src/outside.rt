@@ -11,11 +11,11 @@ ghost use Rattle.board_player.specs.Inside.{inside, parts_seen, IsSpacious};
 ghost use Rattle.board_player.specs.Moves.{heard_bytes};
 
 use crate::parts::Parts;
-use board_actors::{INTERRUPT_TOP, brought, chunk_len, drop_all, hear_chunk, put_return};
+use board_actors::{INTERRUPT_TOP, brought, chunk_len, drop_all, hear_chunk};
 use board_bus::BoardBus;
 use dev_irq::Irqs;
+use live_loading::is_device;
 use tick_file::Event;
-use wind_machine::is_device;
 use wind_outside::Device;
 
 // Hears the next `len` bytes, and then a newline if one is supplied.
@@ -71,7 +71,6 @@ fn tick(parts: &mut Parts)
     parts.world.kern.tick();
     let now = parts.world.kern.ticks();
     parts.world.watch.due(now, INTERRUPT_TOP);
-    put_return(&mut parts.world.watch, parts.world.board);
     parts.clock.event();
 }
 
@@ -131,7 +130,6 @@ pub(crate) fn deliver(parts: &mut Parts, slot: u32)
         .world
         .irqs
         .deliver(slot, &mut parts.world.watch, INTERRUPT_TOP);
-    put_return(&mut parts.world.watch, parts.world.board);
     parts.clock.event();
 }
 

@@ -3,7 +3,7 @@
 use crate::clock::Clock;
 use board_actors::{Feed, Shell};
 use con_line::Console;
-use kernel_world::World;
+use live_loading::World;
 use std::alloc::Global;
 use tick_file::Schedule;
 use wind_base::OutBuf;

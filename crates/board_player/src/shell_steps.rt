@@ -3,8 +3,8 @@
 ghost use Rattle.std.specs.Prelude.{◌≡◌, ◌<◌, ◌≤◌, true, None, Ok, take, OnOk, OnErr};
 ghost use Rattle.wind_base.specs.Limits.{most_steps, longest_line};
 ghost use Rattle.con_line.specs.Lines.{first_line};
-ghost use Rattle.kernel_world.specs.Objects.{IsReady};
-ghost use Rattle.kernel_world.specs.declared.actor.Actor.TheVariants as actors;
+ghost use Rattle.live_loading.specs.KernelWorldObjects.{IsReady};
+ghost use Rattle.live_loading.specs.KernelWorldActor.TheVariants as actors;
 ghost use Rattle.wind_machine.specs.Good.{Good};
 ghost use Rattle.wind_machine.specs.Processor.{gate_under};
 ghost use Rattle.wind_machine.specs.ActorSteps.{prompt_step, read_step, eval_step, shell_step, file_for as file_for_lem};

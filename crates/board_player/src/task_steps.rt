@@ -5,9 +5,9 @@ ghost use Rattle.wind_base.specs.Limits.{most_steps};
 ghost use Rattle.wind_base.specs.Boards.{board_rules};
 ghost use Rattle.wind_base.specs.Gates.{gate_at as gate_at_lem};
 ghost use Rattle.wind_core.specs.State.{Lives};
-ghost use Rattle.kernel_world.specs.Objects.{IsReady};
-ghost use Rattle.kernel_world.specs.declared.actor.Actor.TheVariants as actors;
-ghost use Rattle.kernel_world.specs.Allowed.{may_exhaust_memory as may_exhaust_memory_lem};
+ghost use Rattle.live_loading.specs.KernelWorldObjects.{IsReady};
+ghost use Rattle.live_loading.specs.KernelWorldActor.TheVariants as actors;
+ghost use Rattle.live_loading.specs.KernelWorldAllowed.{may_exhaust_memory as may_exhaust_memory_lem};
 ghost use Rattle.wind_machine.specs.Good.{Good};
 ghost use Rattle.wind_machine.specs.Processor.{gate_under, regs_of};
 ghost use Rattle.wind_machine.specs.ActorSteps.{task_step, file_for};
@@ -23,7 +23,7 @@ use board_actors::{
     StepKind, at_gate, counter, execute, give_back, start_revocable_step, start_step,
 };
 use id_table::Ident;
-use kernel_world::{Actor, gate_at, may_exhaust_memory};
+use live_loading::{Actor, gate_at, may_exhaust_memory};
 use wind_base::{Gate, NoMemory};
 use wind_outside::Device;
 

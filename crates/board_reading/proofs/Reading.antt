@@ -4,11 +4,11 @@ use Rattle.wind_base.specs.declared.gate.Gate.{Gate}
 use Rattle.kernel_world.specs.State.{WorldState}
 use Rattle.kernel_world.specs.declared.actor.Actor.{Actor}
 use Rattle.kernel_world.specs.declared.call.Call.{Call}
-use Rattle.board_trace.specs.MachineState.{State}
-use Rattle.board_trace.specs.Next.{next}
-use Rattle.board_trace.specs.Machine.{actor_of}
-use Rattle.board_trace.specs.NextStep.{Next}
-use Rattle.board_trace.specs.Phase.{Phase}
+use Rattle.board_trace.specs.WindMachineState.{State}
+use Rattle.board_trace.specs.WindMachineNext.{next}
+use Rattle.board_trace.specs.WindMachineMachine.{actor_of}
+use Rattle.board_trace.specs.WindMachineNextType.{Next}
+use Rattle.board_trace.specs.WindMachinePhase.{Phase}
 use Rattle.board_trace.specs.Before.{before_step, call_there, counter_at, gate_there, owner_named}
 
 -- each part is read of the state, or of the parts before it

@@ -3,7 +3,7 @@
 ghost use Rattle.std.specs.Prelude.{◌≡◌, ◌<◌, IfOk, OnErr, true};
 ghost use Rattle.wind_base.specs.Limits.{most_steps};
 ghost use Rattle.kernel_world.specs.Seen.{world_seen};
-ghost use Rattle.board_trace.specs.Machine.{actor_of, may_exhaust_memory};
+ghost use Rattle.board_trace.specs.WindMachineMachine.{actor_of, may_exhaust_memory};
 ghost use Rattle.board_player.specs.Seen.{seen};
 ghost use Rattle.board_trace.specs.Before.{before_step, call_there, counter_at, gate_there, is_on_processor as is_on_processor_lem, owner_named as owner_named_lem};
 

@@ -4,7 +4,7 @@ ghost use Rattle.std.specs.Prelude.{◌≡◌};
 ghost use Rattle.std.specs.Option.{option_map};
 ghost use Rattle.kernel_world.specs.Seen.{world_seen};
 ghost use Rattle.board_trace.specs.Running.{running_task};
-ghost use Rattle.board_trace.specs.Silent.{last_actor as last_actor_lem};
+ghost use Rattle.board_trace.specs.WindMachineSilent.{last_actor as last_actor_lem};
 
 use id_table::Ident;
 use kernel_world::{Actor, World};

@@ -11,9 +11,9 @@ pub mod Steps
 pub mod Subjects
 pub mod Runs
 pub mod Running
-pub use Rattle.wind_machine.specs.Silent
-pub use Rattle.wind_machine.specs.Machine
-pub use Rattle.wind_machine.specs.State as MachineState
-pub use Rattle.wind_machine.specs.Next
-pub use Rattle.wind_machine.specs.declared.next.Next as NextStep
-pub use Rattle.wind_machine.specs.declared.phase.Phase
+pub use Rattle.wind_machine.specs.Silent as WindMachineSilent
+pub use Rattle.wind_machine.specs.Machine as WindMachineMachine
+pub use Rattle.wind_machine.specs.State as WindMachineState
+pub use Rattle.wind_machine.specs.Next as WindMachineNext
+pub use Rattle.wind_machine.specs.declared.next.Next as WindMachineNextType
+pub use Rattle.wind_machine.specs.declared.phase.Phase as WindMachinePhase

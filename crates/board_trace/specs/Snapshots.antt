@@ -1,5 +1,5 @@
 -- The snapshot of a world, and what is read of a state after a step.
-use Rattle.std.specs.Prelude.{ℕ, map, length, slice_index}
+use Rattle.std.specs.Prelude.{map, length, slice_index}
 use Rattle.std.specs.Option.{option_map}
 use Rattle.id_table.specs.Rows.{ids}
 use Rattle.wind_base.specs.declared.regs.Regs.{Regs}

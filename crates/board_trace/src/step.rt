@@ -1,6 +1,6 @@
 //! The happenings of a step.
 
-ghost use Rattle.std.specs.Prelude.{◌≡◌, ◌++◌, ◌∷◌, [], map, OnOk, IfOk, not};
+ghost use Rattle.std.specs.Prelude.{◌≡◌, ◌++◌, map, OnOk};
 ghost use Rattle.board_trace.specs.Views.{snapshot_state};
 ghost use Rattle.board_trace.specs.Outside.{arrived, event_told, from_outside, is_last as is_last_lem, switches};
 ghost use Rattle.board_trace.specs.Steps.{causes_in, changes_in, effects_in, happenings_from, has_written as has_written_lem, instruction_of, is_instruction as is_instruction_lem, writes};
@@ -20,7 +20,7 @@ use id_table::Ident;
 use kernel_world::Actor;
 use std::alloc::Global;
 use tick_file::Event;
-use wind_base::{Name, NoMemory};
+use wind_base::NoMemory;
 use wind_machine::Next;
 
 /// What is read for the happenings of a step.
@@ -36,16 +36,6 @@ pub struct StepViews<'a> {
     pub after_step: &'a AfterStep,
     /// What the step wrote.
     pub written: &'a [u8],
-}
-
-// A copy of a name.
-fn copied(alloc: Global, name: &Name) -> Result<Name, NoMemory>
-    ensures { IfOk result (λ n. n ≡ name.now) }
-{
-    match Name::new(alloc, name.bytes()) {
-        Ok(name) => Ok(name),
-        Err(_) => Err(NoMemory),
-    }
 }
 
 // The bytes that have arrived: as many as are left fewer.
@@ -84,7 +74,7 @@ fn add_outside(
         Next::Deliver(slot) => add(list, Happening::Delivery { slot: *slot }),
         Next::Come(event) => add(list, occurrence(*event, before_step, after_step)),
         Next::Arrive => add(list, arrival(before_step, after_step)),
-        Next::Load(name) => add(list, Happening::File(copied(alloc, name)?)),
+        Next::Load(name) => add(list, Happening::File(name.copied(alloc)?)),
         Next::Jump(time) => add(list, Happening::Jump { time: *time }),
         Next::Routine | Next::Act(_) | Next::Over => Ok(()),
     }

@@ -18,6 +18,7 @@ use Rattle.wind_core.proofs.Stable.{All-change}
 use Rattle.wind_core.proofs.Unwritten.{map-change}
 use Rattle.isr_watch.specs.declared.watchdog.Watchdog.{Watchdog}
 use Rattle.isr_watch.specs.State.{WatchState, IsWatch, watchdog_id}
+use Rattle.isr_watch.specs.Calls.{routine_return}
 use Rattle.isr_watch.specs.Laws.{AllBelow}
 use Rattle.dev_irq.specs.declared.line.Line.{Line}
 use Rattle.kernel_world.specs.State.{WorldState}
@@ -25,13 +26,13 @@ use Rattle.kernel_world.specs.Kept.{stack_of, routine_stack, KeepsWatch, IsWorld
 use Rattle.kernel_world.specs.Objects.{IsFree}
 use Rattle.kernel_world.specs.Actors.{MayCall}
 use Rattle.kernel_calls.specs.Calls.{call, is_made}
-use Rattle.task_calls.specs.Ending.{ended}
+use Rattle.call_rows.specs.Ending.{ended}
 use Rattle.kernel_world.specs.Opening.{opening_world}
 use Rattle.kernel_world.specs.declared.actor.Actor.{Actor}
 use Rattle.kernel_calls.specs.declared.calls.Called.{Called}
 use Rattle.kernel_calls.specs.declared.calls.Called.TheVariants.{Done, Pended, Ended, NeedsFile, NoMemory}
 use Rattle.kernel_world.proofs.Holding.{loaded_on}
-use Rattle.kernel_world.proofs.LiveIds.{Fewer, Nothing, fewer_same}
+use Rattle.kernel_world.proofs.LiveIds.{Fewer, Nothing}
 use Rattle.kernel_world.proofs.WorldIds.{ids_kern, ids_watch}
 use Rattle.kernel_world.proofs.Advancing.{within_more, of_devices}
 use Rattle.kernel_calls.proofs.Passing.{call_passes}
@@ -121,23 +122,18 @@ pub used_irqs : (w : WorldState) (irqs : List Line) (n : ℕ) → Used w n → U
 used_irqs w irqs n (kept, within, sinces, count, names, starts) = ((of_devices w kept n within irqs w.slots).kept, within, sinces, count, names, starts)
 
 -- other watchdogs, with ids that were handed out
-pub used_watch : (w : WorldState) (s : WatchState) (n : ℕ) → KeepsWatch w.kern.next_id s → s.next_start ≤ 1 + n → Fewer (map watchdog_id s.watchdogs) (map watchdog_id w.watch.watchdogs) → Used w n → Used (record w { watch = s }) n
+pub used_watch : (w : WorldState) (s : WatchState) (n : ℕ) → KeepsWatch w.board w.kern.next_id s → s.next_start ≤ 1 + n → Fewer (map watchdog_id s.watchdogs) (map watchdog_id w.watch.watchdogs) → Used w n → Used (record w { watch = s }) n
 used_watch w s n watch starts fewer (kept, within, sinces, count, names, _) =
     (record { kern = kept.kern; home = kept.home; kind = kept.kind; objects = kept.objects; pool = kept.pool; stacks = kept.stacks; modules = kept.modules; ram = kept.ram; symbols = kept.symbols; watch = watch; ids = ids_watch w kept.ids w.kern s refl (Nothing (omega arith) fewer) }, within, sinces, count, names, starts)
 
 -- no watchdog lives, and one's routine is active
-pub used_alarm : (slots : List (Option DeviceState)) (profile : Profile) (board : BoardKind) (w : WorldState) (s : WatchState) → w ≡ opening_world slots profile board → IsWatch s → s.watchdogs ≡ [] → s.next_start ≤ 1 → Used (record w { watch = s }) 0
-used_alarm slots profile board w s e is none starts =
+pub used_alarm : (slots : List (Option DeviceState)) (profile : Profile) (board : BoardKind) (w : WorldState) (s : WatchState) → w ≡ opening_world slots profile board → IsWatch s → s.watchdogs ≡ [] → s.next_start ≤ 1 → s.link ≡ routine_return board
+    → Used (record w { watch = s }) 0
+unfolding opening_world
+used_alarm slots profile board w s e is none starts link =
     let ids : AllBelow w.kern.next_id s = subst (All (λ (v : Watchdog). v.id < w.kern.next_id)) (sym none) (λ i d within. absurd (omega (arith, within))) in
-    used_watch w s 0 (record { watch = is; ids = ids }) starts
+    used_watch w s 0 (record { watch = is; ids = ids; link = link ∙ ap routine_return (sym (ap (λ (v : WorldState). v.board) e)) }) starts
     (subst (λ vs. Fewer (map watchdog_id vs) (map watchdog_id w.watch.watchdogs)) (sym none) (λ n. omega arith)) (used_start slots profile board w e)
-
--- and it has other registers
-pub used_level : (w : WorldState) (s : WatchState) (n : ℕ) → IsWatch s → s.watchdogs ≡ w.watch.watchdogs → s.next_start ≡ w.watch.next_start → Used w n → Used (record w { watch = s }) n
-used_level w s n is same starts u =
-    let ids : AllBelow w.kern.next_id s = subst (All (λ (v : Watchdog). v.id < w.kern.next_id)) (sym same) u.0.watch.ids in
-    used_watch w s n (record { watch = is; ids = ids }) (omega (arith, starts, u.5))
-    (fewer_same (map watchdog_id w.watch.watchdogs) (map watchdog_id s.watchdogs) (ap (map watchdog_id) same)) u
 
 -- RAM has other bytes in a range
 pub used_bytes : (w : WorldState) (ram : List ℕ) (at n calls : ℕ) (bytes : List ℕ) → length bytes ≡ n → ram ≡ cond (has w.ram at n) (with_bytes w.ram at bytes) w.ram → Used w calls → Used (record w { ram = ram }) calls

@@ -2,9 +2,11 @@
 
 ghost use Rattle.std.specs.Prelude.{◌≡◌, ◌≤◌, true, false, [], length, None, IfSome};
 ghost use Rattle.wind_base.specs.Limits.{most_slots};
-ghost use Rattle.isr_watch.specs.State.{IsWatch};
+ghost use Rattle.wind_base.specs.declared.board_kind.BoardKind.TheVariants.{One};
+ghost use Rattle.isr_watch.specs.{State.{IsWatch, no_watch}, Calls.routine_return};
 ghost use Rattle.kernel_world.specs.Actors.{Acts, MayCall};
 
+use call_rows::end_task;
 use id_table::Ident;
 use isr_watch::{Routine, Watch};
 use kernel_calls::{Called, kernel_call};
@@ -13,7 +15,6 @@ use std::alloc::Global;
 use std::marker::Model;
 use symbol_table::Symbol;
 use task_block::Task;
-use task_calls::end_task;
 use wind_base::limits::SLOTS;
 use wind_base::{BoardKind, Gate, Profile, Regs};
 use wind_core::Kern;
@@ -72,9 +73,10 @@ fn may_call(kern: &Kern, who: &Actor) -> bool
 // can't be done.
 fn run_out(kern: &mut Kern, watch: &mut Watch) -> bool
     requires ids { kern.old.lent ≡ false }
-    requires fresh { watch.old ≡ record { watchdogs = []; level = None; listed = []; next_start = 0 } }
+    requires fresh { watch.old ≡ no_watch (routine_return One) }
     ensures none { result ≡ true → watch.new.watchdogs ≡ [] }
     ensures starts { result ≡ true → watch.new.next_start ≤ 1 }
+    ensures link { result ≡ true → watch.new.link ≡ routine_return One }
 {
     let routine = Routine { entry: 0, param: 0 };
     let Ok(id) = watch.create(kern) else {
@@ -89,9 +91,10 @@ fn run_out(kern: &mut Kern, watch: &mut Watch) -> bool
 
 // The same, with a kernel that only hands out ids.
 fn activate(alloc: Global, watch: &mut Watch) -> bool
-    requires fresh { watch.old ≡ record { watchdogs = []; level = None; listed = []; next_start = 0 } }
+    requires fresh { watch.old ≡ no_watch (routine_return One) }
     ensures none { result ≡ true → watch.new.watchdogs ≡ [] }
     ensures starts { result ≡ true → watch.new.next_start ≤ 1 }
+    ensures link { result ≡ true → watch.new.link ≡ routine_return One }
 {
     match Kern::new(alloc) {
         Ok(mut kern) => run_out(&mut kern, watch),
@@ -104,6 +107,7 @@ fn with_routine(alloc: Global) -> Option<Watch>
     ensures watch { IfSome result (λ w. IsWatch w) }
     ensures none { IfSome result (λ w. w.watchdogs ≡ []) }
     ensures starts { IfSome result (λ w. w.next_start ≤ 1) }
+    ensures link { IfSome result (λ w. w.link ≡ routine_return One) }
 {
     let Ok(mut watch) = Watch::reserved(alloc) else {
         return None;
@@ -118,6 +122,7 @@ fn set_level(watch: &mut Watch, regs: Regs)
     ensures watch { IsWatch watch.new }
     ensures same { watch.new.watchdogs ≡ watch.old.watchdogs }
     ensures starts { watch.new.next_start ≡ watch.old.next_start }
+    ensures link { watch.new.link ≡ watch.old.link }
 {
     if let Some(level) = watch.regs_mut() {
         *level = regs;

@@ -23,6 +23,8 @@ pub(crate) enum Look {
     Symbol(u32, &'static [u8], u32, SymKind),
     // the task with this id
     Task(u32, TaskLook),
+    // the current priorities of four tasks, whose ids count from this one
+    Priorities(u32, [u32; 4]),
     // whether a slot holds a device
     Device(u32, bool),
     // how many interrupts of a slot are pending
@@ -88,6 +90,18 @@ fn sees_task(bench: &Bench, who: u32, look: TaskLook) -> bool {
     }
 }
 
+// Whether the four tasks with ids from `first` on have these current priorities.
+fn sees_priorities(bench: &Bench, first: u32, priorities: [u32; 4]) -> bool {
+    let mut who = first;
+    for priority in priorities {
+        match bench.task(who) {
+            Some(task) if task.pri.get() == priority => who = who.wrapping_add(1),
+            _ => return false,
+        }
+    }
+    true
+}
+
 fn sees_symbol(bench: &Bench, place: u32, name: &[u8], value: u32, kind: SymKind) -> bool {
     match bench.symbol(place) {
         Some(symbol) => {
@@ -112,6 +126,7 @@ pub(crate) fn sees(bench: &Bench, look: Look) -> bool {
         Look::Symbols(n) => bench.symbols() == n,
         Look::Symbol(place, name, value, kind) => sees_symbol(bench, place, name, value, kind),
         Look::Task(who, look) => sees_task(bench, who, look),
+        Look::Priorities(first, priorities) => sees_priorities(bench, first, priorities),
         Look::Device(slot, is) => bench.has_device(slot) == is,
         Look::Pending(slot, count) => bench.pending(slot) == Some(count),
     }

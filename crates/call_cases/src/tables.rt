@@ -26,6 +26,7 @@ macro_rules! wait {
 mod blocks;
 mod devices;
 mod files;
+mod mutexes;
 mod opening;
 mod routines;
 mod semaphores;
@@ -92,13 +93,14 @@ const RAM_END: u32 = 0x0100_0000;
 const FIRST: u32 = 0x1_5e20;
 
 // The tables, by what they are about.
-pub(crate) const GROUPS: [&[Table]; 11] = [
+pub(crate) const GROUPS: [&[Table]; 12] = [
     &opening::TABLES,
     &tasks::TABLES,
     &spawns::TABLES,
     &blocks::TABLES,
     &symbols::TABLES,
     &semaphores::TABLES,
+    &mutexes::TABLES,
     &watchdogs::TABLES,
     &routines::TABLES,
     &texts::TABLES,

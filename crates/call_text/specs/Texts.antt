@@ -5,6 +5,9 @@ use Rattle.std.specs.Fmt.{signed_decimal, digits}
 use Rattle.std.specs.Int.{cast_signed, w32}
 use Rattle.wind_base.specs.Errno.{errno_name}
 use Rattle.wind_base.specs.Gates.{rules_of}
+use Rattle.wind_base.specs.Limits.{ok_word}
+use Rattle.wind_base.specs.declared.errno.Errno.{Errno}
+use Rattle.wind_base.specs.declared.errno.Errno.TheVariants as errors
 use Rattle.wind_base.specs.declared.gate.Gate.{Gate}
 use Rattle.wind_base.specs.declared.gate.Gate.TheVariants as gates
 use Rattle.kernel_world.specs.CallWords.{gate_of}
@@ -129,10 +132,15 @@ result_word g v = Number v
 abbrev pub result_text : Gate → ℕ → List ℕ
 result_text g v = codes " = " ++ word_text (result_word g v)
 
+-- the result of a refused call: 0 if nothing is loaded, otherwise the word of the gate
+abbrev pub refused_result : Gate → Errno → ℕ
+refused_result g errors.LoadFailed = ok_word
+refused_result g e = (rules_of g).refusal
+
 -- the text of a reply: the result; the result and the error's name if the call is refused; that the caller waits or has
 -- ended
 unfoldable pub reply_text : Gate → Reply → List ℕ
 reply_text g (Answer v) = result_text g v
-reply_text g (Refusal e) = result_text g (rules_of g).refusal ++ codes " " ++ errno_name e
+reply_text g (Refusal e) = result_text g (refused_result g e) ++ codes " " ++ errno_name e
 reply_text g Later = codes " waits"
 reply_text g Gone = codes " ends its caller"

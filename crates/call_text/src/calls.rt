@@ -1,6 +1,6 @@
 //! The text of a call.
 
-ghost use Rattle.std.specs.Prelude.{◌≡◌, ◌≤◌, ◌+◌, ◌++◌, ◌∷◌, [], length, map};
+ghost use Rattle.std.specs.Prelude.{◌≡◌, ◌≤◌, ◌+◌, ◌++◌, [], length, map};
 ghost use Rattle.wind_base.specs.Gates.{rules_of};
 ghost use Rattle.wind_base.specs.OutBuf.{Added};
 ghost use Rattle.call_text.specs.Texts.{call_text, most_call_text, name_text, printf_words as printf_words_lem, task_arguments, words_of as words_of_lem};
@@ -11,7 +11,7 @@ use crate::word::{Word, add_list};
 use arrayvec::ArrayVec;
 use kernel_world::Call;
 use wind_base::text::add;
-use wind_base::{Gate, OutBuf};
+use wind_base::{Gate, OutBuf, gate_table};
 
 /// The text of a call has at most this many bytes.
 pub const CALL_TEXT_BYTES: u32 = 256;
@@ -62,133 +62,43 @@ fn printf_words(format: u32, values: [u32; 7]) -> Words
     all
 }
 
-// The words of a call; one line for each call.
+// The words of these arguments, each in its form.
+macro_rules! shown {
+    ([] $format:ident: Hex, $values:ident: Seven,) => {
+        printf_words($format, $values)
+    };
+    ([$($first:tt)*] $arguments:ident: Ten,) => {
+        words_with(&[$($first)*], $arguments)
+    };
+    ([$($first:tt)*] $arguments:ident: Nine,) => {
+        words_with(&[$($first)*], $arguments)
+    };
+    ([$($first:tt)*] $field:ident: $form:ident, $($left:tt)*) => {
+        shown!([$($first)* $form($field),] $($left)*)
+    };
+    ([$($all:tt)*]) => {
+        words(&[$($all)*])
+    };
+}
+
+// The words of each call, from its arguments.
+macro_rules! all_words {
+    (($called:ident)
+        $($back:literal $return:ident;)* =>
+        $($number:literal $call:ident $name:literal ($($field:ident: $form:ident),*)
+            $callers:ident $refusal:ident $memory:literal;)*
+    ) => {
+        match *$called {
+            $(Call::$call { $($field,)* .. } => shown!([] $($field: $form,)*),)*
+        }
+    };
+}
+
+// The words of a call.
 fn words_of(call: &Call) -> Words
     ensures { result.items ≡ words_of_lem call.now }
 {
-    match *call {
-        Call::TaskSpawn {
-            name,
-            priority,
-            options,
-            stack_size,
-            entry,
-            arguments,
-        } => words_with(
-            &[
-                Hex(name),
-                Number(priority),
-                Number(options),
-                Number(stack_size),
-                Hex(entry),
-            ],
-            arguments,
-        ),
-        Call::Sp { entry, arguments } => words_with(&[Hex(entry)], arguments),
-        Call::TaskDelete { id } => words(&[Number(id)]),
-        Call::TaskSuspend { id } => words(&[Number(id)]),
-        Call::TaskResume { id } => words(&[Number(id)]),
-        Call::TaskPrioritySet { id, priority } => words(&[Number(id), Number(priority)]),
-        Call::TaskPriorityGet { id, address } => words(&[Number(id), Hex(address)]),
-        Call::TaskDelay { ticks } => words(&[Number(ticks)]),
-        Call::TaskLock => words(&[]),
-        Call::TaskUnlock => words(&[]),
-        Call::TaskSafe => words(&[]),
-        Call::TaskUnsafe => words(&[]),
-        Call::TaskIdSelf => words(&[]),
-        Call::TaskIdVerify { id } => words(&[Number(id)]),
-        Call::TaskNameToId { name } => words(&[Hex(name)]),
-        Call::KernelTimeSlice { ticks } => words(&[Number(ticks)]),
-        Call::TickGet => words(&[]),
-        Call::SemBCreate { options, state } => words(&[Number(options), Number(state)]),
-        Call::SemCCreate { options, count } => words(&[Number(options), Number(count)]),
-        Call::SemMCreate { options } => words(&[Number(options)]),
-        Call::SemTake { id, timeout } => words(&[Number(id), Number(timeout)]),
-        Call::SemGive { id } => words(&[Number(id)]),
-        Call::SemFlush { id } => words(&[Number(id)]),
-        Call::SemDelete { id } => words(&[Number(id)]),
-        Call::MsgQCreate {
-            max_msgs,
-            max_length,
-            options,
-        } => words(&[Number(max_msgs), Number(max_length), Number(options)]),
-        Call::MsgQSend {
-            id,
-            buffer,
-            count,
-            timeout,
-            priority,
-        } => words(&[
-            Number(id),
-            Hex(buffer),
-            Number(count),
-            Number(timeout),
-            Number(priority),
-        ]),
-        Call::MsgQReceive {
-            id,
-            buffer,
-            count,
-            timeout,
-        } => words(&[Number(id), Hex(buffer), Number(count), Number(timeout)]),
-        Call::MsgQDelete { id } => words(&[Number(id)]),
-        Call::MsgQNumMsgs { id } => words(&[Number(id)]),
-        Call::WdCreate => words(&[]),
-        Call::WdStart {
-            id,
-            delay,
-            routine,
-            parameter,
-        } => words(&[Number(id), Number(delay), Hex(routine), Number(parameter)]),
-        Call::WdCancel { id } => words(&[Number(id)]),
-        Call::WdDelete { id } => words(&[Number(id)]),
-        Call::IntLock => words(&[]),
-        Call::IntUnlock { key } => words(&[Number(key)]),
-        Call::IntContext => words(&[]),
-        Call::Malloc { size } => words(&[Number(size)]),
-        Call::Free { address } => words(&[Hex(address)]),
-        Call::Memalign { align, size } => words(&[Number(align), Number(size)]),
-        Call::SymAdd {
-            table,
-            name,
-            value,
-            kind,
-            group,
-        } => words(&[
-            Number(table),
-            Hex(name),
-            Hex(value),
-            Number(kind),
-            Number(group),
-        ]),
-        Call::Printf { format, values, .. } => printf_words(format, values),
-        Call::ErrnoGet => words(&[]),
-        Call::ErrnoSet { number } => words(&[Hex(number)]),
-        Call::Ld {
-            symbols,
-            no_abort,
-            name,
-        } => words(&[Number(symbols), Number(no_abort), Hex(name)]),
-        Call::Unld { which, options } => words(&[Hex(which), Number(options)]),
-        Call::I => words(&[]),
-        Call::Lkup { text } => words(&[Hex(text)]),
-        Call::ModuleShow => words(&[]),
-        Call::D {
-            address,
-            units,
-            width,
-        } => words(&[Hex(address), Number(units), Number(width)]),
-        Call::IntConnect {
-            slot,
-            routine,
-            parameter,
-        } => words(&[Number(slot), Hex(routine), Number(parameter)]),
-        Call::IntDisconnect { slot, routine } => words(&[Number(slot), Hex(routine)]),
-        Call::IntEnable { slot } => words(&[Number(slot)]),
-        Call::IntDisable { slot } => words(&[Number(slot)]),
-        Call::IntPending { slot } => words(&[Number(slot)]),
-        Call::DevRemove { slot } => words(&[Number(slot)]),
-    }
+    gate_table!(all_words call)
 }
 
 // Adds the name of a gate's call: at most 16 bytes.

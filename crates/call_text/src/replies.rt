@@ -3,11 +3,12 @@
 ghost use Rattle.std.specs.Prelude.{◌≡◌, ◌≤◌, ◌++◌, codes};
 ghost use Rattle.wind_base.specs.Errno.{errno_name};
 ghost use Rattle.wind_base.specs.OutBuf.{Added};
-ghost use Rattle.call_text.specs.Texts.{most_reply_text, reply_text, result_text, result_word as result_word_lem};
+ghost use Rattle.call_text.specs.Texts.{most_reply_text, refused_result as refused_result_lem, reply_text, result_text, result_word as result_word_lem};
 
 use crate::word::{Word, add_word};
 use kernel_world::Reply;
 use wind_base::text::add;
+use wind_base::words::OK;
 use wind_base::{Errno, Gate, OutBuf};
 
 /// The text of a reply has at most this many bytes.
@@ -33,6 +34,16 @@ fn add_result(out: &mut OutBuf, gate: Gate, value: u32)
     add_word(out, result_word(gate, value));
 }
 
+// The result of a refused call: 0 if nothing is loaded, otherwise the word of the gate.
+fn refused_result(gate: Gate, errno: Errno) -> u32
+    ensures { result ≡ refused_result_lem gate errno }
+{
+    match errno {
+        Errno::LoadFailed => OK,
+        _ => gate.rules().refusal,
+    }
+}
+
 // Adds the name of an error after a blank: at most 19 bytes.
 fn add_error(out: &mut OutBuf, errno: Errno)
     requires { 19 ≤ out.old.room }
@@ -54,7 +65,7 @@ pub fn add_reply(out: &mut OutBuf, gate: Gate, reply: &Reply)
     match reply {
         Reply::Answer(value) => add_result(out, gate, *value),
         Reply::Refusal(errno) => {
-            add_result(out, gate, gate.rules().refusal);
+            add_result(out, gate, refused_result(gate, *errno));
             add_error(out, *errno);
         }
         Reply::Later => add(out, b" waits"),

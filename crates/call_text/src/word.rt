@@ -1,6 +1,6 @@
 //! Words of a call and their texts.
 
-ghost use Rattle.std.specs.Prelude.{◌≡◌, ◌≤◌, ◌*◌, length};
+ghost use Rattle.std.specs.Prelude.{◌≤◌, ◌*◌, length};
 ghost use Rattle.wind_base.specs.OutBuf.{Added};
 ghost use Rattle.call_text.specs.Texts.{list_text, more_text, word_text};
 

@@ -2,3 +2,4 @@ pub mod Endings
 pub mod Kept
 pub mod Effects
 pub mod Splitting
+pub mod Fates

@@ -3,3 +3,4 @@ pub mod Keys
 pub mod Lines
 pub mod Effect
 pub mod Laws
+pub mod Fates

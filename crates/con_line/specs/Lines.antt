@@ -1,6 +1,5 @@
 -- The finished lines, and their invariant.
-use Rattle.std.specs.Prelude.{◌≡◌, ◌≢◌, ℕ, ◌+◌, ◌≤◌, List, [], ◌∷◌, ◌++◌, Bool, true, ◌==◌, ◌&&◌, not, nat_le}
-use Rattle.std.specs.Prelude.{if◌then◌else◌, All, take, drop, length}
+use Rattle.std.specs.Prelude.{◌≡◌, ◌≢◌, ℕ, ◌+◌, ◌≤◌, List, [], ◌∷◌, ◌++◌, Bool, true, ◌==◌, ◌&&◌, not, nat_le, if◌then◌else◌, All, take, drop, length}
 use Rattle.wind_base.specs.Limits.{longest_line, most_kept_bytes}
 use Rattle.wind_base.specs.Lines.{line_length}
 use Rattle.con_line.specs.State.{ConsoleState}

@@ -5,8 +5,7 @@ ghost use Rattle.wind_base.specs.Limits.{longest_line};
 ghost use Rattle.wind_base.specs.OutBuf.{Added};
 ghost use Rattle.con_line.specs.declared.console.ByteDone.TheVariants as done;
 ghost use Rattle.con_line.specs.State.{console_of, opening_console};
-ghost use Rattle.con_line.specs.Keys.{after_key, after_byte, echo_of, byte_echo, done_by, byte_done};
-ghost use Rattle.con_line.specs.Keys.{erased, erase_echo, typed, type_echo};
+ghost use Rattle.con_line.specs.Keys.{after_key, after_byte, echo_of, byte_echo, done_by, byte_done, erased, erase_echo, typed, type_echo};
 ghost use Rattle.con_line.specs.Lines.{KeepsLines, is_kept, with_kept, laid_in, first_line as first_line_of, line_dropped, has_line as has_line_lem};
 ghost use Rattle.con_line.specs.Effect.{Leaves};
 

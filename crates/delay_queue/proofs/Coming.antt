@@ -4,9 +4,9 @@ use Rattle.std.specs.List.{All}
 use Rattle.std.proofs.lemmas.Bool.{leb-true, leb-false}
 use Rattle.std.proofs.lemmas.List.Elements.{All-cons, All-append, All-weaker}
 use Rattle.std.proofs.lemmas.Option.{same_Some}
-use Rattle.wind_lists.specs.Sorting.{first}
-use Rattle.wind_lists.specs.Arrivals.{after_changes, arrivals}
-use Rattle.wind_lists.proofs.Arrivals.{first_earliest, none_after}
+use Rattle.linked_lists.specs.IdTableSorting.{first}
+use Rattle.linked_lists.specs.IdTableArrivals.{after_changes, arrivals}
+use Rattle.linked_lists.proofs.IdTableArrivals.{first_earliest, none_after}
 use Rattle.delay_queue.specs.Wakes.{task_id, task_wake, due_at}
 use Rattle.delay_queue.specs.Laws.{DueLaw, NobodyLaw}
 

@@ -7,8 +7,8 @@ use Rattle.std.proofs.lemmas.Bool.{eq-eqb, le-leb, lt-leb}
 use Rattle.std.proofs.lemmas.List.{append-nil, length-append}
 use Rattle.std.proofs.lemmas.List.Elements.{All-cons, All-head, All-tail}
 use Rattle.std.proofs.lemmas.Option.{same_Some}
-use Rattle.wind_lists.specs.Records.{of_id, without}
-use Rattle.wind_lists.proofs.Places.{none_without, not_there, gone}
+use Rattle.linked_lists.specs.IdTableRecords.{of_id, without}
+use Rattle.linked_lists.proofs.IdTablePlaces.{none_without, not_there, gone}
 use Rattle.linked_lists.specs.Chains.{Chains, cell_key, all_cells, chain_at, first_key, first_value, is_key, put_before, value_in, value_of, with_cell, without_cell, hold, NextIs, Apart}
 use Rattle.linked_lists.proofs.Links.{Absent, absent_cons, absent_append, apart_middle, apart_back, apart_insert, apart_remove, without_middle}
 use Rattle.linked_lists.proofs.Keeping.{found_list, value_there}
@@ -81,9 +81,6 @@ pub record Passed (c : Cells) (wake : ℕ) (next : Option ℕ) (left passed : �
   pub next_is : next ≡ first_key back
   pub sum : total prefix + left ≡ wake
   pub count : length prefix ≡ passed
-
-pub none_passed : (c : Cells) (wake : ℕ) → Passed c wake (first_key c) wake 0
-none_passed c wake = record { prefix = []; back = c; whole = refl; next_is = refl; sum = omega arith; count = refl }
 
 -- ---- a task is added
 -- the list with a smaller or greater gap before its first task

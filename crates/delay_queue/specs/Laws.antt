@@ -1,7 +1,7 @@
 -- What follows from the order of wakes alone.
 use Rattle.std.specs.Prelude.{◌≡◌, ℕ, ◌<◌, ◌≤◌, List, None, Some}
 use Rattle.std.specs.List.{All}
-use Rattle.wind_lists.specs.Arrivals.{ArrivalLaw, Change, IsEarliest, after_changes, arrivals}
+use Rattle.linked_lists.specs.IdTableArrivals.{ArrivalLaw, Change, IsEarliest, after_changes, arrivals}
 use Rattle.delay_queue.specs.Wakes.{task_id, task_wake, due_at}
 
 -- the tasks are always those that came and didn't go, by their wakes, and those of one wake in order of arrival

@@ -2,7 +2,7 @@
 -- and the greatest number of them.
 use Rattle.std.specs.Prelude.{ℕ, nat_le, if◌then◌else◌, List, [], ◌∷◌, Option, None, Some}
 use Rattle.linked_lists.specs.IdTableRows as rows
-use Rattle.wind_lists.specs.Arrivals.{put_after}
+use Rattle.linked_lists.specs.IdTableArrivals.{put_after}
 
 -- the tasks, each as its id and the tick at which it is due, and the room
 pub record Order : Type 0 where

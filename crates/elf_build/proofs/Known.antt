@@ -20,8 +20,7 @@ use Rattle.elf_build.proofs.TableLemmas.{flat_tables, are_tables}
 use Rattle.elf_build.proofs.Stands.{Stands, stands_whole, stands_suffix, part_is}
 use Rattle.elf_build.proofs.EntryLemmas.{HeaderFits, header_is, length_symbol}
 use Rattle.elf_build.proofs.Spread.{Parts, Headers, headers_place, headers_count, names_number}
-use Rattle.elf_build.proofs.Names.{below}
-use Rattle.elf_build.proofs.Names.{then_branch}
+use Rattle.elf_build.proofs.Names.{below, then_branch}
 use Rattle.elf_build.proofs.Sections.{SectAt, AllAt, sects_are, at_number}
 use Rattle.elf_build.proofs.Symbols.{Loads, SymAt, syms_are}
 use Rattle.elf_build.proofs.Relocs.{TableAt, tables_are}

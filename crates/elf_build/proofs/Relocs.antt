@@ -17,9 +17,8 @@ use Rattle.elf_read.specs.Rules.{has_content, content_rule, is_right_relocation,
 use Rattle.elf_read.specs.Tables.{header, header_offset, is_loaded, loaded_before, is_elsewhere, is_applied, rela_count, rela_offset, relocation, symbol, symbol_count, symtab, has_symtab, width}
 use Rattle.elf_read.specs.Contents.{rel_of, rels_at}
 use Rattle.elf_build.specs.Entries.{header_bytes, rel_entry, kind_of}
-use Rattle.elf_read.specs.Modules.{size_of}
+use Rattle.elf_read.specs.Modules.{size_of, HoldsBytes}
 use Rattle.elf_build.specs.File.{RelocTable, rel_bytes, table_header, table_headers}
-use Rattle.elf_read.specs.Modules.{HoldsBytes}
 use Rattle.elf_build.proofs.Good.{GoodRel}
 use Rattle.elf_build.proofs.TableLemmas.{relocs_in, IsRelocTable}
 use Rattle.elf_build.proofs.Stands.{Stands, stands_prefix, stands_suffix}

@@ -15,9 +15,8 @@ use Rattle.elf_read.specs.Rules.{has_content, content_rule, name_rule, is_loadab
 use Rattle.elf_read.specs.Tables.{header, header_offset, content, is_loaded, has_name, section_names}
 use Rattle.elf_read.specs.Contents.{name_at, sect_of, sects_at}
 use Rattle.elf_build.specs.Entries.{header_bytes, sect_header, kind_of, content_of, ended}
-use Rattle.elf_read.specs.Modules.{size_of}
+use Rattle.elf_read.specs.Modules.{size_of, IsName}
 use Rattle.elf_build.specs.File.{sect_headers, sect_name, sect_content}
-use Rattle.elf_read.specs.Modules.{IsName}
 use Rattle.elf_build.proofs.Good.{GoodSect}
 use Rattle.elf_read.proofs.AlignmentLemmas.{alignment_between}
 use Rattle.elf_build.proofs.Stands.{Stands, stands_prefix, stands_suffix, part_is}

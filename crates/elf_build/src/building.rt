@@ -1,6 +1,6 @@
 //! The object file of a module.
 
-ghost use Rattle.std.specs.Prelude.{◌≡◌, ◌+◌, ◌*◌, ◌++◌, ◌^◌, ◌<◌, ◌≤◌, [], length, IfOk};
+ghost use Rattle.std.specs.Prelude.{◌≡◌, ◌+◌, ◌++◌, ◌^◌, ◌<◌, [], length, IfOk};
 ghost use Rattle.elf_read.specs.Contents.{ModuleOf};
 ghost use Rattle.elf_build.specs.Buildable.{Buildable};
 ghost use Rattle.elf_build.specs.File.{headers_of, file_of};

@@ -1,12 +1,10 @@
 //! Whether a module has a file.
 
-ghost use Rattle.std.specs.Prelude.{◌≡◌, ◌≢◌, ◌+◌, ◌*◌, ◌<◌, ◌≤◌, ◌^◌, ◌↔◌, IsTrue, length};
+ghost use Rattle.std.specs.Prelude.{◌≡◌, ◌+◌, ◌*◌, ◌<◌, ◌↔◌, IsTrue};
 ghost use Rattle.std.specs.List.{All};
-ghost use Rattle.wind_base.specs.Limits.{most_section_headers, most_symbol_entries, most_relocations, most_section_bytes};
 ghost use Rattle.elf_read.specs.declared.module.SymPlace.TheVariants.{Elsewhere};
-ghost use Rattle.elf_read.specs.Modules.{IsName, IsSect, IsPlaced, IsSym, HoldsBytes, size_of as size_of_body};
-ghost use Rattle.elf_build.specs.Buildable.{Buildable, IsHere, Rises};
-ghost use Rattle.elf_build.specs.File.{file_of};
+ghost use Rattle.elf_read.specs.Modules.{IsName, HoldsBytes, size_of as size_of_body};
+ghost use Rattle.elf_build.specs.Buildable.{Buildable, Rises};
 ghost use Rattle.elf_build.specs.Judging.{IsBuildableSect, IsBuildableSym, IsBuildableRel, IsBuildablePlace, IsSmall, HasBuildableParts};
 
 use crate::groups::table_count;

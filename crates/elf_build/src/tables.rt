@@ -1,11 +1,10 @@
 //! Appends contents, names, symbols and relocations.
 
-ghost use Rattle.std.specs.Prelude.{◌≡◌, ◌+◌, ◌*◌, ◌++◌, ◌^◌, ◌<◌, ◌≤◌, length, IfOk};
+ghost use Rattle.std.specs.Prelude.{◌≡◌, ◌+◌, ◌*◌, ◌++◌, ◌<◌, length, IfOk};
 ghost use Rattle.std.specs.List.{All, flat_map};
 ghost use Rattle.wind_base.specs.Limits.{most_symbol_entries};
-ghost use Rattle.elf_read.specs.Standard.{stb_weak, stt_common};
 ghost use Rattle.elf_build.specs.Entries.{ended, content_of as content_of_body, number_of as number_of_place, sym_entry as sym_entry_of, rel_entry as rel_entry_of};
-ghost use Rattle.elf_build.specs.File.{fixed_names, names_of, strings_of, sect_content, contents_of, symbols_from, symbols_of, rel_bytes, relocs_of};
+ghost use Rattle.elf_build.specs.File.{fixed_names, names_of, strings_of, contents_of, symbols_from, symbols_of, relocs_of};
 ghost use Rattle.elf_build.specs.Writable.{HasNumber, HasEntry, HasNumbers};
 
 use crate::named::Named;

@@ -8,9 +8,6 @@ use Rattle.elf_read.specs.Numbered.{gathered, total, first_from}
 pub gathered_more : {X : Type 0} (i n : ℕ) (f : ℕ → List X) → i < n → gathered i (n - i) f ≡ f i ++ gathered (i + 1) (n - (i + 1)) f
 gathered_more i n f h = let e : n - i ≡ suc (n - (i + 1)) = omega arith in ap (λ k. gathered i k f) e
 
-pub gathered_none : {X : Type 0} (i n : ℕ) (f : ℕ → List X) → n ≡ i → gathered i (n - i) f ≡ []
-gathered_none i n f h = let e : n - i ≡ 0 = omega arith in ap (λ k. gathered i k f) e
-
 pub total_more : (i : ℕ) (f : ℕ → ℕ) → total (i + 1) f ≡ total i f + f i
 total_more i f = let e : i + 1 ≡ suc i = omega arith in ap (λ k. total k f) e
 

@@ -1,7 +1,7 @@
 //! Numbers, pieces and entries at offsets of a file. Numbers after the end of the file are 0, and
 //! pieces are empty.
 
-ghost use Rattle.std.specs.Prelude.{◌≡◌, ◌+◌, ◌*◌, ◌≤◌, ◌<◌, ◌^◌, length, slice_index, drop};
+ghost use Rattle.std.specs.Prelude.{◌≡◌, ◌+◌, ◌*◌, ◌<◌, ◌^◌, slice_index, drop};
 ghost use Rattle.elf_read.specs.Places.{half as half_at, word as word_at, part as part_at, header_at, symbol_at, rela_at, text_of};
 
 use crate::entries::{RelaEntry, SectionHeader, SymbolEntry};

@@ -1,10 +1,9 @@
 //! Reads the module of an accepted file.
 
-ghost use Rattle.std.specs.Prelude.{◌≡◌, ◌+◌, ◌-◌, ◌*◌, ◌≤◌, ◌<◌, ◌^◌, ◌++◌, length, drop, map, IfOk, IfErr, IsTrue, [], Ok};
+ghost use Rattle.std.specs.Prelude.{◌≡◌, ◌+◌, ◌-◌, ◌<◌, ◌^◌, ◌++◌, IfOk, IfErr, IsTrue, Ok};
 ghost use Rattle.elf_read.specs.Contents.{name_at, body_of as body_at, sect_of as sect_at, place_of as place_at, sym_of as sym_at, syms_at, sects_at, rel_of as rel_at, rels_at, module_at, ModuleOf, FailsRightly};
 ghost use Rattle.elf_read.specs.Numbered.{gathered};
 ghost use Rattle.elf_read.specs.Modules.{IsModule};
-ghost use Rattle.elf_read.specs.Rules.{checked};
 ghost use Rattle.elf_read.specs.Tables.{header_count as header_count_of, header as header_at, is_applied as is_applied_at, loaded_before, section_numbers as section_numbers_of, section_names as section_names_of, symtab as symtab_of, symbol_count as symbol_count_of, symbol_names as symbol_names_of};
 
 use crate::checking::check;

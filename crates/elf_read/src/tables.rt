@@ -1,6 +1,6 @@
 //! The tables of a file.
 
-ghost use Rattle.std.specs.Prelude.{◌≡◌, ◌+◌, ◌*◌, ◌%◌, ◌≤◌, ◌<◌, ◌^◌, ◌&&◌, ◌==◌, length};
+ghost use Rattle.std.specs.Prelude.{◌≡◌, ◌+◌, ◌*◌, ◌%◌, ◌≤◌, ◌<◌, ◌^◌, ◌&&◌, ◌==◌};
 ghost use Rattle.elf_read.specs.Standard.{half_types, word_types};
 ghost use Rattle.elf_read.specs.Tables.{header_count as header_count_of, header_offset as header_place_of, header as header_at, content as content_at, is_loaded as is_loaded_at, is_elsewhere as is_elsewhere_at, has_name as has_name_at, has_number as has_number_of, section_names as section_names_of, is_symtab as is_symtab_at, symtab as symtab_of, symbol_count as symbol_count_of, symbol_offset as symbol_place_of, symbol as symbol_at, symbol_names as symbol_names_of, is_applied as is_applied_at, rela_count as rela_count_at, rela_offset as rela_place_of, relocation as relocation_at, width as width_of};
 

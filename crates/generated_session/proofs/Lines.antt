@@ -10,7 +10,7 @@ use Rattle.tick_file.specs.declared.event.Rule.TheVariants.{Every}
 use Rattle.tick_file.specs.declared.event.Said.TheVariants.{Says}
 use Rattle.tick_file.specs.Grammar.{said}
 use Rattle.tick_file.specs.Forms.{GrammarLaw, IsLineOf}
-use Rattle.text_lines.specs.Lines.{pieces, onto_first}
+use Rattle.source_text.specs.Lines.{pieces, onto_first}
 use Rattle.tick_file.specs.Lines.{lines_of, bad_from, bad_or, tick_lines, first_bad_line}
 use Rattle.tick_file.proofs.Writing.{decimal_digits, number}
 use Rattle.generated_session.specs.Session.{most_rounds, generated_ticks}

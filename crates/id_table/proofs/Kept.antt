@@ -12,8 +12,8 @@ use Rattle.std.proofs.lemmas.Option.{same_Some}
 use Rattle.slab.proofs.SlabLemmas.{Updates-with_value}
 use Rattle.slab.specs.Slab.{Slab, get, slab_len, with_value, Updates}
 use Rattle.id_table.specs.declared.entry.Entry.{Entry}
-use Rattle.wind_lists.specs.Records.{of_id, Rising, StandsAt}
-use Rattle.wind_lists.proofs.Halving.{none_of}
+use Rattle.id_table.specs.Records.{of_id, Rising, StandsAt}
+use Rattle.id_table.proofs.Halving.{none_of}
 use Rattle.id_table.specs.Rows.{Rows, IsId, IsTable, Rises, row_id, row_object, ids, next_above, objects, object_of, with_object, without, IdsBelow}
 use Rattle.id_table.specs.Entries.{entry_id}
 use Rattle.id_table.specs.Inside.{row_at, rows_in, IsKept}

@@ -4,8 +4,8 @@ use Rattle.std.specs.List.{All}
 use Rattle.std.specs.Option.{option_map}
 use Rattle.std.proofs.lemmas.Bool.{eqb-true}
 use Rattle.std.proofs.lemmas.List.Elements.{All-contains, All-cons, All-head, All-tail}
-use Rattle.wind_lists.specs.Records.{of_id}
-use Rattle.wind_lists.proofs.Records.{found_id, found_at}
+use Rattle.id_table.specs.Records.{of_id}
+use Rattle.id_table.proofs.Records.{found_id, found_at}
 use Rattle.id_table.specs.Rows.{Rows, IsId, IsTable, IdsBelow, row_id, row_object, object_of, with_object, without}
 use Rattle.id_table.proofs.Kept.{object_of-cons}
 

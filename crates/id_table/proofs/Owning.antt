@@ -5,9 +5,9 @@ use Rattle.std.specs.Option.{option_map}
 use Rattle.std.specs.Cmp.{IsStrictWeakOrder}
 use Rattle.std.proofs.lemmas.Bool.{eqb-true}
 use Rattle.std.proofs.lemmas.List.{length-map}
-use Rattle.wind_lists.specs.Records.{of_id, replace, without}
-use Rattle.wind_lists.specs.Sorting.{pick, first, in_line}
-use Rattle.wind_lists.proofs.Sorting.{first-sorted_more}
+use Rattle.id_table.specs.Records.{of_id, replace, without}
+use Rattle.id_table.specs.Sorting.{pick, first, in_line}
+use Rattle.id_table.proofs.Sorting.{first-sorted_more}
 use Rattle.id_table.specs.Rows.{object_of, objects, with_object, next_above}
 use Rattle.id_table.specs.Rows as table
 use Rattle.id_table.proofs.Kept.{object_of-cons}

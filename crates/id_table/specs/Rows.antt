@@ -6,7 +6,7 @@ use Rattle.std.specs.Coded.{Coded, code_by, coded×, coded_ℕ, coded_list}
 use Rattle.wind_base.specs.Limits.{greatest_id}
 use Rattle.wind_base.specs.declared.errno.Errno.{Errno}
 use Rattle.wind_base.specs.declared.errno.Errno.TheVariants as errors
-use Rattle.wind_lists.specs.Records as records
+use Rattle.id_table.specs.Records as records
 
 -- the ids with their objects, and the room
 pub record Rows (T : Type 0) : Type 0 where

@@ -3,7 +3,7 @@
 ghost use Rattle.std.specs.Prelude.{◌≡◌, ◌≤◌, length, map, nat_lt, true, false, None, MatchOption};
 ghost use Rattle.std.specs.List.{find};
 ghost use Rattle.std.specs.List.Sorted.{IsPartitionPoint};
-ghost use Rattle.wind_lists.specs.Records.{of_id, Rising, StandsAt};
+ghost use Rattle.id_table.specs.Records.{of_id, Rising, StandsAt};
 ghost use Rattle.id_table.specs.Entries.{entry_id};
 
 use crate::ident::Ident;

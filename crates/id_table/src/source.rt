@@ -17,7 +17,7 @@ pub struct IdSource {
 }
 
 impl Model for IdSource {
-    ghost use Rattle.std.specs.Prelude.{ℕ, ◌<◌, ◌≤◌, ◌+◌};
+    ghost use Rattle.std.specs.Prelude.{◌<◌, ◌≤◌, ◌+◌};
     ghost use Rattle.wind_base.specs.Limits.{greatest_id};
     ghost use Rattle.id_table.specs.Source.{Ids};
 

@@ -1,6 +1,6 @@
 //! Tables of objects by id.
 
-ghost use Rattle.std.specs.Prelude.{◌≡◌, ◌<◌, ◌≤◌, ◌+◌, [], false, length, IfOk, IfErr, IsOk, ◌↔◌, None, Some, IsSome, MatchOption, is_some, option_copied, slice_index_or};
+ghost use Rattle.std.specs.Prelude.{◌≡◌, ◌<◌, ◌≤◌, [], false, length, IfOk, IfErr, IsOk, ◌↔◌, None, Some, IsSome, MatchOption, is_some, option_copied, slice_index_or};
 ghost use Rattle.std.specs.Option.{option_copied_mut};
 ghost use Rattle.std.specs.Borrow.{sem};
 ghost use Rattle.wind_base.specs.Limits.{greatest_id};

@@ -1,12 +1,12 @@
 -- Exact priorities: each task has the most urgent priority that it or a task that reaches it passes on.
-use Rattle.std.proofs.Common.{◌≡◌, ℕ, zero, suc, ◌≤◌, true, cond, List, map, get_or, Option, Some, is_some, sym, ap, ◌∙◌, subst, arith, ⊎_elim}
+use Rattle.std.proofs.Common.{◌≡◌, ℕ, zero, suc, true, cond, List, map, get_or, Option, Some, is_some, sym, ap, ◌∙◌, subst, arith, ⊎_elim}
 use Rattle.std.specs.List.{filter, All, Contains}
 use Rattle.std.proofs.lemmas.List.Elements.{Contains-get_or}
 use Rattle.wind_base.specs.declared.profile.Profile.{Profile}
 use Rattle.wind_base.specs.declared.profile.Profile.TheVariants.{One, Two}
 use Rattle.task_block.specs.declared.task.Task.{Task}
-use Rattle.wind_lists.specs.Records.{Rising}
-use Rattle.wind_lists.proofs.Records.{found_in}
+use Rattle.id_table.specs.Records.{Rising}
+use Rattle.id_table.proofs.Records.{found_in}
 use Rattle.wind_core.specs.State.{KernState, IsKern, task_id, task_of}
 use Rattle.wind_core.proofs.Ids.{ids, lives_by}
 use Rattle.inheritance.specs.declared.mutex.Mutex.{Mutex}

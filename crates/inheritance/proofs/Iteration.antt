@@ -1,6 +1,6 @@
 -- Tasks get their goals in order of id.
-use Rattle.std.proofs.Common.{◌≡◌, ℕ, ◌+◌, ◌<◌, ◌≤◌, true, false, cond, List, take, length, get_or, IsSome, refl, sym, ap, ◌∙◌, subst, arith}
-use Rattle.std.proofs.lemmas.List.{length-map, get_or-map, take_all}
+use Rattle.std.proofs.Common.{◌≡◌, ℕ, ◌+◌, ◌<◌, true, false, cond, List, take, length, get_or, IsSome, refl, sym, ap, ◌∙◌, subst, arith}
+use Rattle.std.proofs.lemmas.List.{length-map, get_or-map}
 use Rattle.std.proofs.lemmas.List.Sums.{fold_more}
 use Rattle.task_block.specs.declared.task.Task.{Task}
 use Rattle.wind_core.specs.State.{KernState, task_id, task_of}
@@ -34,6 +34,3 @@ one_more k r goals i t pri alike h place is goal are same =
     ∙ ap (λ n. change_pri r n (goal (get_or k.tasks i t).id)) id
     ∙ ap (λ q. change_pri q (get_or k.tasks i t).id (goal (get_or k.tasks i t).id)) same
     ∙ sym (fold_more (λ q v. change_pri q v.id (goal v.id)) k k.tasks i t h)
-
-pub all_goals : (k r : KernState) (i : ℕ) (goal : ℕ → ℕ) → length k.tasks ≤ i → r ≡ repried k goal (take i k.tasks) → r ≡ repried k goal k.tasks
-all_goals k r i goal long e = e ∙ ap (repried k goal) (take_all i k.tasks long)

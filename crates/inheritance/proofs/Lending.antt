@@ -9,8 +9,8 @@ use Rattle.std.proofs.lemmas.List.Elements.{filter_more, All-contains}
 use Rattle.wind_base.specs.declared.profile.Profile.TheVariants.{Two}
 use Rattle.id_table.specs.declared.ident.Place.{Place}
 use Rattle.task_block.specs.declared.task.Task.{Task}
-use Rattle.wind_lists.specs.Records.{Rising, StandsAt}
-use Rattle.wind_lists.proofs.Records.{found_place, found_id, found_at}
+use Rattle.id_table.specs.Records.{Rising, StandsAt}
+use Rattle.id_table.proofs.Records.{found_place, found_id, found_at}
 use Rattle.wind_core.specs.State.{KernState, IsKern, task_id, task_of}
 use Rattle.wind_core.proofs.Ids.{ids}
 use Rattle.inheritance.specs.declared.mutex.Mutex.{Mutex}

@@ -24,11 +24,6 @@ place_on (y ∷ ys) x h =
       | false ↦ λ e q. let ih = place_on ys x q in (suc ih.0, omega (arith, ih.1), ih.2)
     ] refl h
 
-pub on_at : (ids : List ℕ) (k v : ℕ) → k < length ids → get_or ids k v ≡ v → is_on ids v ≡ true
-on_at [] k v hk e = absurd (omega arith)
-on_at (y ∷ ys) zero v hk e = ap (λ b. b || is_on ys v) (eq-eqb y v e)
-on_at (y ∷ ys) (suc k) v hk e = let ih = on_at ys k v (omega arith) e in elim (eqb y v) as (λ b. (b || is_on ys v) ≡ true) [ true ↦ refl | false ↦ ih ]
-
 pub each_lives : (ts : List Task) (k : ℕ) (d : Task) → k < length ts → is_some (task_of ts (get_or ts k d).id) ≡ true
 each_lives [] k d hk = absurd (omega arith)
 each_lives (t ∷ ts) zero d hk = ap (λ b. is_some (cond b (Some t) (task_of ts t.id))) (eq-eqb t.id t.id refl)

@@ -33,17 +33,6 @@ walk_ends ms p n i r at h e = ap (λ m. walked ms p m r at) (left n i h) ∙ ap 
 pub walk_goes_on : (ms : List (ℕ × Mutex)) (p n i : ℕ) (r : KernState) (at x : ℕ) → i < n → heir r.tasks ms p at ≡ Some x → walked ms p (n - i) r at ≡ walked ms p (n - (i + 1)) (change_pri r x p) x
 walk_goes_on ms p n i r at x h e = ap (λ m. walked ms p m r at) (left n i h) ∙ ap (λ o. elim o [ None ↦ r | Some y ↦ walked ms p (n - (i + 1)) (change_pri r y p) y ]) e
 
--- an heir is a live owner
-pub heir_lives : (ts : List Task) (ms : List (ℕ × Mutex)) (p y x : ℕ) → heir ts ms p y ≡ Some x → is_some (task_of ts x) ≡ true
-heir_lives ts ms p y x =
-    elim (boss ts ms y) as (λ o. boss ts ms y ≡ o → heir_of ts p o ≡ Some x → is_some (task_of ts x) ≡ true) [
-      | None ↦ λ e h. absurd (cc)
-      | Some v ↦ λ e. elim (ltb p (pri_of ts v)) as (λ b. cond b (Some v) None ≡ Some x → is_some (task_of ts x) ≡ true) [
-        | true ↦ λ h. (boss_lives ts ms y x (e ∙ h)).1
-        | false ↦ λ h. absurd (cc)
-      ]
-    ] refl
-
 -- ---- the end of a path
 abbrev end_of : (ℕ → Option ℕ) → ℕ → ℕ → ℕ
 end_of up zero y = y

@@ -3,9 +3,9 @@ use Rattle.std.proofs.Common.{◌≡◌, ℕ, ◌+◌, ◌<◌, ◌≤◌, List,
 use Rattle.std.proofs.lemmas.Bool.{cases_eq, cases_lt}
 use Rattle.std.proofs.lemmas.List.{get_or_default}
 use Rattle.task_block.specs.declared.task.Task.{Task}
-use Rattle.wind_lists.specs.Records.{Rising, StandsAt}
-use Rattle.wind_lists.proofs.Records.{found_id, found_at}
-use Rattle.wind_lists.proofs.Halving.{rising_ids}
+use Rattle.id_table.specs.Records.{Rising, StandsAt}
+use Rattle.id_table.proofs.Records.{found_id, found_at}
+use Rattle.id_table.proofs.Halving.{rising_ids}
 use Rattle.wind_core.specs.State.{task_id, task_of}
 use Rattle.inheritance.proofs.Lookups.{live_is}
 

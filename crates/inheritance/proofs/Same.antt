@@ -5,8 +5,8 @@ use Rattle.std.proofs.lemmas.Bool.{eq-eqb}
 use Rattle.std.proofs.lemmas.List.Elements.{All-contains, All-head, All-tail, Contains-get_or}
 use Rattle.wind_base.specs.declared.profile.Profile.TheVariants.{One}
 use Rattle.task_block.specs.declared.task.Task.{Task}
-use Rattle.wind_lists.specs.Records.{Rising}
-use Rattle.wind_lists.proofs.Records.{found_in, found_at, found_id}
+use Rattle.id_table.specs.Records.{Rising}
+use Rattle.id_table.proofs.Records.{found_in, found_at, found_id}
 use Rattle.wind_core.specs.State.{KernState, IsKern, task_id, task_of}
 use Rattle.wind_core.specs.Moves.{change_pri, has_pri, move_task, with_pri}
 use Rattle.wind_core.specs.Move.{ChangePri}

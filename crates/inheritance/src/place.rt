@@ -1,6 +1,6 @@
 //! Where a task is among the live tasks.
 
-ghost use Rattle.wind_lists.specs.Records.{StandsAt};
+ghost use Rattle.id_table.specs.Records.{StandsAt};
 ghost use Rattle.wind_core.specs.State.{Lives, task_id};
 
 use id_table::Ident;

@@ -2,7 +2,7 @@
 use Rattle.std.proofs.Common.{ℕ, ◌+◌, ◌<◌, ◌≤◌, true, false, not, cond, eqb, List, Option, None, Some, arith}
 use Rattle.std.specs.List.{All}
 use Rattle.std.proofs.lemmas.List.Elements.{All-filter, All-map, All-push, All-weaker}
-use Rattle.wind_lists.specs.Records.{change}
+use Rattle.id_table.specs.Records.{change}
 use Rattle.isr_watch.specs.declared.watchdog.Watchdog.{Watchdog}
 use Rattle.isr_watch.specs.declared.watchdog.Routine.{Routine}
 use Rattle.isr_watch.specs.State.{WatchState, watchdog_id, watchdog_of, is_due}
@@ -49,4 +49,5 @@ ids_stay n s all = record {
   ticking = λ tick top. due_below n tick s.watchdogs all;
   beginning = λ routines top. all;
   finishing = λ top. all;
+  returning = λ link. all;
 }

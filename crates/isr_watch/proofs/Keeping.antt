@@ -6,7 +6,7 @@ use Rattle.std.proofs.lemmas.List.{length-map, get_or-map, length_push}
 use Rattle.std.proofs.lemmas.List.Elements.{All-filter, All-head, All-tail, All-cons}
 use Rattle.std.proofs.lemmas.List.Kept.{AllPairs-cons}
 use Rattle.wind_base.specs.declared.errno.Errno.TheVariants as errors
-use Rattle.wind_lists.specs.Records.{Rising, change, without}
+use Rattle.id_table.specs.Records.{Rising, change, without}
 use Rattle.isr_watch.specs.declared.watchdog.Watchdog.{Watchdog}
 use Rattle.isr_watch.specs.declared.watchdog.Routine.{Routine}
 use Rattle.isr_watch.specs.State.{WatchState, IsWatch, watchdog_id, watchdog_of, is_due}
@@ -71,9 +71,9 @@ has_room live next =
     ] refl
 
 -- ---- the interrupt level
-idle_next : (top : ℕ) (listed : List Routine) → level_of top listed ≡ None → rest_of listed ≡ []
-idle_next top [] none = refl
-idle_next top (x ∷ xs) none = absurd (cc)
+idle_next : (top link : ℕ) (listed : List Routine) → level_of top link listed ≡ None → rest_of listed ≡ []
+idle_next top link [] none = refl
+idle_next top link (x ∷ xs) none = absurd (cc)
 
 module _ (n : ℕ) (s : WatchState) (is : IsWatch s) (below : AllBelow n s) where
   deleted_is : (id : ℕ) (o : Option Watchdog) → IsWatch (deleted s id o)
@@ -100,14 +100,14 @@ module _ (n : ℕ) (s : WatchState) (is : IsWatch s) (below : AllBelow n s) wher
   due_is tick top = record {
     few = omega (arith, is.few, length-map s.watchdogs (λ (v : Watchdog). cond (is_due tick v) (stopped v) v));
     rising = rising_due tick s.watchdogs is.rising;
-    idle = idle_next top _;
+    idle = idle_next top s.link _;
   }
 
   begun_is : (routines : List Routine) (top : ℕ) → IsWatch (begun s routines top)
-  begun_is routines top = record { few = is.few; rising = is.rising; idle = idle_next top (s.listed ++ routines) }
+  begun_is routines top = record { few = is.few; rising = is.rising; idle = idle_next top s.link (s.listed ++ routines) }
 
   finished_is : (top : ℕ) → IsWatch (finish s top)
-  finished_is top = record { few = is.few; rising = is.rising; idle = idle_next top s.listed }
+  finished_is top = record { few = is.few; rising = is.rising; idle = idle_next top s.link s.listed }
 
   created_is : create_refusal (length s.watchdogs) n ≡ None → IsWatch (created s n)
   created_is none = record {
@@ -125,5 +125,6 @@ watch_stays n s is below = record {
   ticking = due_is n s is below;
   beginning = begun_is n s is below;
   finishing = finished_is n s is below;
+  returning = λ link. record { few = is.few; rising = is.rising; idle = is.idle };
   going_on = λ regs some. record { few = is.few; rising = is.rising; idle = λ none. absurd (cc) };
 }

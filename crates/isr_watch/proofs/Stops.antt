@@ -9,10 +9,10 @@ use Rattle.std.proofs.lemmas.List.MinMax.{IsStrictWeakOrder-by_number}
 use Rattle.std.proofs.lemmas.Option.{same_Some}
 use Rattle.id_table.specs.Rows.{Rows, row_id, object_of, objects, rewritten}
 use Rattle.id_table.proofs.Owning.{object-record, objects-replace}
-use Rattle.wind_lists.specs.Records.{of_id, change, replace, Rising}
-use Rattle.wind_lists.proofs.Records.{one_of_id, replace-change}
-use Rattle.wind_lists.proofs.Sorting.{first_is, no_first}
-use Rattle.wind_lists.proofs.Passing.{in_line-change, front_found, front_passes, none_passes, length-in_line}
+use Rattle.id_table.specs.Records.{of_id, change, replace, Rising}
+use Rattle.id_table.proofs.Records.{one_of_id, replace-change}
+use Rattle.id_table.proofs.Sorting.{first_is}
+use Rattle.id_table.proofs.Passing.{in_line-change, front_found, front_passes, none_passes, length-in_line}
 use Rattle.isr_watch.specs.declared.watchdog.Watchdog.{Watchdog}
 use Rattle.isr_watch.specs.declared.watchdog.Alarm.{Alarm}
 use Rattle.isr_watch.specs.State.{watchdog_id, watchdog_routine, start_of, starts_before, is_due, due_watchdogs, first_due}
@@ -95,6 +95,3 @@ iteration t tick f v own up e value =
 -- the end of the loop
 pub done_stop : (ws : List Watchdog) (tick : ℕ) → None ≡ option_map alarm_of (first_due ws tick) → stop_due tick ws ≡ ws
 done_stop ws tick e = none_due tick ws (none_passes watchdog_id starts_before starts_before-order (is_due tick) ws (no_alarm (first_due ws tick) e))
-
-pub done_list : (ws : List Watchdog) (tick : ℕ) → None ≡ option_map alarm_of (first_due ws tick) → due_watchdogs ws tick ≡ []
-done_list ws tick e = no_first starts_before (due_watchdogs ws tick) (no_alarm (first_due ws tick) e)

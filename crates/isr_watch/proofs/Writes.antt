@@ -9,8 +9,8 @@ use Rattle.id_table.specs.Rows.{Rows, IdsBelow, row_id, row_object, object_of, o
 use Rattle.id_table.specs.Rows as table
 use Rattle.id_table.specs.Source.{Ids, one_given}
 use Rattle.id_table.proofs.Owning.{object-record, objects-replace, objects-without, OwnIds-write}
-use Rattle.wind_lists.specs.Records.{of_id, change, Rising}
-use Rattle.wind_lists.proofs.Records.{found_id, replace-change}
+use Rattle.id_table.specs.Records.{of_id, change, Rising}
+use Rattle.id_table.proofs.Records.{found_id, replace-change}
 use Rattle.isr_watch.specs.declared.watchdog.Watchdog.{Watchdog}
 use Rattle.isr_watch.specs.declared.watchdog.Routine.{Routine}
 use Rattle.isr_watch.specs.State.{WatchState, watchdog_id, watchdog_of}
@@ -70,26 +70,26 @@ made_own t u i j (Ok id) own ok err =
     subst (λ (v : Rows Watchdog). SameIds v.rows × (v.room ≡ t.room)) (sym ok.3) (All-push (λ (r : ℕ × Watchdog). r.1.id ≡ r.0) t.rows (i.next, new_watchdog i.next) own refl, refl)
 made_own t u i j (Err e) own ok err = subst (λ (v : Rows Watchdog). SameIds v.rows × (v.room ≡ t.room)) (sym err.2) (own, refl)
 
-module _ (rs : List (ℕ × Watchdog)) (level : Option Regs) (listed : List Routine) (next n id : ℕ) (v : Watchdog) (own : SameIds rs) (value : object_of rs n ≡ Some v) (same : n ≡ id) where
-  pub cancelled_is : Rising row_id rs → watch_state (with_object rs n (stopped v)) level listed next ≡ cancel (watch_state rs level listed next) id
+module _ (rs : List (ℕ × Watchdog)) (level : Option Regs) (listed : List Routine) (next link n id : ℕ) (v : Watchdog) (own : SameIds rs) (value : object_of rs n ≡ Some v) (same : n ≡ id) where
+  pub cancelled_is : Rising row_id rs → watch_state (with_object rs n (stopped v)) level listed next link ≡ cancel (watch_state rs level listed next link) id
   cancelled_is up =
-      let s = watch_state rs level listed next in
+      let s = watch_state rs level listed next link in
       ap {B = WatchState} (λ ws. record s { watchdogs = ws }) (write_is rs n v stopped own up value)
       ∙ ap (cancel_found s n) (sym (found_record rs n v own value))
       ∙ ap (cancel s) same
 
-  pub deleted_is : watch_state (table.without rs n) level listed next ≡ delete (watch_state rs level listed next) id
+  pub deleted_is : watch_state (table.without rs n) level listed next link ≡ delete (watch_state rs level listed next link) id
   deleted_is =
-      let s = watch_state rs level listed next in
+      let s = watch_state rs level listed next link in
       ap {B = WatchState} (λ ws. record s { watchdogs = ws }) (objects-without watchdog_id rs n own)
       ∙ ap (deleted s n) (sym (found_record rs n v own value))
       ∙ ap (delete s) same
 
   pub started_is : (tick delay : ℕ) (routine : Routine) (y : Watchdog) → Rising row_id rs → y ≡ started tick delay routine next v
-      → watch_state (with_object rs n y) level listed (next + 1) ≡ start (watch_state rs level listed next) id tick delay routine
+      → watch_state (with_object rs n y) level listed (next + 1) link ≡ start (watch_state rs level listed next link) id tick delay routine
   started_is tick delay routine y up e =
-      let s = watch_state rs level listed next in
-      ap (λ w. watch_state (with_object rs n w) level listed (next + 1)) e
+      let s = watch_state rs level listed next link in
+      ap (λ w. watch_state (with_object rs n w) level listed (next + 1) link) e
       ∙ ap {B = WatchState} (λ ws. record s { watchdogs = ws; next_start = next + 1 }) (write_is rs n v (started tick delay routine next) own up value)
       ∙ ap (start_found s n tick delay routine) (sym (found_record rs n v own value))
       ∙ ap (λ m. start s m tick delay routine) same

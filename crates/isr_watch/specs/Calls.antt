@@ -1,11 +1,15 @@
 -- What the calls on watchdogs do (VxWorks 5.4 Reference Manual, wdLib), and the interrupt level.
-use Rattle.std.specs.Prelude.{ℕ, ◌+◌, ◌*◌, ◌-◌, if◌then◌else◌, max, List, [], ◌∷◌, ◌++◌, map, replicate, slice_set, Option, None, Some}
-use Rattle.wind_base.specs.Limits.{most_watchdogs, frame_bytes, gates_start, gate_bytes}
+use Rattle.std.specs.Prelude.{ℕ, ◌+◌, ◌-◌, if◌then◌else◌, max, List, [], ◌∷◌, ◌++◌, map, replicate, slice_set, Option, None, Some}
+use Rattle.wind_base.specs.Limits.{most_watchdogs, frame_bytes}
+use Rattle.wind_base.specs.Boards.{board_rules}
+use Rattle.wind_base.specs.Gates.{gate_address}
+use Rattle.wind_base.specs.declared.board_kind.BoardKind.{BoardKind}
 use Rattle.wind_base.specs.declared.errno.Errno.{Errno}
 use Rattle.wind_base.specs.declared.errno.Errno.TheVariants as errors
+use Rattle.wind_base.specs.declared.gate.Gate.TheVariants as gates
 use Rattle.wind_base.specs.declared.regs.Regs.{Regs}
 use Rattle.id_table.specs.Rows.{add_refusal}
-use Rattle.wind_lists.specs.Records.{change, without}
+use Rattle.id_table.specs.Records.{change, without}
 use Rattle.isr_watch.specs.declared.watchdog.Watchdog.{Watchdog}
 use Rattle.isr_watch.specs.declared.watchdog.Routine.{Routine}
 use Rattle.isr_watch.specs.State.{WatchState, watchdog_id, watchdog_of, watchdog_routine, is_due, due_watchdogs}
@@ -66,26 +70,30 @@ abbrev pub cancel : WatchState → ℕ → WatchState
 cancel s id = cancel_found s id (watchdog_of s.watchdogs id)
 
 -- ---- the interrupt level
--- the gate to which a routine returns
-abbrev pub routine_gate : ℕ
-routine_gate = gates_start + 2 * gate_bytes
+-- the address to which a routine returns on a board of a kind: that of its gate
+abbrev pub routine_return : BoardKind → ℕ
+routine_return board = gate_address (board_rules board).gates_start gates.InterruptReturn
 
--- a routine begins with its parameter in r3, its stack below the top of the interrupt stack, and returns to its gate
-abbrev pub routine_regs : ℕ → Routine → Regs
-routine_regs top x = record {
+-- routines that begin from now on return to this address
+abbrev pub with_link : WatchState → ℕ → WatchState
+with_link s link = record s { link = link }
+
+-- a routine begins with its parameter in r3, its stack below the top of the interrupt stack, and returns to the link
+abbrev pub routine_regs : ℕ → ℕ → Routine → Regs
+routine_regs top link x = record {
   gpr = slice_set (slice_set (replicate 32 0) 1 (top - frame_bytes)) 3 x.param;
   cr = 0;
   xer = 0;
-  lr = routine_gate;
+  lr = link;
   ctr = 0;
   pc = x.entry;
   reserve = None;
 }
 
 -- the first listed routine becomes active, and the others stay listed
-abbrev pub level_of : ℕ → List Routine → Option Regs
-level_of top [] = None
-level_of top (x ∷ xs) = Some (routine_regs top x)
+abbrev pub level_of : ℕ → ℕ → List Routine → Option Regs
+level_of top link [] = None
+level_of top link (x ∷ xs) = Some (routine_regs top link x)
 
 -- the routines that stay listed
 abbrev pub rest_of : List Routine → List Routine
@@ -94,7 +102,7 @@ rest_of (x ∷ xs) = xs
 
 -- the active routine ends: the next listed one becomes active, or none
 abbrev pub finish : WatchState → ℕ → WatchState
-finish s top = record s { level = level_of top s.listed; listed = rest_of s.listed }
+finish s top = record s { level = level_of top s.link s.listed; listed = rest_of s.listed }
 
 -- routines are listed, and the first listed one becomes active
 abbrev pub begun : WatchState → List Routine → ℕ → WatchState

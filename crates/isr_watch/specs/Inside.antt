@@ -13,13 +13,15 @@ use Rattle.isr_watch.specs.State.{WatchState}
 abbrev pub SameIds : List (ℕ × Watchdog) → Type 0
 SameIds rs = All (λ r. r.1.id ≡ r.0) rs
 
--- what a contract sees, from a table's rows, the active routine's registers, the listed routines and the next start
-abbrev pub watch_state : List (ℕ × Watchdog) → Option Regs → List Routine → ℕ → WatchState
-watch_state rs level listed next_start = record {
+-- what a contract sees, from a table's rows, the active routine's registers, the listed routines, the next start and the
+-- address to which a routine returns
+abbrev pub watch_state : List (ℕ × Watchdog) → Option Regs → List Routine → ℕ → ℕ → WatchState
+watch_state rs level listed next_start link = record {
   watchdogs = objects rs;
   level = level;
   listed = listed;
   next_start = next_start;
+  link = link;
 }
 
 -- the rest of the invariant: no routine is listed unless one is active

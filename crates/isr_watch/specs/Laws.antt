@@ -4,7 +4,7 @@ use Rattle.std.specs.List.{All}
 use Rattle.wind_base.specs.declared.regs.Regs.{Regs}
 use Rattle.isr_watch.specs.declared.watchdog.Routine.{Routine}
 use Rattle.isr_watch.specs.State.{WatchState, IsWatch}
-use Rattle.isr_watch.specs.Calls.{create_refusal, created, delete, start, cancel, due, begun, finish, with_level}
+use Rattle.isr_watch.specs.Calls.{create_refusal, created, delete, start, cancel, due, begun, finish, with_level, with_link}
 
 -- each watchdog's id is below this number
 abbrev pub AllBelow : ℕ → WatchState → Type 0
@@ -20,6 +20,7 @@ pub record IdsStay (n : ℕ) (s : WatchState) : Type 0 where
   pub ticking : (tick top : ℕ) → AllBelow n (due s tick top)
   pub beginning : (routines : List Routine) (top : ℕ) → AllBelow n (begun s routines top)
   pub finishing : (top : ℕ) → AllBelow n (finish s top)
+  pub returning : (link : ℕ) → AllBelow n (with_link s link)
 
 -- ids below a number stay below it
 abbrev pub IdsLaw : Type 0
@@ -34,9 +35,25 @@ pub record WatchStays (n : ℕ) (s : WatchState) : Type 0 where
   pub ticking : (tick top : ℕ) → IsWatch (due s tick top)
   pub beginning : (routines : List Routine) (top : ℕ) → IsWatch (begun s routines top)
   pub finishing : (top : ℕ) → IsWatch (finish s top)
+  pub returning : (link : ℕ) → IsWatch (with_link s link)
   -- so does a change of the active routine's registers
   pub going_on : (regs : Regs) → IsSome s.level → IsWatch (with_level s regs)
 
 -- each call keeps the watchdogs' invariant
 abbrev pub KeptLaw : Type 0
 KeptLaw = (n : ℕ) (s : WatchState) → IsWatch s → AllBelow n s → WatchStays n s
+
+-- the address to which a routine returns is the same after each call but the one that sets it
+pub record LinkStays (s : WatchState) : Type 0 where
+  pub creating : (id : ℕ) → (created s id).link ≡ s.link
+  pub deleting : (id : ℕ) → (delete s id).link ≡ s.link
+  pub starting : (id tick delay : ℕ) (routine : Routine) → (start s id tick delay routine).link ≡ s.link
+  pub cancelling : (id : ℕ) → (cancel s id).link ≡ s.link
+  pub ticking : (tick top : ℕ) → (due s tick top).link ≡ s.link
+  pub beginning : (routines : List Routine) (top : ℕ) → (begun s routines top).link ≡ s.link
+  pub finishing : (top : ℕ) → (finish s top).link ≡ s.link
+  pub going_on : (regs : Regs) → (with_level s regs).link ≡ s.link
+
+-- only one call changes the address to which a routine returns
+abbrev pub LinkLaw : Type 0
+LinkLaw = (s : WatchState) → LinkStays s

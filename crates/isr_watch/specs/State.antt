@@ -2,18 +2,24 @@
 use Rattle.std.specs.Prelude.{◌≡◌, ℕ, ◌≤◌, Bool, false, nat_lt, nat_le, List, [], length, Option, None, Some}
 use Rattle.wind_base.specs.Limits.{most_watchdogs}
 use Rattle.wind_base.specs.declared.regs.Regs.{Regs}
-use Rattle.wind_lists.specs.Records.{of_id, Rising}
-use Rattle.wind_lists.specs.Sorting.{first, in_line}
+use Rattle.id_table.specs.Records.{of_id, Rising}
+use Rattle.id_table.specs.Sorting.{first, in_line}
 use Rattle.isr_watch.specs.declared.watchdog.Watchdog.{Watchdog}
 use Rattle.isr_watch.specs.declared.watchdog.Timer.{Timer}
 use Rattle.isr_watch.specs.declared.watchdog.Routine.{Routine}
 
--- the watchdogs by rising id, the active routine's registers, the routines still listed, and the number of the next start
+-- the watchdogs by rising id, the active routine's registers, the routines still listed, the number of the next start,
+-- and the address to which a routine returns
 pub record WatchState : Type 0 where
   pub watchdogs : List Watchdog
   pub level : Option Regs
   pub listed : List Routine
   pub next_start : ℕ
+  pub link : ℕ
+
+-- no watchdog lives, no routine is active, and routines return to this address
+abbrev pub no_watch : ℕ → WatchState
+no_watch link = record { watchdogs = []; level = None; listed = []; next_start = 0; link = link }
 
 -- the id of a watchdog
 abbrev pub watchdog_id : Watchdog → ℕ

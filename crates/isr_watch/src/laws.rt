@@ -1,6 +1,6 @@
 //! What follows from the definitions alone.
 
-ghost use Rattle.isr_watch.specs.Laws.{IdsLaw, KeptLaw};
+ghost use Rattle.isr_watch.specs.Laws.{IdsLaw, KeptLaw, LinkLaw};
 
 /// The law of ids: if the id of each watchdog is below a number, it still is after each call. A
 /// start raises the number of the next start by at most 1.
@@ -12,4 +12,10 @@ pub fn ids_law()
 /// and no routine is listed unless one is active.
 pub fn kept_law()
     ensures { KeptLaw }
+{}
+
+/// The law of returns: no call but `Watch::set_return` changes the address to which a routine
+/// returns.
+pub fn link_law()
+    ensures { LinkLaw }
 {}

@@ -7,6 +7,6 @@ mod listing;
 mod watch;
 mod watchdog;
 
-pub use laws::{ids_law, kept_law};
+pub use laws::{ids_law, kept_law, link_law};
 pub use watch::Watch;
 pub use watchdog::{Routine, Timer, Watchdog};

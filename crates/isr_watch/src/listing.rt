@@ -63,12 +63,12 @@ pub(crate) fn list_routines(listed: &mut VecDeque<Routine>, routines: &[Routine]
 }
 
 // Takes the first listed routine, if there is one, and makes the registers with which it begins.
-pub(crate) fn next_level(listed: &mut VecDeque<Routine>, top: u32) -> Option<Regs>
+pub(crate) fn next_level(listed: &mut VecDeque<Routine>, top: u32, link: u32) -> Option<Regs>
     requires { frame_bytes ≤ top }
-    ensures level { result ≡ level_of top listed.old.items }
+    ensures level { result ≡ level_of top link listed.old.items }
     ensures rest { listed.new.items ≡ rest_of listed.old.items }
     ensures capacity { deque_capacity listed.new ≡ deque_capacity listed.old }
 {
     let routine = listed.pop_front()?;
-    Some(routine_regs(top, routine))
+    Some(routine_regs(top, link, routine))
 }

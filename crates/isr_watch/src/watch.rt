@@ -1,15 +1,16 @@
 //! The watchdogs, and the interrupt level.
 
-ghost use Rattle.std.specs.Prelude.{◌≡◌, ◌<◌, ◌≤◌, ◌+◌, ◌^◌, ◌↔◌, false, [], length, None, Some, IsSome, is_some, IfOk, IfErr, IsOk, MatchOption, option_copied};
+ghost use Rattle.std.specs.Prelude.{◌≡◌, ◌<◌, ◌≤◌, ◌+◌, ◌^◌, ◌↔◌, false, length, None, Some, IsSome, is_some, IfOk, IfErr, IsOk, MatchOption, option_copied};
 ghost use Rattle.std.specs.Borrow.{sem};
 ghost use Rattle.std.specs.List.{All};
 ghost use Rattle.std.specs.Option.{option_copied_mut};
 ghost use Rattle.wind_base.specs.Limits.{frame_bytes, most_watchdogs};
+ghost use Rattle.wind_base.specs.declared.board_kind.BoardKind.TheVariants.{One};
 ghost use Rattle.wind_base.specs.declared.errno.Errno.TheVariants.{ObjIdError};
 ghost use Rattle.id_table.specs.Rows.{IdsBelow, added, objects};
 ghost use Rattle.id_table.specs.Source.{one_given};
-ghost use Rattle.isr_watch.specs.State.{IsWatch, watchdog_of};
-ghost use Rattle.isr_watch.specs.Calls.{new_watchdog as new_watchdog_lem, create_refusal, created, delete, start, cancel, due, begun, finish};
+ghost use Rattle.isr_watch.specs.State.{IsWatch, no_watch, watchdog_of};
+ghost use Rattle.isr_watch.specs.Calls.{new_watchdog as new_watchdog_lem, create_refusal, created, delete, start, cancel, due, begun, finish, routine_return, with_link};
 
 use crate::listing::{list_due, list_routines, next_level};
 use crate::watchdog::{Routine, Watchdog, begin, new_watchdog, stop};
@@ -18,17 +19,18 @@ use std::alloc::Global;
 use std::collections::VecDeque;
 use std::marker::Model;
 use wind_base::limits::WATCHDOGS;
-use wind_base::{Errno, NoMemory, Regs};
+use wind_base::{BoardKind, Errno, Gate, NoMemory, Regs};
 use wind_core::Kern;
 
-/// The watchdogs, the routines listed by a tick or a device's interrupt, and the registers of the
-/// active routine.
+/// The watchdogs, the routines listed by a tick or a device's interrupt, the registers of the active
+/// routine, and the address to which a routine returns.
 #[derive(Drop)]
 pub struct Watch {
     watchdogs: Table<Watchdog>,
     level: Option<Regs>,
     listed: VecDeque<Routine>,
     next_start: u64,
+    link: u32,
 }
 
 impl Model for Watch {
@@ -40,7 +42,7 @@ impl Model for Watch {
 
     ghost Value = { WatchState };
 
-    ghost view = { λ w. watch_state w.watchdogs.rows w.level w.listed.items w.next_start };
+    ghost view = { λ w. watch_state w.watchdogs.rows w.level w.listed.items w.next_start w.link };
 
     ghost invariant = { λ w. IsLevel w.watchdogs w.level w.listed.items × (most_watchdogs ≤ deque_capacity w.listed) };
 }
@@ -67,9 +69,10 @@ fn add_watchdog(watchdogs: &mut Table<Watchdog>, ids: &mut IdSource) -> Result<I
 impl Watch {
     ghost use Rattle.isr_watch.specs.Lends.{lends_regs, lends_found};
 
-    /// No watchdogs, with room for 256. No other call takes memory.
+    /// No watchdogs, with room for 256. Routines return to board 1's gate. No other call takes
+    /// memory.
     pub fn reserved(alloc: Global) -> Result<Watch, NoMemory>
-        ensures { IfOk result (λ w. w ≡ record { watchdogs = []; level = None; listed = []; next_start = 0 }) }
+        ensures { IfOk result (λ w. w ≡ no_watch (routine_return One)) }
     {
         let watchdogs = Table::reserved(alloc, WATCHDOGS)?;
         let listed = VecDeque::with_capacity(alloc, WATCHDOGS as usize)?;
@@ -78,7 +81,15 @@ impl Watch {
             level: None,
             listed,
             next_start: 0,
+            link: Gate::InterruptReturn.address(BoardKind::One.rules().gates_start),
         })
+    }
+
+    /// Sets the address to which the routines return that begin from now on.
+    pub fn set_return(&mut self, link: u32)
+        ensures { self.new ≡ with_link self.old link }
+    {
+        self.link = link;
     }
 
     /// Does nothing. Its contract states the watchdogs' invariant.
@@ -245,7 +256,7 @@ impl Watch {
     {
         self.watchdogs.facts();
         list_due(&mut self.watchdogs, &mut self.listed, tick);
-        self.level = next_level(&mut self.listed, top);
+        self.level = next_level(&mut self.listed, top, self.link);
     }
 
     /// A device's interrupt. Its routines are listed in this order, and the first becomes active.
@@ -258,7 +269,7 @@ impl Watch {
         ensures { self.new ≡ begun self.old routines.now top }
     {
         list_routines(&mut self.listed, routines);
-        self.level = next_level(&mut self.listed, top);
+        self.level = next_level(&mut self.listed, top, self.link);
     }
 
     /// Ends the active routine. The next listed one becomes active, if there is one. Its stack
@@ -267,6 +278,6 @@ impl Watch {
         requires { frame_bytes ≤ top }
         ensures { self.new ≡ finish self.old top }
     {
-        self.level = next_level(&mut self.listed, top);
+        self.level = next_level(&mut self.listed, top, self.link);
     }
 }

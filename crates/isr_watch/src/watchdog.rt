@@ -2,17 +2,14 @@
 
 ghost use Rattle.std.specs.Prelude.{◌≡◌, ◌<◌, ◌≤◌, ◌^◌, option_copied};
 ghost use Rattle.wind_base.specs.Limits.{frame_bytes};
-ghost use Rattle.wind_lists.specs.Sorting.{pick};
+ghost use Rattle.id_table.specs.Sorting.{pick};
 ghost use Rattle.isr_watch.specs.State.{is_due as is_due_lem, starts_before, start_of as start_of_lem};
 ghost use Rattle.isr_watch.specs.Calls.{new_watchdog, routine_regs, started, stopped};
 ghost use Rattle.isr_watch.specs.Inside.{alarm_of as alarm_of_lem};
 
 use id_table::Ident;
 use wind_base::Regs;
-use wind_base::limits::{FRAME_BYTES, GATE_BYTES, GATES_START};
-
-// The gate to which a routine returns.
-const ROUTINE_GATE: u32 = GATES_START + 2 * GATE_BYTES;
+use wind_base::limits::FRAME_BYTES;
 
 /// A routine and its parameter.
 #[derive(Clone, Copy, Debug, Default, PartialEq, Eq)]
@@ -105,10 +102,10 @@ pub(crate) fn alarm_of(watchdog: &Watchdog) -> Alarm
     }
 }
 
-// The registers with which a routine begins.
-pub(crate) fn routine_regs(top: u32, routine: Routine) -> Regs
+// The registers with which a routine begins that returns to `link`.
+pub(crate) fn routine_regs(top: u32, link: u32, routine: Routine) -> Regs
     requires { frame_bytes ≤ top }
-    ensures { result ≡ routine_regs top routine }
+    ensures { result ≡ routine_regs top link routine }
 {
     let mut gpr = [0; 32];
     gpr[1] = top - FRAME_BYTES;
@@ -117,7 +114,7 @@ pub(crate) fn routine_regs(top: u32, routine: Routine) -> Regs
         gpr,
         cr: 0,
         xer: 0,
-        lr: ROUTINE_GATE,
+        lr: link,
         ctr: 0,
         pc: routine.entry,
         reserve: None,

@@ -11,17 +11,17 @@ use Rattle.task_safety.specs.Deletion.{asked, after, deed_of}
 use Rattle.task_safety.specs.Laws.{GoesUnsafe}
 use Rattle.task_safety.proofs.Targets.{Says, deed_says}
 use Rattle.task_safety.proofs.Going.{who_goes}
-use Rattle.kernel_world.specs.State.{WorldState}
-use Rattle.kernel_world.specs.Objects.{IsReady, KeepsObjects}
-use Rattle.task_calls.specs.SafetyRows.{deletes, back_at_gate, meant, delete_row}
+use Rattle.call_rows.specs.KernelWorldState.{WorldState}
+use Rattle.call_rows.specs.KernelWorldObjects.{IsReady, KeepsObjects}
+use Rattle.call_rows.specs.SafetyRows.{deletes, back_at_gate, meant, delete_row}
 use Rattle.kernel_calls.specs.Calls.{of_deletion}
-use Rattle.kernel_world.specs.Kept.{IsWorld, Within, call_sinces}
+use Rattle.call_rows.specs.KernelWorldKept.{IsWorld, Within, call_sinces}
 use Rattle.kernel_calls.specs.Laws.{Passes}
-use Rattle.kernel_world.specs.declared.actor.Actor.TheVariants.{Task}
-use Rattle.kernel_world.proofs.Goes.{goes_further}
-use Rattle.task_calls.proofs.SafetyGoes.{refuses_goes, awaits_goes, itself_leaves, removed_leaves}
-use Rattle.task_calls.proofs.Deleting.{objects-delete_row}
-use Rattle.kernel_world.proofs.Advancing.{of_tasks, keeps_more, within_more}
+use Rattle.call_rows.specs.KernelWorldActor.TheVariants.{Task}
+use Rattle.call_rows.proofs.KernelWorldGoes.{goes_further}
+use Rattle.call_rows.proofs.SafetyGoes.{refuses_goes, awaits_goes, itself_leaves, removed_leaves}
+use Rattle.call_rows.proofs.Deleting.{objects-delete_row}
+use Rattle.call_rows.proofs.KernelWorldAdvancing.{of_tasks, keeps_more, within_more}
 use Rattle.kernel_calls.proofs.Departing.{Departs, parted, departs}
 use Rattle.kernel_calls.proofs.Serves.{Serves, served}
 

@@ -11,23 +11,23 @@ use Rattle.task_block.specs.declared.task.Task.{Task}
 use Rattle.module_loader.specs.declared.module.LoadedModule.{LoadedModule}
 use Rattle.module_loader.specs.Holding.{held_by, occurs}
 use Rattle.module_loader.proofs.Holds.{rows_stay}
-use Rattle.wind_lists.specs.Records.{without}
+use Rattle.id_table.specs.Records.{without}
 use Rattle.wind_core.specs.State.{KernState, Lives, task_id, task_of}
 use Rattle.wind_core.specs.Moves.{remove}
 use Rattle.wind_core.proofs.Ids.{ids, lives_by}
-use Rattle.kernel_world.specs.State.{WorldState}
-use Rattle.kernel_world.specs.Objects.{KeepsObjects, DepthsWithin}
-use Rattle.task_calls.specs.Ending.{without_stack, unguarded}
-use Rattle.kernel_world.specs.Kept.{Stack, stack_of, routine_stack, IsStack, AreApart, KeepsPool, AreStacks, KeepsLoaded, task_stacks, IsWorld, StepKeeps}
+use Rattle.call_rows.specs.KernelWorldState.{WorldState}
+use Rattle.call_rows.specs.KernelWorldObjects.{KeepsObjects, DepthsWithin}
+use Rattle.call_rows.specs.Ending.{without_stack, unguarded}
+use Rattle.call_rows.specs.KernelWorldKept.{Stack, stack_of, routine_stack, IsStack, AreApart, KeepsPool, AreStacks, KeepsLoaded, task_stacks, IsWorld, StepKeeps}
 use Rattle.kernel_calls.specs.Laws.{EndLaw}
-use Rattle.kernel_world.proofs.LiveIds.{Fewer, fewer_records}
-use Rattle.kernel_world.proofs.WorldIds.{ids_leave}
-use Rattle.kernel_world.proofs.Advancing.{watch_on}
-use Rattle.task_calls.proofs.SafetyGoes.{Leaves, ended_leaves}
-use Rattle.kernel_world.proofs.Stacks.{pool-free, kernels-other}
-use Rattle.task_calls.proofs.Taking.{stacks}
-use Rattle.task_calls.proofs.Deleting.{objects-ended}
-use Rattle.kernel_world.proofs.Holding.{IsNoModules}
+use Rattle.call_rows.proofs.KernelWorldLiveIds.{Fewer, fewer_records}
+use Rattle.call_rows.proofs.KernelWorldWorldIds.{ids_leave}
+use Rattle.call_rows.proofs.KernelWorldAdvancing.{watch_on}
+use Rattle.call_rows.proofs.SafetyGoes.{Leaves, ended_leaves}
+use Rattle.call_rows.proofs.KernelWorldStacks.{pool-free, kernels-other}
+use Rattle.call_rows.proofs.Taking.{stacks}
+use Rattle.call_rows.proofs.Deleting.{objects-ended}
+use Rattle.call_rows.proofs.KernelWorldHolding.{IsNoModules}
 
 -- what holds of each stack holds of fewer
 fewer : (P : Stack → Type 0) (ts : List Task) (who : ℕ) → All P (stacks ts) → All P (stacks (without task_id ts who))
@@ -174,7 +174,7 @@ departs w j who n d kept l objects depths =
           modules = loaded_left w.kern w.part w.modules.rows kept.modules who (task_of w.kern.tasks who) refl j l.next l.stacks;
           ram = kept.ram;
           symbols = kept.symbols;
-          watch = watch_on w.kern.next_id j.next_id w.watch l.next kept.watch;
+          watch = watch_on w.board w.kern.next_id j.next_id w.watch l.next kept.watch;
           ids = ids_leave w kept.ids j (subst (λ is. Fewer is (ids w.kern.tasks)) (sym l.alone) (fewer_records task_id w.kern.tasks who)) l.next;
         };
         within = (l.counts, depths);

@@ -7,16 +7,16 @@ use Rattle.board_mem.specs.Memory.{string_at}
 use Rattle.wind_core.specs.State.{KernState, task_named}
 use Rattle.msg_queue.specs.State.{scene}
 use Rattle.isr_watch.specs.State.{WatchState}
-use Rattle.kernel_world.specs.State.{WorldState}
-use Rattle.object_calls.specs.QueueRows.{QueueRow, row_of as queue_row, create_row}
-use Rattle.object_calls.specs.WatchRows.{WatchRow, row_of as watch_row}
+use Rattle.call_rows.specs.KernelWorldState.{WorldState}
+use Rattle.call_rows.specs.QueueRows.{QueueRow, row_of as queue_row, create_row}
+use Rattle.call_rows.specs.WatchRows.{WatchRow, row_of as watch_row}
 use Rattle.kernel_calls.specs.Calls.{with_reply, of_kern, of_queues, of_watch, row}
-use Rattle.task_calls.specs.TaskRows.{name_row, found_row}
-use Rattle.kernel_world.specs.declared.objects.Objects.{Objects}
-use Rattle.kernel_world.specs.declared.actor.Actor.{Actor}
-use Rattle.kernel_world.specs.declared.call.Call.{Call}
-use Rattle.kernel_world.specs.declared.call.Call.TheVariants as calls
-use Rattle.kernel_world.specs.declared.reply.Reply.{Reply}
+use Rattle.call_rows.specs.TaskRows.{name_row, found_row}
+use Rattle.call_rows.specs.KernelWorldObjectsType.{Objects}
+use Rattle.call_rows.specs.KernelWorldActor.{Actor}
+use Rattle.call_rows.specs.KernelWorldCall.{Call}
+use Rattle.call_rows.specs.KernelWorldCall.TheVariants as calls
+use Rattle.call_rows.specs.KernelWorldReply.{Reply}
 
 -- msgQCreate: the kernel's objects stay, except for the queues
 pub created : (c : Call) (w : WorldState) (a : Actor) (k : KernState) (o : Objects) (max_msgs max_len options : ℕ) (result : Result Reply NoMemory) → c ≡ calls.MsgQCreate max_msgs max_len options

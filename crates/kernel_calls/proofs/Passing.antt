@@ -8,54 +8,53 @@ use Rattle.std.specs.List.{All}
 use Rattle.id_table.specs.Rows.{object_of, ids}
 use Rattle.wind_base.specs.declared.errno.Errno.TheVariants as errors
 use Rattle.task_block.specs.declared.task.Task.{Task as TaskRecord}
-use Rattle.board_mem.specs.Memory.{has, with_word}
+use Rattle.board_mem.specs.Memory.{has, with_word, string_at}
 use Rattle.board_mem.proofs.Sizes.{length-with_number}
-use Rattle.board_mem.specs.Memory.{string_at}
 use Rattle.wind_core.specs.State.{Lives}
 use Rattle.wind_core.specs.Moves.{live_id}
-use Rattle.kernel_world.specs.State.{WorldState}
-use Rattle.kernel_world.specs.Objects.{KeepsObjects, DepthsWithin}
-use Rattle.kernel_world.specs.Actors.{Acts, MayCall, caller_words, target}
-use Rattle.task_calls.specs.TaskRows.{KernRow, ram_row, task_at, priority_in}
-use Rattle.task_calls.specs.SafetyRows.{delete_row}
-use Rattle.object_calls.specs.SemRows.{ObjectRow, is_mutex}
-use Rattle.object_calls.specs.QueueRows.{QueueRow, sending}
-use Rattle.object_calls.specs.WatchRows.{WatchRow, routine_of}
-use Rattle.object_calls.specs.IrqRows.{IrqRow}
+use Rattle.call_rows.specs.KernelWorldState.{WorldState}
+use Rattle.call_rows.specs.KernelWorldObjects.{KeepsObjects, DepthsWithin}
+use Rattle.call_rows.specs.KernelWorldActors.{Acts, MayCall, caller_words, target}
+use Rattle.call_rows.specs.TaskRows.{KernRow, ram_row, task_at, priority_in}
+use Rattle.call_rows.specs.SafetyRows.{delete_row}
+use Rattle.call_rows.specs.SemRows.{ObjectRow, is_mutex}
+use Rattle.call_rows.specs.QueueRows.{QueueRow, sending}
+use Rattle.call_rows.specs.WatchRows.{WatchRow, routine_of}
+use Rattle.call_rows.specs.IrqRows.{IrqRow}
 use Rattle.kernel_calls.specs.ShowRows.{ShowRow}
-use Rattle.task_calls.specs.Spawning.{spawned_if, task_wanted, quick_wanted, quick_text, after_spawn, spawn_state}
+use Rattle.call_rows.specs.Spawning.{spawned_if, task_wanted, quick_wanted, quick_text, after_spawn, spawn_state}
 use Rattle.kernel_calls.specs.Calls.{with_reply, of_kern, of_objects, scene_of, of_queues, of_watch, of_irqs, of_text, of_deletion, of_ram, row_of, refusal_before, row_unless, made, call}
-use Rattle.kernel_world.specs.CallWords.{ten_arguments, quick_arguments, call_of}
-use Rattle.kernel_world.specs.Replies.{left_gate}
-use Rattle.kernel_world.specs.Kept.{IsWorld, Within, call_sinces}
+use Rattle.call_rows.specs.KernelWorldCallWords.{ten_arguments, quick_arguments, call_of}
+use Rattle.call_rows.specs.KernelWorldReplies.{left_gate}
+use Rattle.call_rows.specs.KernelWorldKept.{IsWorld, Within, call_sinces}
 use Rattle.kernel_calls.specs.Laws.{CallLaw}
-use Rattle.kernel_world.specs.declared.actor.Actor.{Actor}
-use Rattle.kernel_world.specs.declared.actor.Actor.TheVariants.{Task, Interrupt}
-use Rattle.kernel_world.specs.declared.reply.Reply.{Reply}
-use Rattle.kernel_world.specs.declared.reply.Reply.TheVariants.{Answer, Refusal, Later}
-use Rattle.kernel_world.proofs.Goes.{Goes}
-use Rattle.task_calls.proofs.TaskMoves.{suspend_goes, resume_goes, delay_goes, lock_goes, unlock_goes, self_goes, verify_goes, name_goes, slice_goes, int_lock_goes, int_unlock_goes, int_context_goes, safe_goes, unsafe_goes}
-use Rattle.kernel_world.proofs.Replying.{safe_left, may_left, left_advances, replied_advances}
-use Rattle.task_calls.proofs.KernRows.{objects-suspend_row, objects-resume_row, objects-delay_row, objects-lock_row, objects-unlock_row, objects-self_row, objects-verify_row, objects-name_row, objects-slice_row, objects-int_lock_row, objects-int_unlock_row, objects-int_context_row}
-use Rattle.kernel_world.proofs.Advancing.{Advances, as_call, advances_on, advances_more, beside, of_devices, nowhere, of_tasks, of_both, of_scene, of_list, of_memory, errno_advances}
-use Rattle.task_calls.proofs.RowMoves.{align_advances, free_advances, symbol_few, spawn_advances}
-use Rattle.object_calls.proofs.QueueKept.{keeps-create_row, keeps-send_row, keeps-receive_row, keeps-delete_row as keeps-queue_delete_row}
-use Rattle.object_calls.proofs.QueueCalls.{is_caller}
-use Rattle.object_calls.proofs.QueueGoes.{IsNear, near_itself, create_near, send_near, receive_row_near, delete_near}
-use Rattle.object_calls.proofs.WatchGoes.{create_advances, start_advances, cancel_advances, delete_advances}
+use Rattle.call_rows.specs.KernelWorldActor.{Actor}
+use Rattle.call_rows.specs.KernelWorldActor.TheVariants.{Task, Interrupt}
+use Rattle.call_rows.specs.KernelWorldReply.{Reply}
+use Rattle.call_rows.specs.KernelWorldReply.TheVariants.{Answer, Refusal, Later}
+use Rattle.call_rows.proofs.KernelWorldGoes.{Goes}
+use Rattle.call_rows.proofs.TaskMoves.{suspend_goes, resume_goes, delay_goes, lock_goes, unlock_goes, self_goes, verify_goes, name_goes, slice_goes, int_lock_goes, int_unlock_goes, int_context_goes, safe_goes, unsafe_goes}
+use Rattle.call_rows.proofs.KernelWorldReplying.{safe_left, may_left, left_advances, replied_advances}
+use Rattle.call_rows.proofs.KernRows.{objects-suspend_row, objects-resume_row, objects-delay_row, objects-lock_row, objects-unlock_row, objects-self_row, objects-verify_row, objects-name_row, objects-slice_row, objects-int_lock_row, objects-int_unlock_row, objects-int_context_row}
+use Rattle.call_rows.proofs.KernelWorldAdvancing.{Advances, as_call, advances_on, advances_more, beside, of_devices, nowhere, of_tasks, of_both, of_scene, of_list, of_memory, errno_advances}
+use Rattle.call_rows.proofs.RowMoves.{align_advances, free_advances, symbol_few, spawn_advances}
+use Rattle.call_rows.proofs.QueueKept.{keeps-create_row, keeps-send_row, keeps-receive_row, keeps-delete_row as keeps-queue_delete_row}
+use Rattle.call_rows.proofs.QueueCalls.{is_caller}
+use Rattle.call_rows.proofs.QueueGoes.{IsNear, near_itself, create_near, send_near, receive_row_near, delete_near}
+use Rattle.call_rows.proofs.WatchGoes.{create_advances, start_advances, cancel_advances, delete_advances}
 use Rattle.kernel_calls.proofs.Unloading.{unload_advances}
 use Rattle.kernel_calls.proofs.Serves.{Serves, served, acts_on, passes_after, passes_before}
-use Rattle.object_calls.proofs.Callers.{mutex_callers, queue_callers}
+use Rattle.call_rows.proofs.Callers.{mutex_callers, queue_callers}
 use Rattle.kernel_calls.proofs.Deletions.{delete_serves}
-use Rattle.task_calls.proofs.Deleting.{objects-safe_row, objects-unsafe_row}
-use Rattle.object_calls.proofs.ObjectRows.{keeps-binary_row, keeps-counting_row, keeps-mutex_row, keeps-take_row, keeps-give_row, keeps-flush_row, keeps-delete_row, keeps-priority_row}
-use Rattle.object_calls.proofs.SemGoes.{binary_goes, counting_goes, mutex_goes, take_goes, give_goes, flush_goes, delete_goes, priority_goes}
-use Rattle.kernel_world.specs.LiveIds.{object_ids}
-use Rattle.kernel_world.proofs.LiveIds.{Owns, Given, Nothing, given_none}
-use Rattle.kernel_world.proofs.WorldIds.{tasks_own, ids_objects}
-use Rattle.object_calls.proofs.RowIds.{NoneComes, Comes, binary_comes, counting_comes, mutex_comes, take_stays, give_stays, flush_stays, delete_stays, priority_stays, send_stays, receive_row_stays, queue_delete_stays, queue_create_comes, queues_given, owners_may}
-use Rattle.object_calls.proofs.EachMutex.{MayChange, each-binary, each-counting, each-mutex, each-take, each-give, each-flush, each-delete, each-priority}
-use Rattle.object_calls.proofs.Depths.{depths_may}
+use Rattle.call_rows.proofs.Deleting.{objects-safe_row, objects-unsafe_row}
+use Rattle.call_rows.proofs.ObjectRows.{keeps-binary_row, keeps-counting_row, keeps-mutex_row, keeps-take_row, keeps-give_row, keeps-flush_row, keeps-delete_row, keeps-priority_row}
+use Rattle.call_rows.proofs.SemGoes.{binary_goes, counting_goes, mutex_goes, take_goes, give_goes, flush_goes, delete_goes, priority_goes}
+use Rattle.call_rows.specs.KernelWorldLiveIds.{object_ids}
+use Rattle.call_rows.proofs.KernelWorldLiveIds.{Owns, Given, Nothing, given_none}
+use Rattle.call_rows.proofs.KernelWorldWorldIds.{tasks_own, ids_objects}
+use Rattle.call_rows.proofs.RowIds.{NoneComes, Comes, binary_comes, counting_comes, mutex_comes, take_stays, give_stays, flush_stays, delete_stays, priority_stays, send_stays, receive_row_stays, queue_delete_stays, queue_create_comes, queues_given, owners_may}
+use Rattle.call_rows.proofs.EachMutex.{MayChange, each-binary, each-counting, each-mutex, each-take, each-give, each-flush, each-delete, each-priority}
+use Rattle.call_rows.proofs.Depths.{depths_may}
 
 -- a deletion by any caller
 delete_row_serves : (w : WorldState) (kept : IsWorld w) (n : ℕ) (within : Within n w) (a : Actor) (id : ℕ) → MayCall w.kern a → Serves w a (of_deletion w (delete_row w.board w.kern w.part a id)) (n + 1)

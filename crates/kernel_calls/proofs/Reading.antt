@@ -2,16 +2,16 @@
 use Rattle.std.proofs.Common.{◌≡◌, ℕ, true, false, List, Option, None, Some, IsSome, refl, sym, ap, ◌∙◌, subst}
 use Rattle.wind_base.specs.declared.gate.Gate.{Gate}
 use Rattle.wind_base.specs.declared.gate.Gate.TheVariants as gates
-use Rattle.kernel_world.specs.State.{WorldState}
-use Rattle.kernel_world.specs.Allowed.{is_call, may_exhaust_memory}
-use Rattle.kernel_world.specs.Actors.{is_interrupt}
-use Rattle.kernel_world.specs.CallWords.{call_of, call_by, gate_of}
-use Rattle.kernel_world.specs.Replies.{left_gate}
-use Rattle.kernel_world.specs.declared.actor.Actor.{Actor}
-use Rattle.kernel_world.specs.declared.actor.Actor.TheVariants.{Task, Interrupt}
-use Rattle.kernel_world.specs.declared.call.Call.{Call}
-use Rattle.kernel_world.specs.declared.reply.Reply.{Reply}
-use Rattle.kernel_world.specs.declared.reply.Reply.TheVariants.{Later}
+use Rattle.call_rows.specs.KernelWorldState.{WorldState}
+use Rattle.call_rows.specs.KernelWorldAllowed.{is_call, may_exhaust_memory}
+use Rattle.call_rows.specs.KernelWorldActors.{is_interrupt}
+use Rattle.call_rows.specs.KernelWorldCallWords.{call_of, call_by, gate_of}
+use Rattle.call_rows.specs.KernelWorldReplies.{left_gate}
+use Rattle.call_rows.specs.KernelWorldActor.{Actor}
+use Rattle.call_rows.specs.KernelWorldActor.TheVariants.{Task, Interrupt}
+use Rattle.call_rows.specs.KernelWorldCall.{Call}
+use Rattle.call_rows.specs.KernelWorldReply.{Reply}
+use Rattle.call_rows.specs.KernelWorldReply.TheVariants.{Later}
 use Rattle.kernel_calls.specs.Calls.{with_reply, row, row_of, row_unless, refusal_before, made, file_wanted}
 
 -- the call belongs to the gate

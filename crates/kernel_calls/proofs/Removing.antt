@@ -20,16 +20,16 @@ use Rattle.dev_irq.specs.declared.line.Line.{Line}
 use Rattle.dev_irq.specs.State.{idle_line, line_of, pending_of}
 use Rattle.dev_irq.specs.Calls.{with_routine, without_routine, with_mark, changed, connected, disconnected, enabled, cleared}
 use Rattle.dev_irq.proofs.Counting.{counts}
-use Rattle.object_calls.specs.IrqRows.{IrqRow, row_of as irq_row, is_device, on_device}
-use Rattle.kernel_world.specs.State.{WorldState}
-use Rattle.kernel_world.specs.Actors.{caller_words}
-use Rattle.kernel_world.specs.CallWords.{call_of}
-use Rattle.kernel_world.specs.Replies.{left_gate, replied}
-use Rattle.kernel_world.specs.declared.actor.Actor.{Actor}
-use Rattle.kernel_world.specs.declared.actor.Actor.TheVariants.{Task, Interrupt}
-use Rattle.kernel_world.specs.declared.reply.Reply.{Reply}
-use Rattle.kernel_world.specs.declared.reply.Reply.TheVariants.{Answer, Refusal, Later, Gone}
-use Rattle.kernel_world.proofs.OneTask.{changed_task, other_task}
+use Rattle.call_rows.specs.IrqRows.{IrqRow, row_of as irq_row, is_device, on_device}
+use Rattle.call_rows.specs.KernelWorldState.{WorldState}
+use Rattle.call_rows.specs.KernelWorldActors.{caller_words}
+use Rattle.call_rows.specs.KernelWorldCallWords.{call_of}
+use Rattle.call_rows.specs.KernelWorldReplies.{left_gate, replied}
+use Rattle.call_rows.specs.KernelWorldActor.{Actor}
+use Rattle.call_rows.specs.KernelWorldActor.TheVariants.{Task, Interrupt}
+use Rattle.call_rows.specs.KernelWorldReply.{Reply}
+use Rattle.call_rows.specs.KernelWorldReply.TheVariants.{Answer, Refusal, Later, Gone}
+use Rattle.call_rows.proofs.KernelWorldOneTask.{changed_task, other_task}
 use Rattle.kernel_calls.specs.Calls.{of_irqs, row_of, row_unless, refusal_before, made, call}
 use Rattle.kernel_calls.specs.Removing.{Removes, OnlyRemoves, RemoveLaw, IsNoneBack, NoneBackLaw, is_removed, SlotLaw}
 

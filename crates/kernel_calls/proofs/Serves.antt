@@ -2,15 +2,15 @@
 use Rattle.std.proofs.Common.{◌≡◌, ℕ, sym, ◌∙◌, arith, inl, inr, ⊎_elim}
 use Rattle.wind_core.specs.State.{task_of}
 use Rattle.task_safety.specs.Safety.{safe_of}
-use Rattle.kernel_world.specs.State.{WorldState}
-use Rattle.kernel_world.specs.Actors.{Acts}
+use Rattle.call_rows.specs.KernelWorldState.{WorldState}
+use Rattle.call_rows.specs.KernelWorldActors.{Acts}
 use Rattle.kernel_calls.specs.Calls.{Row}
 use Rattle.kernel_calls.specs.Laws.{Passes}
-use Rattle.kernel_world.specs.Kept.{call_sinces}
-use Rattle.kernel_world.specs.declared.actor.Actor.{Actor}
-use Rattle.kernel_world.specs.declared.actor.Actor.TheVariants.{Task, Interrupt}
-use Rattle.kernel_world.specs.declared.reply.Reply.TheVariants.{Gone}
-use Rattle.kernel_world.proofs.Advancing.{Advances, keeps_on}
+use Rattle.call_rows.specs.KernelWorldKept.{call_sinces}
+use Rattle.call_rows.specs.KernelWorldActor.{Actor}
+use Rattle.call_rows.specs.KernelWorldActor.TheVariants.{Task, Interrupt}
+use Rattle.call_rows.specs.KernelWorldReply.TheVariants.{Gone}
+use Rattle.call_rows.proofs.KernelWorldAdvancing.{Advances, keeps_on}
 
 -- a row keeps what a call keeps, and its caller lives on if it is to be answered
 pub record Serves (w : WorldState) (a : Actor) (r : Row) (n : ℕ) : Type 0 where

@@ -6,22 +6,22 @@ use Rattle.wind_base.specs.declared.gate.Gate.TheVariants as gates
 use Rattle.wind_base.specs.declared.errno.Errno.TheVariants as errors
 use Rattle.wind_core.specs.State.{Lives}
 use Rattle.msg_queue.specs.Kept.{IsKept}
-use Rattle.kernel_world.specs.State.{WorldState}
-use Rattle.kernel_world.specs.Objects.{KeepsObjects}
+use Rattle.call_rows.specs.KernelWorldState.{WorldState}
+use Rattle.call_rows.specs.KernelWorldObjects.{KeepsObjects}
 use Rattle.id_table.specs.Idents.{shell_id}
-use Rattle.kernel_world.specs.Actors.{is_interrupt, Acts, MayCall}
-use Rattle.kernel_world.specs.Kept.{KeepsWatch, IsWorld, IsEarly}
+use Rattle.call_rows.specs.KernelWorldActors.{is_interrupt, Acts, MayCall}
+use Rattle.call_rows.specs.KernelWorldKept.{KeepsWatch, IsWorld, IsEarly}
 use Rattle.kernel_calls.specs.Calls.{Row, scene_of, with_reply, refusal_before, made}
-use Rattle.kernel_world.specs.Replies.{left_gate, replied}
-use Rattle.kernel_world.specs.Allowed.{is_isr_callable, is_shells_own, may_exhaust_memory}
-use Rattle.kernel_world.specs.declared.actor.Actor.{Actor}
-use Rattle.kernel_world.specs.declared.actor.Actor.TheVariants.{Task, Interrupt}
-use Rattle.kernel_world.specs.declared.reply.Reply.{Reply}
-use Rattle.kernel_world.specs.declared.reply.Reply.TheVariants.{Gone}
+use Rattle.call_rows.specs.KernelWorldReplies.{left_gate, replied}
+use Rattle.call_rows.specs.KernelWorldAllowed.{is_isr_callable, is_shells_own, may_exhaust_memory}
+use Rattle.call_rows.specs.KernelWorldActor.{Actor}
+use Rattle.call_rows.specs.KernelWorldActor.TheVariants.{Task, Interrupt}
+use Rattle.call_rows.specs.KernelWorldReply.{Reply}
+use Rattle.call_rows.specs.KernelWorldReply.TheVariants.{Gone}
 use Rattle.kernel_calls.proofs.Serves.{Serves}
 use Rattle.kernel_calls.proofs.Passing.{made_serves}
-use Rattle.kernel_world.proofs.Replying.{left_advances, replied_advances}
-use Rattle.kernel_world.proofs.Early.{early_within}
+use Rattle.call_rows.proofs.KernelWorldReplying.{left_advances, replied_advances}
+use Rattle.call_rows.proofs.KernelWorldEarly.{early_within}
 
 -- the objects keep their invariant after the gate
 pub left_objects : (w : WorldState) (a : Actor) → IsWorld w → MayCall w.kern a → IsEarly w → KeepsObjects (left_gate w a).board (left_gate w a).kern (left_gate w a).objects
@@ -42,7 +42,7 @@ pub left_modules : (w : WorldState) (a : Actor) → IsWorld w → MayCall w.kern
 left_modules w a kept may early = (left_advances w kept (2 ^ 60) (early_within w early) a may).kept.modules.held
 
 -- so have the watchdogs
-pub left_watch : (w : WorldState) (a : Actor) → IsWorld w → MayCall w.kern a → IsEarly w → KeepsWatch (left_gate w a).kern.next_id (left_gate w a).watch
+pub left_watch : (w : WorldState) (a : Actor) → IsWorld w → MayCall w.kern a → IsEarly w → KeepsWatch (left_gate w a).board (left_gate w a).kern.next_id (left_gate w a).watch
 left_watch w a kept may early = (left_advances w kept (2 ^ 60) (early_within w early) a may).kept.watch
 
 -- a call that may run out of memory is that of a task, because a routine's is refused before

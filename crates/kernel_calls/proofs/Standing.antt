@@ -2,16 +2,16 @@
 use Rattle.std.proofs.Common.{◌≡◌, ℕ, Bool, true, false, cond, eqb, List, [], ◌∷◌, Option, None, Some, refl, sym, ap, ◌∙◌}
 use Rattle.std.specs.Option.{option_map}
 use Rattle.wind_base.specs.declared.regs.Regs.{Regs}
-use Rattle.wind_lists.specs.Records.{change}
-use Rattle.wind_lists.proofs.Records.{change_alike}
+use Rattle.id_table.specs.Records.{change}
+use Rattle.id_table.proofs.Records.{change_alike}
 use Rattle.task_block.specs.declared.task.Task.{Task as TaskRecord}
 use Rattle.wind_core.specs.State.{KernState, IsKern, task_id, task_of}
 use Rattle.wind_core.specs.Moves.{change_task, set_regs, past_gate, leave_gate}
-use Rattle.kernel_world.specs.State.{WorldState}
-use Rattle.kernel_world.specs.Actors.{Acts, is_interrupt}
-use Rattle.kernel_world.specs.Replies.{left_gate}
-use Rattle.kernel_world.specs.declared.actor.Actor.{Actor}
-use Rattle.kernel_world.specs.declared.actor.Actor.TheVariants.{Task, Interrupt}
+use Rattle.call_rows.specs.KernelWorldState.{WorldState}
+use Rattle.call_rows.specs.KernelWorldActors.{Acts, is_interrupt}
+use Rattle.call_rows.specs.KernelWorldReplies.{left_gate}
+use Rattle.call_rows.specs.KernelWorldActor.{Actor}
+use Rattle.call_rows.specs.KernelWorldActor.TheVariants.{Task, Interrupt}
 use Rattle.kernel_calls.specs.Standing.{counter_in, counter_of, with_counter, task_at, standing_at}
 
 -- ---- other registers of a task are another program counter in them

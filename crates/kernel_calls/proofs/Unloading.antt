@@ -20,14 +20,14 @@ use Rattle.module_loader.specs.declared.module.Segment.{Segment}
 use Rattle.module_loader.specs.Modules.{is_named, without_segment, without_all, without_segments}
 use Rattle.module_loader.proofs.Holds.{parted, fewer, others_stay, unload_holds}
 use Rattle.wind_core.specs.State.{KernState}
-use Rattle.kernel_world.specs.State.{WorldState}
+use Rattle.call_rows.specs.KernelWorldState.{WorldState}
 use Rattle.kernel_calls.specs.ModuleRows.{newest_of, meant_module, unload_meant, unload_row}
 use Rattle.kernel_calls.specs.Calls.{of_modules}
-use Rattle.kernel_world.specs.Kept.{Stack, routine_stack, IsStack, KeepsPool, AreStacks, KeepsLoaded, task_stacks, IsWorld, Within, call_sinces}
-use Rattle.kernel_world.proofs.Advancing.{Advances, nowhere, of_unload}
-use Rattle.kernel_world.proofs.LiveIds.{fewer_without}
-use Rattle.kernel_world.proofs.Holding.{IsNoModules}
-use Rattle.kernel_world.proofs.Stacks.{pool-free}
+use Rattle.call_rows.specs.KernelWorldKept.{Stack, routine_stack, IsStack, KeepsPool, AreStacks, KeepsLoaded, task_stacks, IsWorld, Within, call_sinces}
+use Rattle.call_rows.proofs.KernelWorldAdvancing.{Advances, nowhere, of_unload}
+use Rattle.call_rows.proofs.KernelWorldLiveIds.{fewer_without}
+use Rattle.call_rows.proofs.KernelWorldHolding.{IsNoModules}
+use Rattle.call_rows.proofs.KernelWorldStacks.{pool-free}
 
 -- ---- the module that a word means lives
 abbrev LivesIn : List (ℕ × LoadedModule) → ℕ × LoadedModule → Type 0

@@ -7,27 +7,28 @@ use Rattle.wind_base.specs.declared.errno.Errno.TheVariants as errors
 use Rattle.board_mem.specs.Memory.{string_at}
 use Rattle.wind_core.specs.Moves.{live_id}
 use Rattle.msg_queue.specs.State.{Scene, scene}
-use Rattle.kernel_world.specs.State.{WorldState}
-use Rattle.kernel_world.specs.Actors.{is_interrupt, is_shell, target}
-use Rattle.kernel_world.specs.CallWords.{call_by}
-use Rattle.kernel_world.specs.declared.call.Call.{Call}
-use Rattle.kernel_world.specs.declared.call.Call.TheVariants as calls
-use Rattle.kernel_world.specs.Allowed.{is_isr_callable, is_shells_own}
-use Rattle.kernel_world.specs.Replies.{errno_of, with_errno, left_gate, replied}
-use Rattle.kernel_world.specs.declared.actor.Actor.{Actor}
-use Rattle.kernel_world.specs.declared.reply.Reply.{Reply}
-use Rattle.kernel_world.specs.declared.reply.Reply.TheVariants.{Answer, Refusal, Later, Gone}
-use Rattle.object_calls.specs.SemRows as sem
-use Rattle.object_calls.specs.QueueRows as queue
-use Rattle.object_calls.specs.WatchRows as watch
-use Rattle.object_calls.specs.IrqRows as irq
-use Rattle.task_calls.specs.TaskRows.{KernRow, RamRow, task_at, priority_in, suspend_row, resume_row, delay_row, lock_row, unlock_row, self_row, verify_row, name_row, slice_row, tick_row, int_lock_row, int_unlock_row, int_context_row}
-use Rattle.task_calls.specs.SafetyRows.{DeleteRow, safe_row, unsafe_row, delete_row}
-use Rattle.task_calls.specs.MemoryRows.{PartRow, malloc_row, align_row, free_row}
-use Rattle.task_calls.specs.SymbolRows.{SymbolRow, symbol_row}
-use Rattle.task_calls.specs.Spawning.{SpawnRow, spawn_state, after_spawn, after_quick, spawned_if, task_wanted, quick_wanted}
+use Rattle.call_rows.specs.KernelWorldState.{WorldState}
+use Rattle.call_rows.specs.KernelWorldActors.{is_interrupt, is_shell, target}
+use Rattle.call_rows.specs.KernelWorldCallWords.{call_by}
+use Rattle.call_rows.specs.KernelWorldCall.{Call}
+use Rattle.call_rows.specs.KernelWorldCall.TheVariants as calls
+use Rattle.call_rows.specs.KernelWorldAllowed.{is_isr_callable, is_shells_own}
+use Rattle.call_rows.specs.KernelWorldReplies.{errno_of, with_errno, left_gate, replied}
+use Rattle.call_rows.specs.KernelWorldActor.{Actor}
+use Rattle.call_rows.specs.KernelWorldReply.{Reply}
+use Rattle.call_rows.specs.KernelWorldReply.TheVariants.{Answer, Refusal, Later, Gone}
+use Rattle.call_rows.specs.SemRows as sem
+use Rattle.call_rows.specs.QueueRows as queue
+use Rattle.call_rows.specs.WatchRows as watch
+use Rattle.call_rows.specs.IrqRows as irq
+use Rattle.call_rows.specs.TaskRows.{KernRow, RamRow, task_at, priority_in, suspend_row, resume_row, delay_row, lock_row, unlock_row, self_row, verify_row, name_row, slice_row, tick_row, int_lock_row, int_unlock_row, int_context_row}
+use Rattle.call_rows.specs.SafetyRows.{DeleteRow, safe_row, unsafe_row, delete_row}
+use Rattle.call_rows.specs.MemoryRows.{PartRow, malloc_row, align_row, free_row}
+use Rattle.call_rows.specs.SymbolRows.{SymbolRow, symbol_row}
+use Rattle.call_rows.specs.Spawning.{SpawnRow, spawn_state, after_spawn, after_quick, spawned_if, task_wanted, quick_wanted}
 use Rattle.kernel_calls.specs.ShowRows as show
 use Rattle.kernel_calls.specs.ModuleRows.{ModuleRow, unload_row}
+use Rattle.kernel_calls.specs.declared.files.Load.{Load}
 use Rattle.kernel_calls.specs.declared.calls.Called.{Called}
 use Rattle.kernel_calls.specs.declared.calls.Called.TheVariants as called
 
@@ -190,17 +191,27 @@ abbrev pub file_name : Option (List ℕ) → Option (List ℕ)
 file_name None = None
 file_name (Some name) = if length name == 0 || nat_lt longest_name (length name) then None else Some name
 
--- ld needs the file whose name is at an address, if the shell's task makes the call; no other call needs a file
-abbrev pub file_named : Call → List ℕ → Actor → Option (List ℕ)
-file_named (calls.Ld symbols no_abort name) ram a = if is_shell a then file_name (string_at ram name) else None
-file_named c ram a = None
+-- a call of ld by the shell's task wants a load; no other call does
+abbrev pub load_by : Call → Actor → Option Load
+load_by (calls.Ld symbols no_abort name) a = if is_shell a then Some (record { name = name; mode = symbols }) else None
+load_by c a = None
 
-abbrev pub file_of : Option Call → List ℕ → Actor → Option (List ℕ)
-file_of None ram a = None
-file_of (Some c) ram a = file_named c ram a
+abbrev pub load_in : Option Call → Actor → Option Load
+load_in None a = None
+load_in (Some c) a = load_by c a
 
+-- the load that the call of a gate wants: the address of its file's name, and its mode
+abbrev pub load_wanted : Gate → WorldState → Actor → Option Load
+load_wanted g w a = load_in (call_by g w a) a
+
+-- the file whose name is at the load's address
+abbrev pub file_of : List ℕ → Option Load → Option (List ℕ)
+file_of ram None = None
+file_of ram (Some load) = file_name (string_at ram load.name)
+
+-- the file that the call of a gate needs
 abbrev pub file_wanted : Gate → WorldState → Actor → Option (List ℕ)
-file_wanted g w a = file_of (call_by g w a) w.ram a
+file_wanted g w a = file_of w.ram (load_wanted g w a)
 
 -- the call was made
 abbrev pub is_made : Called → Bool

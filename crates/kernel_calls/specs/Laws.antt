@@ -5,16 +5,16 @@ use Rattle.wind_base.specs.declared.gate.Gate.{Gate}
 use Rattle.wind_outside.specs.Devices.{DeviceState}
 use Rattle.wind_core.specs.State.{KernState, Lives, task_of}
 use Rattle.task_safety.specs.Safety.{safe_of}
-use Rattle.kernel_world.specs.State.{WorldState, choice_of}
+use Rattle.call_rows.specs.KernelWorldState.{WorldState, choice_of}
 use Rattle.id_table.specs.Idents.{shell_id}
-use Rattle.kernel_world.specs.Actors.{MayCall}
+use Rattle.call_rows.specs.KernelWorldActors.{MayCall}
 use Rattle.kernel_calls.specs.Calls.{call}
-use Rattle.task_calls.specs.Ending.{ended}
+use Rattle.call_rows.specs.Ending.{ended}
 use Rattle.wind_base.specs.declared.profile.Profile.{Profile}
-use Rattle.kernel_world.specs.Opening.{opening_world}
-use Rattle.kernel_world.specs.Kept.{IsWorld, Within, ReservedBy, call_sinces, StepKeeps}
-use Rattle.kernel_world.specs.declared.actor.Actor.{Actor}
-use Rattle.kernel_world.specs.declared.actor.Actor.TheVariants.{Task}
+use Rattle.call_rows.specs.KernelWorldOpening.{opening_world}
+use Rattle.call_rows.specs.KernelWorldKept.{IsWorld, Within, ReservedBy, call_sinces, StepKeeps}
+use Rattle.call_rows.specs.KernelWorldActor.{Actor}
+use Rattle.call_rows.specs.KernelWorldActor.TheVariants.{Task}
 
 -- a task that lives in one world and not in the next was not safe from deletion, or is the caller
 abbrev pub OnlyUnsafeGo : WorldState → Actor → WorldState → Type 0

@@ -8,11 +8,11 @@ use Rattle.wind_core.specs.State.{task_of}
 use Rattle.wind_core.specs.Moves.{past_gate, with_answer}
 use Rattle.board_bus.specs.Slots.{is_occupied, device_at}
 use Rattle.dev_irq.specs.State.{idle_line, line_of, pending_of}
-use Rattle.object_calls.specs.IrqRows.{is_device}
-use Rattle.kernel_world.specs.State.{WorldState}
-use Rattle.kernel_world.specs.Actors.{caller_words}
-use Rattle.kernel_world.specs.declared.actor.Actor.{Actor}
-use Rattle.kernel_world.specs.declared.actor.Actor.TheVariants.{Task}
+use Rattle.call_rows.specs.IrqRows.{is_device}
+use Rattle.call_rows.specs.KernelWorldState.{WorldState}
+use Rattle.call_rows.specs.KernelWorldActors.{caller_words}
+use Rattle.call_rows.specs.KernelWorldActor.{Actor}
+use Rattle.call_rows.specs.KernelWorldActor.TheVariants.{Task}
 use Rattle.kernel_calls.specs.Calls.{call}
 use Rattle.kernel_calls.specs.Laws.{ElseStays}
 

@@ -12,8 +12,8 @@ use Rattle.text_show.specs.Tasks.{task_table_of}
 use Rattle.text_show.specs.Dump.{dump_of}
 use Rattle.text_show.specs.Symbols.{symbol_rows_of}
 use Rattle.text_show.specs.Modules.{module_table_of}
-use Rattle.kernel_world.specs.declared.reply.Reply.{Reply}
-use Rattle.kernel_world.specs.declared.reply.Reply.TheVariants.{Answer, Refusal}
+use Rattle.call_rows.specs.KernelWorldReply.{Reply}
+use Rattle.call_rows.specs.KernelWorldReply.TheVariants.{Answer, Refusal}
 
 -- the bytes that a call writes, and how its caller is answered
 pub record ShowRow : Type 0 where

@@ -4,9 +4,9 @@ use Rattle.wind_base.specs.declared.regs.Regs.{Regs}
 use Rattle.task_block.specs.declared.task.Task.{Task as TaskRecord}
 use Rattle.wind_core.specs.State.{task_of}
 use Rattle.wind_core.specs.Moves.{change_task}
-use Rattle.kernel_world.specs.State.{WorldState}
-use Rattle.kernel_world.specs.declared.actor.Actor.{Actor}
-use Rattle.kernel_world.specs.declared.actor.Actor.TheVariants.{Task, Interrupt}
+use Rattle.call_rows.specs.KernelWorldState.{WorldState}
+use Rattle.call_rows.specs.KernelWorldActor.{Actor}
+use Rattle.call_rows.specs.KernelWorldActor.TheVariants.{Task, Interrupt}
 
 -- the program counter of a caller that is a task
 abbrev pub counter_in : Option TaskRecord → ℕ

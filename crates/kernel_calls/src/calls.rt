@@ -4,13 +4,13 @@ ghost use Rattle.std.specs.Prelude.{◌≡◌, ℕ, ◌<◌, ◌≤◌, [], true
 ghost use Rattle.wind_base.specs.OutBuf.{KeepsSpace};
 ghost use Rattle.id_table.specs.Idents.{shell_id};
 ghost use Rattle.wind_core.specs.State.{Lives};
-ghost use Rattle.kernel_world.specs.{Actors.{Acts, MayCall, is_interrupt as is_interrupt_lem}, Kept.{IsWorld, IsEarly}, Allowed.may_exhaust_memory, Seen.{world_seen, world_with}};
+ghost use Rattle.call_rows.specs.{KernelWorldActors.{Acts, MayCall, is_interrupt as is_interrupt_lem}, KernelWorldKept.{IsWorld, IsEarly}, KernelWorldAllowed.may_exhaust_memory, KernelWorldSeen.{world_seen, world_with}};
 ghost use Rattle.kernel_calls.specs.{Standing.{counter_of, standing_at}, Removing.{Removes, OnlyRemoves, IsNoneBack}, Calls.{refusal_before as refusal_before_lem, with_reply, outcome_by, outcome as outcome_lem, made, call, file_wanted as file_wanted_lem, is_made, asked_for}, Space.{makes_room, HoldsSpace}};
 ghost use Rattle.kernel_calls.specs.declared.calls.Called.TheVariants as called;
 
 use crate::files::file_wanted;
 use crate::rows::row;
-use kernel_world::{
+use call_rows::{
     Actor, Reply, World, is_isr_callable, is_shell, is_shells_own, leave_gate, read_call, reply_to,
 };
 use std::alloc::Global;

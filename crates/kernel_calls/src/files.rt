@@ -1,16 +1,25 @@
-//! The file that a call needs.
+//! The load that a call wants, and the file that it needs.
 
 ghost use Rattle.std.specs.Prelude.{◌≡◌, IfOk, OnErr, IsSome};
 ghost use Rattle.board_mem.specs.Memory.{string_at};
-ghost use Rattle.kernel_calls.specs.Calls.{file_name as file_name_lem, file_named, file_wanted as file_wanted_lem};
-ghost use Rattle.kernel_world.specs.Seen.{world_seen};
+ghost use Rattle.kernel_calls.specs.Calls.{file_name as file_name_lem, load_by as load_by_lem, load_wanted as load_wanted_lem, file_wanted as file_wanted_lem};
+ghost use Rattle.call_rows.specs.KernelWorldSeen.{world_seen};
 
 use board_mem::Ram;
-use kernel_world::{Actor, Call, World, is_shell, read_call};
+use call_rows::{Actor, Call, World, is_shell, read_call};
 use std::alloc::Global;
 use wind_base::limits::NAME_BYTES;
 use wind_base::{Gate, Name, NoMemory};
 use wind_outside::Device;
+
+/// A load that a call wants.
+#[derive(Clone, Copy)]
+pub struct Load {
+    /// The address of its file's name.
+    pub name: u32,
+    /// Its mode: which symbols it adds to the table.
+    pub mode: u32,
+}
 
 // The string at an address, if it has 1 to 255 bytes.
 fn file_name(alloc: Global, ram: &Ram, at: u32) -> Result<Option<Name>, NoMemory>
@@ -30,17 +39,25 @@ fn file_name(alloc: Global, ram: &Ram, at: u32) -> Result<Option<Name>, NoMemory
     }
 }
 
-// The name of the file that a call needs: the string at an address, of 1 to 255 bytes, if the
-// shell's task calls `ld`. `None` if the call needs no file. Host memory may run out only if it
-// needs one.
-fn file_of(alloc: Global, ram: &Ram, call: &Call, who: &Actor) -> Result<Option<Name>, NoMemory>
-    ensures wanted { IfOk result (λ o. o ≡ file_named call.now ram.now.bytes who.now) }
-    ensures memory { OnErr result (IsSome (file_named call.now ram.now.bytes who.now)) }
+// The load that a call wants, if the shell's task calls `ld`.
+fn load_by(call: &Call, who: &Actor) -> Option<Load>
+    ensures { result ≡ load_by_lem call.now who.now }
 {
     match call {
-        Call::Ld { name, .. } if is_shell(who) => file_name(alloc, ram, *name),
-        _ => Ok(None),
+        Call::Ld { symbols, name, .. } if is_shell(who) => Some(Load {
+            name: *name,
+            mode: *symbols,
+        }),
+        _ => None,
     }
+}
+
+/// The load that the call of a gate wants, if the shell's task calls `ld`.
+pub fn load_wanted(w: &World, gate: Gate, who: &Actor) -> Option<Load>
+    ensures { result ≡ load_wanted_lem gate (world_seen ⟦<dyn Device as Device>⟧ w.now) who.now }
+{
+    let call = read_call(w, gate, who)?;
+    load_by(&call, who)
 }
 
 /// The name of the file that the call of a gate needs: the string at the address in r5, of 1 to 255
@@ -57,8 +74,8 @@ pub fn file_wanted(
     ensures memory { OnErr result
         (IsSome (file_wanted_lem gate (world_seen ⟦<dyn Device as Device>⟧ w.now) who.now)) }
 {
-    match read_call(w, gate, who) {
-        Some(call) => file_of(alloc, &w.bus.ram, &call, who),
+    match load_wanted(w, gate, who) {
+        Some(load) => file_name(alloc, &w.bus.ram, load.name),
         None => Ok(None),
     }
 }

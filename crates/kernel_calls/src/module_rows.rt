@@ -5,7 +5,7 @@ ghost use Rattle.module_loader.specs.Holding.{AreHeld};
 ghost use Rattle.kernel_calls.specs.ModuleRows.{meant_module as meant_module_lem, unload_row};
 
 use board_mem::Ram;
-use kernel_world::{DONE, Reply};
+use call_rows::{DONE, Reply};
 use mem_partition::Part;
 use module_loader::Modules;
 use symbol_table::Symbols;

@@ -4,24 +4,25 @@ ghost use Rattle.std.specs.Prelude.{◌≡◌, ◌<◌, ◌≤◌, ◌^◌, [], 
 ghost use Rattle.wind_base.specs.OutBuf.{KeepsSpace};
 ghost use Rattle.msg_queue.specs.{State.scene, Kept.IsKept};
 ghost use Rattle.module_loader.specs.Holding.{AreHeld};
-ghost use Rattle.kernel_world.specs.{Actors.{Acts, MayCall}, CallWords.gate_of, Allowed.may_exhaust_memory, Kept.{IsEarly, KeepsWatch}, Objects.KeepsObjects, Seen.{world_seen, world_with}};
+ghost use Rattle.call_rows.specs.{KernelWorldActors.{Acts, MayCall}, KernelWorldCallWords.gate_of, KernelWorldAllowed.may_exhaust_memory, KernelWorldKept.{IsEarly, KeepsWatch}, KernelWorldObjects.KeepsObjects, KernelWorldSeen.{world_seen, world_with}};
 ghost use Rattle.kernel_calls.specs.{Calls.{with_reply, row as row_lem}, Space.{makes_room, HoldsSpace}};
 
 use crate::module_rows::unload;
 use crate::show_rows::{print, show_memory, show_modules, show_symbols, show_tasks};
-use isr_watch::Routine;
-use kernel_world::{Actor, Call, DONE, Reply, World, errno_of, set_errno};
-use object_calls::queue_rows::{self, ReceiveWords, SendWords};
-use object_calls::{irq_rows, sem_rows, watch_rows};
-use std::alloc::Global;
-use task_calls::memory_rows::{free, malloc, memalign};
-use task_calls::safety_rows::{delete, make_safe, make_unsafe};
-use task_calls::spawning::{spawn_quickly, spawn_task};
-use task_calls::symbol_rows::{NewSymbol, add_symbol};
-use task_calls::task_rows::{
+use call_rows::memory_rows::{free, malloc, memalign};
+use call_rows::queue_rows::{self, ReceiveWords, SendWords};
+use call_rows::safety_rows::{delete, make_safe, make_unsafe};
+use call_rows::spawning::{spawn_quickly, spawn_task};
+use call_rows::symbol_rows::{NewSymbol, add_symbol};
+use call_rows::task_rows::{
     context, delay, get_priority, lock, lock_interrupts, own_id, resume, slice, suspend,
     task_of_name, ticks, unlock, unlock_interrupts, verify,
 };
+use call_rows::{
+    Actor, Call, DONE, Reply, World, errno_of, irq_rows, sem_rows, set_errno, watch_rows,
+};
+use isr_watch::Routine;
+use std::alloc::Global;
 use wind_base::{Errno, NoMemory};
 use wind_outside::Device;
 
@@ -33,7 +34,7 @@ pub(crate) fn row(alloc: Global, w: &mut World, call: &Call, who: Actor) -> Resu
     requires end { w.old.part.end < 2 ^ 32 }
     requires ready { MayCall w.old.kern who }
     requires objects { KeepsObjects w.old.board w.old.kern w.old.objects }
-    requires watch { KeepsWatch w.old.kern.next_id w.old.watch }
+    requires watch { KeepsWatch w.old.board w.old.kern.next_id w.old.watch }
     requires queues { IsKept (scene w.old.kern w.old.objects.queues w.old.bus.ram.bytes) }
     requires modules { AreHeld w.old.mods.rows w.old.part }
     requires early { IsEarly (world_with [] w.old) }

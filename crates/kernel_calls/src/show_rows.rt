@@ -6,7 +6,7 @@ ghost use Rattle.text_show.specs.Columns.{with_text};
 ghost use Rattle.kernel_calls.specs.ShowRows.{printf_row, tasks_row, width_of as width_of_lem, units_of as units_of_lem, dump_row, lookup_row, modules_row};
 
 use board_mem::Ram;
-use kernel_world::{DONE, Reply};
+use call_rows::{DONE, Reply};
 use module_loader::Modules;
 use std::alloc::Global;
 use symbol_table::Symbols;

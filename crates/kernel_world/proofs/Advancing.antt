@@ -3,6 +3,7 @@ use Rattle.std.proofs.Common.{◌≡◌, ℕ, ◌+◌, ◌<◌, ◌≤◌, List,
 use Rattle.std.specs.Option.{option_map}
 use Rattle.std.proofs.lemmas.List.Elements.{All-weaker}
 use Rattle.wind_base.specs.Limits.{most_symbols}
+use Rattle.wind_base.specs.declared.board_kind.BoardKind.{BoardKind}
 use Rattle.wind_base.specs.declared.regs.Regs.{Regs}
 use Rattle.wind_outside.specs.Devices.{DeviceState}
 use Rattle.symbol_table.specs.declared.symbol.Symbol.{Symbol}
@@ -10,7 +11,8 @@ use Rattle.id_table.specs.Rows as table
 use Rattle.module_loader.specs.declared.module.LoadedModule.{LoadedModule}
 use Rattle.mem_partition.specs.State.{PartState}
 use Rattle.wind_core.specs.State.{KernState, Lives}
-use Rattle.wind_core.specs.Move.{SetErrno}
+use Rattle.wind_core.specs.Move.{Set}
+use Rattle.wind_core.specs.declared.changes.Change.TheVariants as changes
 use Rattle.wind_core.proofs.Ids.{lives_by}
 use Rattle.msg_queue.specs.State.{Scene}
 use Rattle.dev_irq.specs.declared.line.Line.{Line}
@@ -41,8 +43,8 @@ within_more w l n more within =
     (more_counts w.kern l n more within.0, All-weaker (λ r. r.1.depth ≤ l) (λ r. r.1.depth ≤ n) (λ r h. omega (arith, h, more)) w.objects.mutexes.rows within.1)
 
 -- the ids of watchdogs are below a later next id too
-pub watch_on : (m n : ℕ) (s : WatchState) → m ≤ n → KeepsWatch m s → KeepsWatch n s
-watch_on m n s more h = record { watch = h.watch; ids = All-weaker (λ v. v.id < m) (λ v. v.id < n) (λ v below. omega (arith, below, more)) s.watchdogs h.ids }
+pub watch_on : (board : BoardKind) (m n : ℕ) (s : WatchState) → m ≤ n → KeepsWatch board m s → KeepsWatch board n s
+watch_on board m n s more h = record { link = h.link; watch = h.watch; ids = All-weaker (λ v. v.id < m) (λ v. v.id < n) (λ v below. omega (arith, below, more)) s.watchdogs h.ids }
 
 -- if no routine is active, none is listed, whatever registers the active one has
 pub level_is : (f : Regs → Regs) (s : WatchState) → IsWatch s → IsWatch (level_by f s)
@@ -106,7 +108,7 @@ module _ (w : WorldState) (kept : IsWorld w) where
   }
 
   -- the tasks change, and with them the objects, RAM and the watchdogs
-  by_parts : (j : KernState) (o : Objects) (ram : List ℕ) (s : WatchState) (n d m : ℕ) → Goes w.kern j n d → KeepsObjects w.board j o → DepthsWithin n o → length ram ≡ length w.ram → KeepsWatch j.next_id s → s.next_start ≤ w.watch.next_start + m
+  by_parts : (j : KernState) (o : Objects) (ram : List ℕ) (s : WatchState) (n d m : ℕ) → Goes w.kern j n d → KeepsObjects w.board j o → DepthsWithin n o → length ram ≡ length w.ram → KeepsWatch w.board j.next_id s → s.next_start ≤ w.watch.next_start + m
       → KeepsIds (record w { kern = j; objects = o; ram = ram; watch = s }) → o.mutexes.profile ≡ w.objects.mutexes.profile → Advances w (record w { kern = j; objects = o; ram = ram; watch = s }) n d m
   by_parts j o ram s n d m g objects depths same watch starts own rule =
       by_goes (record w { kern = j; objects = o; ram = ram; watch = s }) n d m g
@@ -129,7 +131,7 @@ module _ (w : WorldState) (kept : IsWorld w) where
   pub by_objects : (j : KernState) (o : Objects) (n d : ℕ) → Goes w.kern j n d → KeepsObjects w.board j o → DepthsWithin n o → KeepsIds (record w { kern = j; objects = o })
       → o.mutexes.profile ≡ w.objects.mutexes.profile → Advances w (record w { kern = j; objects = o }) n d 0
   by_objects j o n d g objects depths own rule =
-      by_parts j o w.ram w.watch n d 0 g objects depths refl (watch_on w.kern.next_id j.next_id w.watch g.next kept.watch) (omega arith) own rule
+      by_parts j o w.ram w.watch n d 0 g objects depths refl (watch_on w.board w.kern.next_id j.next_id w.watch g.next kept.watch) (omega arith) own rule
 
   pub by_kern : (j : KernState) (n d : ℕ) → Goes w.kern j n d → KeepsObjects w.board j w.objects → DepthsWithin n w.objects → Advances w (record w { kern = j }) n d 0
   by_kern j n d g objects depths = by_objects j w.objects n d g objects depths (ids_kern w kept.ids j g.alone g.next) refl
@@ -174,7 +176,7 @@ module _ (w : WorldState) (kept : IsWorld w) where
     stays = beside w.slots w.output w.int_errno
 
     -- the watchdogs change, and the next id with them
-    pub of_watches : (j : KernState) (s : WatchState) (m : ℕ) → Goes w.kern j n 0 → KeepsObjects w.board j w.objects → KeepsWatch j.next_id s → s.next_start ≤ w.watch.next_start + m
+    pub of_watches : (j : KernState) (s : WatchState) (m : ℕ) → Goes w.kern j n 0 → KeepsObjects w.board j w.objects → KeepsWatch w.board j.next_id s → s.next_start ≤ w.watch.next_start + m
         → Given w.kern.next_id j.next_id (map watchdog_id w.watch.watchdogs) (map watchdog_id s.watchdogs) → Advances w (record w { kern = j; watch = s }) n 0 m
     of_watches j s m g objects watch starts given = by_parts j w.objects w.ram s n 0 m g objects within.1 refl watch starts (ids_watch w kept.ids j s g.alone given) refl
 
@@ -182,7 +184,7 @@ module _ (w : WorldState) (kept : IsWorld w) where
     pub at_routine : (f : Regs → Regs) → Advances w (at_level w f) n 0 0
     at_routine f =
         of_watches w.kern (level_by f w.watch) 0 (goes_nowhere w.kern n kept.kern within.0) kept.objects
-        (record { watch = level_is f w.watch kept.watch.watch; ids = kept.watch.ids }) (omega arith) (given_none w.kern.next_id w.kern.next_id (map watchdog_id w.watch.watchdogs) (omega arith))
+        (record { watch = level_is f w.watch kept.watch.watch; ids = kept.watch.ids; link = kept.watch.link }) (omega arith) (given_none w.kern.next_id w.kern.next_id (map watchdog_id w.watch.watchdogs) (omega arith))
 
     pub nowhere : Advances w w (n + 1) call_sinces 1
     nowhere = as_call w stays
@@ -205,7 +207,7 @@ module _ (w : WorldState) (kept : IsWorld w) where
     of_scene t g size objects own =
         let o : Objects = record w.objects { queues = t.queues } in
         advances_more w (record w { kern = t.kern; objects = o; ram = t.ram }) (n + 1) (n + 1) call_sinces call_sinces 0 1 (omega arith) (omega arith) (omega arith)
-        (by_parts t.kern o t.ram w.watch (n + 1) call_sinces 0 g objects more.1 size (watch_on w.kern.next_id t.kern.next_id w.watch g.next kept.watch) (omega arith) own refl)
+        (by_parts t.kern o t.ram w.watch (n + 1) call_sinces 0 g objects more.1 size (watch_on w.board w.kern.next_id t.kern.next_id w.watch g.next kept.watch) (omega arith) own refl)
 
     pub of_blocks : (p : PartState) → KeepsPool w.board p → AreStacks p (routine_stack ∷ task_stacks w.kern) → KeepsLoaded w.kern p w.modules.rows → Advances w (record w { part = p }) (n + 1) call_sinces 1
     of_blocks p pool stacks modules = as_call (record w { part = p }) (of_parts p w.symbols w.modules.rows w.ram w.slots w.output w.int_errno pool stacks modules kept.symbols refl same_modules)
@@ -222,5 +224,5 @@ module _ (w : WorldState) (kept : IsWorld w) where
     of_memory ram same = as_call (record w { ram = ram }) (of_parts w.part w.symbols w.modules.rows ram w.slots w.output w.int_errno kept.pool kept.stacks kept.modules kept.symbols same same_modules)
 
     pub errno_advances : (a : Actor) (e : ℕ) → Advances w (with_errno w a e) n 0 0
-    errno_advances (Task who) e = by_kern _ n 0 (goes-move w.kern n kept.kern within.0 (SetErrno who e) tt) (objects-move w.kern w.objects kept.kern kept.objects (SetErrno who e) (tt, tt, tt, tt)) within.1
+    errno_advances (Task who) e = by_kern _ n 0 (goes-move w.kern n kept.kern within.0 (Set who (changes.Errno e)) tt) (objects-move w.kern w.objects kept.kern kept.objects (Set who (changes.Errno e)) (tt, tt, tt, tt)) within.1
     errno_advances Interrupt e = beside w.slots w.output e

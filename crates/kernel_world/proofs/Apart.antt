@@ -9,8 +9,8 @@ use Rattle.wind_base.specs.Boards.{board_rules}
 use Rattle.wind_base.specs.declared.board_kind.BoardKind.{BoardKind}
 use Rattle.id_table.specs.Rows.{IdsBelow, row_id, row_object, object_of, with_object, without}
 use Rattle.id_table.proofs.Lookups.{object_of-push, object_of-write, object_of-without, found_below}
-use Rattle.wind_lists.specs.Records.{of_id}
-use Rattle.wind_lists.proofs.Records.{found_id, found_at}
+use Rattle.id_table.specs.Records.{of_id}
+use Rattle.id_table.proofs.Records.{found_id, found_at}
 use Rattle.wind_core.specs.State.{KernState, IsKern}
 use Rattle.kernel_world.specs.Objects.{KeepsObjects}
 use Rattle.kernel_world.specs.declared.objects.Objects.{Objects}

@@ -4,11 +4,11 @@ use Rattle.std.specs.List.{All}
 use Rattle.std.proofs.lemmas.Bool.{eq-eqb, eqb-true}
 use Rattle.std.proofs.lemmas.List.{map-append}
 use Rattle.std.proofs.lemmas.List.Elements.{All-weaker, All-cons}
-use Rattle.wind_lists.specs.Records as records
+use Rattle.id_table.specs.Records as records
 use Rattle.id_table.specs.Rows.{row_id, ids, with_object, without}
 use Rattle.module_loader.specs.Holding.{occurs}
 use Rattle.module_loader.proofs.Holds.{occurs-append}
-use Rattle.sem_mutex.specs.Mutex.{Mutex}
+use Rattle.sem_mutex.specs.InheritanceMutex.{Mutex}
 use Rattle.kernel_world.specs.LiveIds.{AreIds}
 
 -- the owner's id, if there is an owner, is below the next one and none of these

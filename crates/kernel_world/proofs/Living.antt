@@ -3,7 +3,7 @@ use Rattle.std.proofs.Common.{◌≡◌, ℕ, true, false, not, ◌&&◌, cond, 
 use Rattle.std.specs.Option.{option_map}
 use Rattle.task_block.specs.declared.task.Task.{Task}
 use Rattle.task_block.specs.Standing.{is_ready}
-use Rattle.wind_lists.proofs.Records.{found_id}
+use Rattle.id_table.proofs.Records.{found_id}
 use Rattle.wind_core.specs.State.{KernState, task_id, task_of}
 use Rattle.wind_core.specs.Moves.{live_id, past_gate, leave_gate, set_errno}
 use Rattle.kernel_world.specs.State.{WorldState}

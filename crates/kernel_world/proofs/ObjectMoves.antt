@@ -1,26 +1,22 @@
 -- Every move of the kernel leaves the objects as they are.
-use Rattle.std.proofs.Common.{◌≡◌, ℕ, ◌+◌, ◌<◌, Bool, true, false, cond, eqb, map, Option, None, Some, IfSome, refl, sym, ap, ◌∙◌, subst, arith}
+use Rattle.std.proofs.Common.{◌≡◌, ℕ, ◌+◌, ◌<◌, Bool, true, false, cond, map, refl, arith}
 use Rattle.std.specs.List.{All}
-use Rattle.std.specs.Option.{option_map}
-use Rattle.std.proofs.lemmas.Bool.{eq-eqb}
 use Rattle.std.proofs.lemmas.List.Elements.{All-weaker, All-map}
 use Rattle.wind_base.specs.declared.board_kind.BoardKind.{BoardKind}
 use Rattle.id_table.specs.Sides.{console_side}
 use Rattle.id_table.specs.declared.ident.Place.{Place}
 use Rattle.task_block.specs.declared.task.Task.{Task}
 use Rattle.task_block.specs.Standing.{is_ready}
-use Rattle.wind_lists.proofs.Records.{found_id}
-use Rattle.wind_core.specs.State.{KernState, IsKern, Lives, task_id, task_of}
-use Rattle.wind_core.specs.Moves.{renewed, settled, change_task, move_found, pend, released, release, reset, unreserved}
-use Rattle.wind_core.specs.Move.{Move, Pend, Release, Reset, SetSafe, apply, IsAllowed}
-use Rattle.wind_core.proofs.Moving.{move_keeps}
-use Rattle.wind_core.proofs.Unwritten.{task_of-change}
+use Rattle.wind_core.specs.State.{KernState, IsKern, Lives, task_of}
+use Rattle.wind_core.specs.Moves.{renewed, settled, pend, released, unreserved}
+use Rattle.wind_core.specs.Move.{Move, Pend, Set, apply, IsAllowed}
+use Rattle.wind_core.specs.declared.changes.Change.TheVariants as changes
 use Rattle.sem_plain.specs.Kept.{BeginsOnly}
 use Rattle.sem_plain.specs.Laws.{nowhere}
 use Rattle.sem_plain.proofs.Beginning.{IsOld, themselves, by_tasks}
-use Rattle.sem_mutex.specs.Safety.{safe_of, make_safe, lessen}
+use Rattle.sem_mutex.specs.TaskSafetySafety.{safe_of, make_safe, lessen}
 use Rattle.sem_mutex.specs.TaskSafetyKept.{Deletes, KeepsDeleters}
-use Rattle.sem_mutex.specs.Mutexes.{both as with_mutexes}
+use Rattle.sem_mutex.specs.InheritanceMutexes.{both as with_mutexes}
 use Rattle.sem_mutex.specs.Kept.{KeepsMutexes}
 use Rattle.sem_mutex.specs.Laws.{SparesMutexes}
 use Rattle.sem_mutex.proofs.Lawful.{beside_law, safety_law}
@@ -30,7 +26,7 @@ use Rattle.sem_mutex.proofs.Handing.{lives_below}
 use Rattle.msg_queue.specs.Kept.{IsCalm}
 use Rattle.msg_queue.specs.Laws.{SparesQueues}
 use Rattle.msg_queue.proofs.Calm.{calms}
-use Rattle.kernel_world.specs.Objects.{WaitsRight, KeepsWaits, KeepsObjects, IsFree}
+use Rattle.kernel_world.specs.Objects.{WaitsRight, KeepsWaits, KeepsObjects}
 use Rattle.kernel_world.specs.declared.objects.Objects.{Objects}
 use Rattle.kernel_world.proofs.Safes.{counted, deleters-map}
 use Rattle.kernel_world.proofs.Calming.{Spares, queues-calm, calm-lessen, calm-map}
@@ -38,31 +34,9 @@ use Rattle.kernel_world.proofs.Apart.{kern_kept}
 use Rattle.kernel_world.proofs.Waiting.{SparesWaits, waits_calm, waits-move, waits-lessen}
 
 -- ---- a task that waits for nothing
--- it still does after a change of any task that leaves waits as they are
-pub free-change : (k : KernState) (who id : ℕ) (f : Task → Task) → ((t : Task) → (f t).id ≡ t.id) → ((t : Task) → t.wait ≡ None → (f t).wait ≡ None) → IsFree k who → IsFree (change_task k id f) who
-free-change k who id f same calm free =
-    subst (λ o. IfSome o (λ t. t.wait ≡ None)) (sym (task_of-change k.tasks id who f same)) (each (task_of k.tasks who) free)
-  where
-    each : (o : Option Task) → IfSome o (λ t. t.wait ≡ None) → IfSome (option_map (λ t. cond (eqb t.id id) (f t) t) o) (λ t. t.wait ≡ None)
-    each None h = tt
-    each (Some t) h = elim (eqb t.id id) as (λ b. (cond b (f t) t).wait ≡ None) [ true ↦ calm t h | false ↦ h ]
 
 settled_id : (since : ℕ) (t : Task) → (settled since (released t)).id ≡ t.id
 settled_id since t = elim (is_ready (released t)) as (λ b. (cond b (renewed since (released t)) (released t)).id ≡ t.id) [ true ↦ refl | false ↦ refl ]
-
-settled_wait : (since : ℕ) (t : Task) → (settled since (released t)).wait ≡ None
-settled_wait since t = elim (is_ready (released t)) as (λ b. (cond b (renewed since (released t)) (released t)).wait ≡ None) [ true ↦ refl | false ↦ refl ]
-
--- a task whose wait has ended waits for nothing
-pub free-release : (k : KernState) (who : ℕ) → IsFree (release k who) who
-free-release k who =
-    elim (task_of k.tasks who) as (λ o. task_of k.tasks who ≡ o → IsFree (move_found k who released o) who) [
-      | None ↦ λ e. subst (λ o. IfSome o (λ t. t.wait ≡ None)) (sym e) tt
-      | Some t ↦ λ e.
-          let there = task_of-change k.tasks who who (λ u. settled k.next_since (released u)) (settled_id k.next_since) ∙ ap (option_map (λ u. cond (eqb u.id who) (settled k.next_since (released u)) u)) e in
-          subst (λ o. IfSome o (λ u. u.wait ≡ None)) (sym there)
-          (ap (λ b. (cond b (settled k.next_since (released t)) t).wait) (eq-eqb t.id who (found_id task_id k.tasks who t e)) ∙ settled_wait k.next_since t)
-    ] refl
 
 -- ---- every move
 -- a move may be made, and spares waits, mutexes and queues
@@ -101,16 +75,11 @@ module _ {board : BoardKind} (k : KernState) (o : Objects) (is : IsKern k) (kept
 
   -- ---- safe sections
   pub objects-make_safe : (who : ℕ) → KeepsObjects board (make_safe k who) o
-  objects-make_safe who = objects-move (SetSafe who (safe_of (task_of k.tasks who) + 1)) (tt, λ some. omega arith, tt, tt)
+  objects-make_safe who = objects-move (Set who (changes.Safe (safe_of (task_of k.tasks who) + 1))) (tt, λ some. omega arith, tt, tt)
 
   pub objects-lessen : (who n : ℕ) → KeepsObjects board (lessen k who n) o
   objects-lessen who n =
       by_kern (lessen k who n) (waits-lessen k o is kept.waits who n) ((safety_law (with_mutexes k o.mutexes) kept.mutexes).lessening who n) (calm-lessen o.queues.queues k who n is)
-
--- the wait of a task ends, and then its marks are cleared
-pub objects-reset_released : {board : BoardKind} (k : KernState) (o : Objects) → IsKern k → KeepsObjects board k o → (who : ℕ) → KeepsObjects board (reset (release k who) who) o
-objects-reset_released k o is kept who =
-    objects-move (release k who) o (move_keeps k (Release who) is tt) (objects-move k o is kept (Release who) (tt, tt, tt, tt)) (Reset who) (tt, free-release k who, tt, tt)
 
 -- ---- reservations of many tasks are dropped
 -- all are dropped, except those of some tasks

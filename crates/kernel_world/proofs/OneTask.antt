@@ -2,8 +2,8 @@
 use Rattle.std.proofs.Common.{◌≡◌, ℕ, cond, eqb, List, Option, None, Some, refl, sym, ap, ◌∙◌}
 use Rattle.std.specs.Option.{option_map}
 use Rattle.std.proofs.lemmas.Bool.{eq-eqb, ne_eqb}
-use Rattle.wind_lists.specs.Records.{change}
-use Rattle.wind_lists.proofs.Records.{found_id}
+use Rattle.id_table.specs.Records.{change}
+use Rattle.id_table.proofs.Records.{found_id}
 use Rattle.task_block.specs.declared.task.Task.{Task}
 use Rattle.wind_core.specs.State.{task_id, task_of}
 use Rattle.wind_core.proofs.Unwritten.{task_of-change}

@@ -27,7 +27,8 @@ use Rattle.mem_partition.specs.Holes.{gap, hole_on}
 use Rattle.mem_partition.proofs.Places.{hole_place}
 use Rattle.mem_partition.proofs.Allocs.{after_is}
 use Rattle.wind_core.specs.State.{KernState, IsKern}
-use Rattle.isr_watch.specs.State.{WatchState}
+use Rattle.isr_watch.specs.State.{WatchState, no_watch}
+use Rattle.isr_watch.specs.Calls.{routine_return}
 use Rattle.dev_irq.specs.declared.line.Line.{Line}
 use Rattle.dev_irq.specs.State.{idle_line}
 use Rattle.symbol_table.specs.declared.symbol.Symbol.{Symbol}
@@ -39,7 +40,7 @@ use Rattle.id_table.specs.Rows.{IsId, object_of}
 use Rattle.sem_plain.specs.Kept.{IsCount, IsForEmpty, IsForMade}
 use Rattle.sem_mutex.specs.TaskSafetyKept.{Deletes, IsSafe}
 use Rattle.wind_base.specs.declared.profile.Profile.{Profile}
-use Rattle.sem_mutex.specs.Mutexes.{both as with_mutexes}
+use Rattle.sem_mutex.specs.InheritanceMutexes.{both as with_mutexes}
 use Rattle.sem_mutex.proofs.Opening.{opening_keeps}
 use Rattle.sem_mutex.proofs.Lawful.{beside_law}
 use Rattle.msg_queue.proofs.Events.{starts}
@@ -47,7 +48,7 @@ use Rattle.kernel_world.specs.State.{WorldState}
 use Rattle.kernel_world.specs.declared.objects.Objects.{Objects}
 use Rattle.kernel_world.specs.Objects.{no_objects, is_live, WaitsRight, KeepsObjects}
 use Rattle.module_image.specs.Opening.{stack_block, symbol_if_named, symbols_of_gate, gate_symbols}
-use Rattle.kernel_world.specs.Opening.{empty_kern, opening_kern, shell_record, opening_part, no_watch, no_irqs, zeros, opening_world}
+use Rattle.kernel_world.specs.Opening.{empty_kern, opening_kern, shell_record, opening_part, no_irqs, zeros, opening_world}
 use Rattle.kernel_world.specs.Kept.{Stack, stack_of, routine_stack, IsStack, AreApart, AreStacks, IsWorld}
 use Rattle.wind_base.proofs.Boarding.{boards_alike}
 use Rattle.kernel_world.proofs.Holding.{IsNoModules}
@@ -258,7 +259,7 @@ opens slots profile board = record {
   kind = refl;
   ram = length-zeros (board_rules board).ram_bytes;
   symbols = symbols_few (board_rules board).gates_start;
-  watch = record { watch = record { few = omega arith; rising = λ i j d lt within. absurd (omega arith); idle = λ none. refl }; ids = λ i d within. absurd (omega arith) };
+  watch = record { watch = record { few = omega arith; rising = λ i j d lt within. absurd (omega arith); idle = λ none. refl }; ids = λ i d within. absurd (omega arith); link = refl };
   ids = ids_task 1 [] [] [] (record { distinct = λ n. omega arith; below = λ n some. absurd (omega arith); owners = none_yet (HasOwner 1 []) });
 }
 
@@ -275,7 +276,7 @@ module _ (profile : Profile) (board : BoardKind) where
 
   -- a world with these parts is the world at the start
   pub opened_by : (slots mine : List (Option DeviceState)) (k : KernState) (o : Objects) (p : PartState) (ss : List Symbol) (ms : LoadedModules) (ram : List ℕ) (irqs : List Line) (output : List ℕ) (watch : WatchState)
-      → k ≡ opening_kern → o ≡ no_objects profile → p ≡ opening_part board → ss ≡ opening_symbols → ms ≡ modules_on board [] → ram ≡ opening_ram → mine ≡ slots → irqs ≡ replicate most_slots idle_line → output ≡ [] → watch ≡ no_watch
+      → k ≡ opening_kern → o ≡ no_objects profile → p ≡ opening_part board → ss ≡ opening_symbols → ms ≡ modules_on board [] → ram ≡ opening_ram → mine ≡ slots → irqs ≡ replicate most_slots idle_line → output ≡ [] → watch ≡ no_watch (routine_return board)
       → with_parts k o p ss ms ram mine irqs output watch ≡ opening_world slots profile board
   unfolding opening_world no_irqs
   opened_by slots mine k o p ss ms ram irqs output watch kern objects part symbols modules bytes devices lines written watches =

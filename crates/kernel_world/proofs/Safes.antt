@@ -6,13 +6,13 @@ use Rattle.std.proofs.lemmas.Bool.{eq-eqb}
 use Rattle.std.proofs.lemmas.List.Elements.{All-weaker, All-map}
 use Rattle.id_table.specs.Sides.{deletion_side}
 use Rattle.task_block.specs.declared.task.Task.{Task}
-use Rattle.wind_lists.proofs.Records.{found_id}
+use Rattle.id_table.proofs.Records.{found_id}
 use Rattle.wind_core.specs.State.{KernState, task_id, task_of}
 use Rattle.wind_core.specs.Orders.{waiters}
 use Rattle.wind_core.specs.Moves.{set_safe}
 use Rattle.wind_core.specs.Releases.{release_all}
 use Rattle.wind_core.proofs.Unwritten.{with_id, found_by, map-releases, task_of-change}
-use Rattle.sem_mutex.specs.Safety.{deletion, safe_of, lessen}
+use Rattle.sem_mutex.specs.TaskSafetySafety.{deletion, safe_of, lessen}
 use Rattle.sem_mutex.specs.TaskSafetyKept.{Deletes, IsSafe, KeepsDeleters}
 
 -- what is read of a task for the safe count of an id

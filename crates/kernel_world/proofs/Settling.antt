@@ -2,9 +2,9 @@
 use Rattle.std.proofs.Common.{◌≡◌, ℕ, ap}
 use Rattle.wind_base.specs.declared.board_kind.BoardKind.{BoardKind}
 use Rattle.wind_core.specs.State.{KernState, IsKern}
-use Rattle.sem_mutex.specs.Mutexes.{MutexState, both as with_mutexes}
-use Rattle.sem_mutex.proofs.Same.{exact_same}
-use Rattle.sem_mutex.proofs.Exact.{exact_law}
+use Rattle.sem_mutex.specs.InheritanceMutexes.{MutexState, both as with_mutexes}
+use Rattle.sem_mutex.proofs.InheritanceSame.{exact_same}
+use Rattle.sem_mutex.proofs.InheritanceExact.{exact_law}
 use Rattle.sem_mutex.proofs.Lifting.{raised_keeps}
 use Rattle.kernel_world.specs.State.{WorldState}
 use Rattle.kernel_world.specs.declared.objects.Objects.{Objects}

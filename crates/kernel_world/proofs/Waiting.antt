@@ -8,12 +8,13 @@ use Rattle.wind_base.specs.declared.errno.Errno.{Errno}
 use Rattle.id_table.specs.Sides.{deletion_side, console_side}
 use Rattle.id_table.specs.declared.ident.Place.{Place}
 use Rattle.task_block.specs.declared.task.Task.{Task}
-use Rattle.wind_lists.proofs.Records.{found_in}
+use Rattle.id_table.proofs.Records.{found_in}
 use Rattle.wind_core.specs.State.{KernState, IsKern, task_id, task_of}
 use Rattle.wind_core.specs.Orders.{same_place, waiters}
-use Rattle.wind_core.specs.Moves.{renewed, change_task, renew_task, move_task, new_task, remove, wake_at, pended, pend, delayed, released, release, answered, end_wait, end_waits, suspended, resumed, is_suspended, unmarked, with_pri, has_pri, change_pri, set_safe, past_gate, with_answer, with_refusal, unreserved}
+use Rattle.wind_core.specs.Moves.{renewed, change_task, renew_task, move_task, new_task, remove, wake_at, pended, pend, delayed, released, release, answered, end_wait, end_waits, suspended, resumed, is_suspended, unmarked, with_pri, has_pri, change_pri, set_safe, past_gate, with_change}
 use Rattle.wind_core.specs.Releases.{releases, release_all}
-use Rattle.wind_core.specs.Move.{Move, Spawn, Remove, Pend, Delay, Release, ReleaseAll, EndWait, WakeAll, Tick, Suspend, Resume, ChangePri, Reset, SetLocks, SetNormal, SetSafe, SetHeld, SetErrno, SetIntLocked, SetAgain, SetRegs, Unreserve, LeaveGate, Answer, Refuse, SetLast, SetSlice, DrawIds, Lend, IsRising, apply}
+use Rattle.wind_core.specs.Move.{Move, Spawn, Remove, Pend, Delay, Release, ReleaseAll, EndWait, WakeAll, Tick, Suspend, Resume, ChangePri, Reset, Set, SetRegs, SetLast, SetSlice, DrawIds, Lend, IsRising, apply}
+use Rattle.wind_core.specs.declared.changes.Change.TheVariants as changes
 use Rattle.wind_core.proofs.Stable.{All-change, renew_task-stable, move_task-stable, tick-stable}
 use Rattle.wind_core.proofs.Becoming.{All-change_at}
 use Rattle.wind_core.proofs.Moving.{move_keeps}
@@ -24,12 +25,12 @@ use Rattle.sem_plain.proofs.Beginning.{then}
 use Rattle.sem_plain.proofs.Moving.{moves}
 use Rattle.sem_plain.proofs.Keeping.{beside, place_is}
 use Rattle.sem_plain.proofs.Living.{live_beside}
-use Rattle.sem_mutex.specs.Safety.{deletion, safe_of, lessen}
+use Rattle.sem_mutex.specs.TaskSafetySafety.{deletion, safe_of, lessen}
 use Rattle.sem_mutex.specs.TaskSafetyKept.{IsSafe, KeepsDeleters}
 use Rattle.sem_mutex.proofs.TaskSafetyWaiting.{moves_keep, calls_keep}
 use Rattle.wind_base.specs.declared.profile.Profile.{Profile}
-use Rattle.sem_mutex.specs.Mutex.{Mutex}
-use Rattle.sem_mutex.specs.Reach.{lifted, repried, raised_kern}
+use Rattle.sem_mutex.specs.InheritanceMutex.{Mutex}
+use Rattle.sem_mutex.specs.InheritanceReach.{lifted, repried, raised_kern}
 use Rattle.kernel_world.specs.Objects.{is_live, deletion_gate, WaitsRight, KeepsWaits, IsFree}
 use Rattle.kernel_world.specs.declared.objects.Objects.{Objects}
 
@@ -98,10 +99,10 @@ abbrev pub SparesWaits : KernState → Objects → Move → Type 0
 SparesWaits k o (Remove who) = KeepsDeleters (remove k who)
 SparesWaits k o (Pend who place fifo n) = MayWait k o who place
 SparesWaits k o (Reset who) = IsFree k who
-SparesWaits k o (SetSafe who n) = IsSafe k who → 0 < n
-SparesWaits k o (SetAgain who on) = IsFree k who
+SparesWaits k o (Set who (changes.Safe n)) = IsSafe k who → 0 < n
+SparesWaits k o (Set who (changes.Again on)) = IsFree k who
 SparesWaits k o (SetRegs who regs) = IsFree k who
-SparesWaits k o (LeaveGate who) = IsFree k who
+SparesWaits k o (Set who changes.PastGate) = IsFree k who
 SparesWaits k o (DrawIds next) = k.next_id ≤ next
 SparesWaits k o m = Unit {0}
 
@@ -170,18 +171,9 @@ module _ {board : BoardKind} (k : KernState) (o : Objects) (is : IsKern k) (kept
         | false ↦ right_move who (with_pri pri) (same_wait (with_pri pri) (λ t. refl))
       ])
   waits-move (Reset who) spares = calmly (Reset who) refl tt (moves_keep k (Reset who) is kept.deleters spares) (right_renew who unmarked (same_wait unmarked (λ t. refl)))
-  waits-move (SetLocks who n) spares = calmly (SetLocks who n) refl tt (moves_keep k (SetLocks who n) is kept.deleters tt) (right_change who (λ t. record t { locks = n }) (λ t. refl))
-  waits-move (SetNormal who pri) spares = calmly (SetNormal who pri) refl tt (moves_keep k (SetNormal who pri) is kept.deleters tt) (right_change who (λ t. record t { normal = pri }) (λ t. refl))
-  waits-move (SetSafe who n) spares = calmly (SetSafe who n) refl tt (moves_keep k (SetSafe who n) is kept.deleters spares) (right_change who (λ t. record t { safe = n }) (λ t. refl))
-  waits-move (SetHeld who n) spares = calmly (SetHeld who n) refl tt (moves_keep k (SetHeld who n) is kept.deleters tt) (right_change who (λ t. record t { held = n }) (λ t. refl))
-  waits-move (SetErrno who n) spares = calmly (SetErrno who n) refl tt (moves_keep k (SetErrno who n) is kept.deleters tt) (right_change who (λ t. record t { errno = n }) (λ t. refl))
-  waits-move (SetIntLocked who on) spares = calmly (SetIntLocked who on) refl tt (moves_keep k (SetIntLocked who on) is kept.deleters tt) (right_change who (λ t. record t { int_locked = on }) (λ t. refl))
-  waits-move (SetAgain who on) spares = calmly (SetAgain who on) refl tt (moves_keep k (SetAgain who on) is kept.deleters spares) (right_change who (λ t. record t { again = on }) (λ t. refl))
   waits-move (SetRegs who regs) spares = calmly (SetRegs who regs) refl tt (moves_keep k (SetRegs who regs) is kept.deleters tt) (right_free who spares (λ t. record t { regs = regs }) (λ t. refl))
-  waits-move (Unreserve who) spares = calmly (Unreserve who) refl tt (moves_keep k (Unreserve who) is kept.deleters tt) (right_change who unreserved (λ t. refl))
-  waits-move (LeaveGate who) spares = calmly (LeaveGate who) refl tt (moves_keep k (LeaveGate who) is kept.deleters tt) (right_free who spares past_gate (λ t. refl))
-  waits-move (Answer who value) spares = calmly (Answer who value) refl tt (moves_keep k (Answer who value) is kept.deleters tt) (right_change who (with_answer value) (λ t. refl))
-  waits-move (Refuse who e) spares = calmly (Refuse who e) refl tt (moves_keep k (Refuse who e) is kept.deleters tt) (right_change who (with_refusal e) (λ t. refl))
+  waits-move (Set who changes.PastGate) spares = calmly (Set who changes.PastGate) refl tt (moves_keep k (Set who changes.PastGate) is kept.deleters tt) (right_free who spares past_gate (λ t. refl))
+  waits-move (Set who change) spares = calmly (Set who change) refl tt (moves_keep k (Set who change) is kept.deleters spares) (right_change who (with_change change) (λ t. refl))
   waits-move (SetLast last) spares = calmly (SetLast last) refl tt (moves_keep k (SetLast last) is kept.deleters tt) kept.right
   waits-move (SetSlice n) spares = calmly (SetSlice n) refl tt (moves_keep k (SetSlice n) is kept.deleters tt) kept.right
   waits-move (DrawIds next) spares = calmly (DrawIds next) refl spares (moves_keep k (DrawIds next) is kept.deleters tt) kept.right
@@ -203,7 +195,7 @@ module _ {board : BoardKind} (k : KernState) (o : Objects) (is : IsKern k) (kept
   waits-lessen who n =
       let count : ℕ = safe_of (task_of k.tasks who) in
       let less : KernState = set_safe k who (count - n) in
-      let set : BeginsOnly nowhere k less = moves k (SetSafe who (count - n)) tt in
+      let set : BeginsOnly nowhere k less = moves k (Set who (changes.Safe (count - n))) tt in
       let right : All (WaitsRight board) less.tasks = right_change k o is kept who (λ t. record t { safe = count - n }) (λ t. refl) in
       elim (ltb 0 count && leb count n) as (λ b. KeepsDeleters (cond b (release_all less (deletion who)) less) → KeepsWaits board (cond b (release_all less (deletion who)) less) o) [
         | true ↦ λ goes.

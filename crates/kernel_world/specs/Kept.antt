@@ -4,7 +4,7 @@ use Rattle.std.specs.List.{All, AllPairs}
 use Rattle.wind_base.specs.Limits.{pool_start, interrupt_stack_bytes, most_modules, most_symbols}
 use Rattle.wind_base.specs.Boards.{board_rules}
 use Rattle.wind_base.specs.declared.board_kind.BoardKind.{BoardKind}
-use Rattle.wind_lists.specs.Records.{Rising}
+use Rattle.id_table.specs.Records.{Rising}
 use Rattle.id_table.specs.Rows.{IdsBelow, row_id}
 use Rattle.mem_partition.specs.Place.{rounded}
 use Rattle.mem_partition.specs.State.{PartState, IsPart, own_block}
@@ -14,6 +14,7 @@ use Rattle.module_loader.specs.Holding.{AreHeld, held_by, occurs}
 use Rattle.task_block.specs.declared.task.Task.{Task}
 use Rattle.wind_core.specs.State.{KernState, IsKern}
 use Rattle.isr_watch.specs.State.{WatchState, IsWatch}
+use Rattle.isr_watch.specs.Calls.{routine_return}
 use Rattle.isr_watch.specs.Laws.{AllBelow}
 use Rattle.kernel_world.specs.Objects.{KeepsObjects, DepthsWithin}
 use Rattle.kernel_world.specs.State.{WorldState, choice_of}
@@ -74,10 +75,11 @@ pub record AreLoaded (next : ℕ) (stacks : List Stack) (p : PartState) (modules
 abbrev pub KeepsLoaded : KernState → PartState → List (ℕ × LoadedModule) → Type 0
 KeepsLoaded k p modules = AreLoaded k.next_id (routine_stack ∷ task_stacks k) p modules
 
--- the watchdogs keep their own invariant, and each has an id below the next one
-pub record KeepsWatch (next : ℕ) (s : WatchState) : Type 0 where
+-- the watchdogs keep their own invariant, each has an id below the next one, and routines return to the board's gate
+pub record KeepsWatch (board : BoardKind) (next : ℕ) (s : WatchState) : Type 0 where
   pub watch : IsWatch s
   pub ids : AllBelow next s
+  pub link : s.link ≡ routine_return board
 
 pub record KeepsWorld (w : WorldState) : Type 0 where
   pub kern : IsKern w.kern
@@ -91,7 +93,7 @@ pub record KeepsWorld (w : WorldState) : Type 0 where
   pub kind : w.modules.board ≡ w.board
   pub ram : length w.ram ≡ (board_rules w.board).ram_bytes
   pub symbols : length w.symbols ≤ most_symbols
-  pub watch : KeepsWatch w.kern.next_id w.watch
+  pub watch : KeepsWatch w.board w.kern.next_id w.watch
   pub ids : KeepsIds w
 
 -- the invariant of a world, whatever devices are in its slots

@@ -4,7 +4,7 @@ use Rattle.std.specs.List.{All}
 use Rattle.id_table.specs.Rows.{ids}
 use Rattle.module_loader.specs.Holding.{occurs}
 use Rattle.wind_core.specs.State.{task_id}
-use Rattle.sem_mutex.specs.Mutex.{Mutex}
+use Rattle.sem_mutex.specs.InheritanceMutex.{Mutex}
 use Rattle.isr_watch.specs.State.{watchdog_id}
 use Rattle.kernel_world.specs.State.{WorldState}
 use Rattle.kernel_world.specs.declared.objects.Objects.{Objects}

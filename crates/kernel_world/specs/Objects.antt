@@ -15,7 +15,7 @@ use Rattle.wind_core.specs.State.{KernState, task_of}
 use Rattle.sem_plain.specs.State.{both as with_semaphores}
 use Rattle.sem_plain.specs.Kept.{KeepsSemaphores, WaitsLive, live_with}
 use Rattle.sem_mutex.specs.TaskSafetyKept.{KeepsDeleters}
-use Rattle.sem_mutex.specs.Mutexes.{AreMutexes, both as with_mutexes}
+use Rattle.sem_mutex.specs.InheritanceMutexes.{AreMutexes, both as with_mutexes}
 use Rattle.sem_mutex.specs.Kept.{KeepsMutexes}
 use Rattle.msg_queue.specs.State.{scene}
 use Rattle.msg_queue.specs.Kept.{IsKept}

@@ -11,7 +11,8 @@ use Rattle.mem_partition.specs.State.{PartState}
 use Rattle.module_image.specs.Opening.{gate_symbols, opening_blocks}
 use Rattle.module_loader.specs.Modules.{modules_on}
 use Rattle.wind_core.specs.State.{KernState}
-use Rattle.isr_watch.specs.State.{WatchState}
+use Rattle.isr_watch.specs.State.{no_watch}
+use Rattle.isr_watch.specs.Calls.{routine_return}
 use Rattle.dev_irq.specs.declared.line.Line.{Line}
 use Rattle.dev_irq.specs.State.{idle_line}
 use Rattle.wind_core.specs.Moves.{spawn}
@@ -39,10 +40,6 @@ opening_part board = record {
   blocks = opening_blocks;
 }
 
--- no watchdog lives, and no routine is active
-abbrev pub no_watch : WatchState
-no_watch = record { watchdogs = []; level = None; listed = []; next_start = 0 }
-
 -- every slot is enabled, without a routine, and nothing is pending
 unfoldable pub no_irqs : List Line
 no_irqs = replicate most_slots idle_line
@@ -64,7 +61,7 @@ opening_world slots profile board = record {
   irqs = no_irqs;
   output = [];
   names = 1;
-  watch = no_watch;
+  watch = no_watch (routine_return board);
   int_errno = 0;
   board = board;
 }

@@ -1,7 +1,7 @@
 -- Priorities are settled at the end of a step.
 use Rattle.wind_core.specs.State.{KernState}
-use Rattle.sem_mutex.specs.Mutexes.{both as with_mutexes}
-use Rattle.sem_mutex.specs.Reach.{raised_kern, IsExact}
+use Rattle.sem_mutex.specs.InheritanceMutexes.{both as with_mutexes}
+use Rattle.sem_mutex.specs.InheritanceReach.{raised_kern, IsExact}
 use Rattle.kernel_world.specs.State.{WorldState}
 use Rattle.kernel_world.specs.declared.objects.Objects.{Objects}
 

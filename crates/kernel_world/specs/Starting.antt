@@ -1,9 +1,8 @@
 -- The registers and the stack frame with which a task begins, or the shell's task at a call.
-use Rattle.std.specs.Prelude.{ℕ, ◌+◌, List, [], ◌∷◌, None, slice_index, replicate}
+use Rattle.std.specs.Prelude.{ℕ, ◌+◌, List, [], ◌∷◌, None, slice_index, replicate, if◌then◌else◌}
 use Rattle.wind_base.specs.Limits.{frame_bytes}
 use Rattle.wind_base.specs.declared.regs.Regs.{Regs}
 use Rattle.board_mem.specs.Memory.{has, written, with_bytes}
-use Rattle.std.specs.Prelude.{if◌then◌else◌}
 
 -- no register has a value
 abbrev pub no_regs : Regs

@@ -4,7 +4,8 @@ ghost use Rattle.std.specs.Prelude.{◌≡◌, ◌+◌, ◌<◌, ◌≤◌, ◌+
 ghost use Rattle.wind_base.specs.{Limits.most_slots, Boards.board_rules, Gates.gates};
 ghost use Rattle.wind_outside.specs.Devices.{slots_of};
 ghost use Rattle.module_loader.specs.Modules.{modules_on};
-ghost use Rattle.kernel_world.specs.{Objects.no_objects, Opening.{shell_record as shell_record_lem, opening_kern as opening_kern_lem, opening_part as opening_part_lem, no_watch, zeros, opening_world}, Seen.world_seen};
+ghost use Rattle.isr_watch.specs.{State.no_watch, Calls.routine_return};
+ghost use Rattle.kernel_world.specs.{Objects.no_objects, Opening.{shell_record as shell_record_lem, opening_kern as opening_kern_lem, opening_part as opening_part_lem, zeros, opening_world}, Seen.world_seen};
 ghost use Rattle.module_image.specs.Opening.{symbols_of_gate, gate_symbols as gate_symbols_lem};
 
 use crate::board_gates::gate_address;
@@ -139,14 +140,24 @@ struct Started {
     kern: Kern,
 }
 
-// Makes the kernel with the shell's task and no objects, under a rule of inheritance.
-fn start(alloc: Global, profile: Profile) -> Result<Started, NoMemory>
+// Makes the watchdogs of a board, whose routines return to its gate.
+fn opening_watch(alloc: Global, board: BoardKind) -> Result<Watch, NoMemory>
+    ensures { IfOk result (λ w. w ≡ no_watch (routine_return board)) }
+{
+    let mut watch = Watch::reserved(alloc)?;
+    watch.set_return(gate_address(board, Gate::InterruptReturn));
+    Ok(watch)
+}
+
+// Makes the kernel with the shell's task and no objects, under a rule of inheritance, on a board of
+// a kind.
+fn start(alloc: Global, profile: Profile, board: BoardKind) -> Result<Started, NoMemory>
     ensures kern { IfOk result (λ s. s.kern ≡ opening_kern_lem) }
     ensures objects { IfOk result (λ s. s.objects ≡ no_objects profile) }
-    ensures watch { IfOk result (λ s. s.watch ≡ no_watch) }
+    ensures watch { IfOk result (λ s. s.watch ≡ no_watch (routine_return board)) }
 {
     Ok(Started {
-        watch: Watch::reserved(alloc)?,
+        watch: opening_watch(alloc, board)?,
         objects: objects::reserved(alloc, profile)?,
         kern: opening_kern(alloc)?,
     })
@@ -176,7 +187,6 @@ fn make_loadable(alloc: Global, board: BoardKind) -> Result<Loadable, NoMemory>
 impl World {
     /// Makes the world at the start, over these devices, under a rule of inheritance, on a board of
     /// a kind. If memory runs out, the devices come back unchanged.
-    #[tactic(auto, using(crate::proofs::Opened::opened_by))]
     pub fn boot(
         alloc: Global,
         slots: Slots,
@@ -200,7 +210,7 @@ impl World {
         let Ok(loadable) = make_loadable(alloc, board) else {
             return Err(slots);
         };
-        let Ok(started) = start(alloc, profile) else {
+        let Ok(started) = start(alloc, profile, board) else {
             return Err(slots);
         };
         Ok(World {

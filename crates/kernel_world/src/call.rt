@@ -7,7 +7,7 @@ ghost use Rattle.kernel_world.specs.Seen.{world_seen};
 use crate::actor::{Actor, found_regs, stack_word};
 use crate::world::World;
 use board_mem::Ram;
-use wind_base::Gate;
+use wind_base::{Gate, gate_table};
 use wind_outside::Device;
 
 /// A kernel call. Every field is a word that the caller hands in. Times are in ticks, sizes in
@@ -306,135 +306,55 @@ fn seven_values(gpr: &[u32; 32]) -> [u32; 7]
     [gpr[4], gpr[5], gpr[6], gpr[7], gpr[8], gpr[9], gpr[10]]
 }
 
-// The call of a gate, read from its caller's registers and stack; one line for each gate. `None` at
-// the return gates.
+// A call, with its arguments: words from these registers, one after the other, and a list of the
+// words after them.
+macro_rules! call_with {
+    ($call:ident () $registers:tt $caller:tt) => {
+        Call::$call
+    };
+    ($call:ident ($($left:tt)*) $registers:tt $caller:tt) => {
+        call_with!(@ $call {} $registers $caller $($left)*)
+    };
+    (@ $call:ident {$($read:tt)*} $registers:tt $caller:tt) => {
+        Call::$call { $($read)* }
+    };
+    (@ $call:ident {$($read:tt)*} $registers:tt ($ram:ident $gpr:ident) $field:ident: Ten) => {
+        Call::$call { $($read)* $field: ten_arguments($ram, $gpr) }
+    };
+    (@ $call:ident {$($read:tt)*} $registers:tt ($ram:ident $gpr:ident) $field:ident: Nine) => {
+        Call::$call { $($read)* $field: quick_arguments($ram, $gpr) }
+    };
+    (@ $call:ident {$($read:tt)*} $registers:tt ($ram:ident $gpr:ident) $field:ident: Seven) => {
+        Call::$call { $($read)* $field: seven_values($gpr), stack: $gpr[1] }
+    };
+    (@ $call:ident {$($read:tt)*} ($register:ident $($others:ident)*) $caller:tt
+        $field:ident: $form:ident $(, $($left:tt)*)?
+    ) => {
+        call_with!(@ $call {$($read)* $field: $register,} ($($others)*) $caller $($($left)*)?)
+    };
+}
+
+// The call of each gate. None at a return.
+macro_rules! calls {
+    (($gate:ident $registers:tt $caller:tt)
+        $($back:literal $return:ident;)* =>
+        $($number:literal $call:ident $name:literal $arguments:tt
+            $callers:ident $refusal:ident $memory:literal;)*
+    ) => {
+        Some(match $gate {
+            $(Gate::$return)|* => return None,
+            $(Gate::$call => call_with!($call $arguments $registers $caller),)*
+        })
+    };
+}
+
+// The call of a gate, read from its caller's registers and stack. `None` at the return gates.
 #[inline(always)]
 fn call_of(gate: Gate, ram: &Ram, gpr: &[u32; 32]) -> Option<Call>
     ensures { result ≡ call_of_lem gate ram.now.bytes gpr.now }
 {
     let (a, b, c, d, e) = (gpr[3], gpr[4], gpr[5], gpr[6], gpr[7]);
-    Some(match gate {
-        Gate::TaskReturn | Gate::ShellReturn | Gate::InterruptReturn => return None,
-        Gate::TaskSpawn => Call::TaskSpawn {
-            name: a,
-            priority: b,
-            options: c,
-            stack_size: d,
-            entry: e,
-            arguments: ten_arguments(ram, gpr),
-        },
-        Gate::Sp => Call::Sp {
-            entry: a,
-            arguments: quick_arguments(ram, gpr),
-        },
-        Gate::TaskDelete => Call::TaskDelete { id: a },
-        Gate::TaskSuspend => Call::TaskSuspend { id: a },
-        Gate::TaskResume => Call::TaskResume { id: a },
-        Gate::TaskPrioritySet => Call::TaskPrioritySet { id: a, priority: b },
-        Gate::TaskPriorityGet => Call::TaskPriorityGet { id: a, address: b },
-        Gate::TaskDelay => Call::TaskDelay { ticks: a },
-        Gate::TaskLock => Call::TaskLock,
-        Gate::TaskUnlock => Call::TaskUnlock,
-        Gate::TaskSafe => Call::TaskSafe,
-        Gate::TaskUnsafe => Call::TaskUnsafe,
-        Gate::TaskIdSelf => Call::TaskIdSelf,
-        Gate::TaskIdVerify => Call::TaskIdVerify { id: a },
-        Gate::TaskNameToId => Call::TaskNameToId { name: a },
-        Gate::KernelTimeSlice => Call::KernelTimeSlice { ticks: a },
-        Gate::TickGet => Call::TickGet,
-        Gate::SemBCreate => Call::SemBCreate {
-            options: a,
-            state: b,
-        },
-        Gate::SemCCreate => Call::SemCCreate {
-            options: a,
-            count: b,
-        },
-        Gate::SemMCreate => Call::SemMCreate { options: a },
-        Gate::SemTake => Call::SemTake { id: a, timeout: b },
-        Gate::SemGive => Call::SemGive { id: a },
-        Gate::SemFlush => Call::SemFlush { id: a },
-        Gate::SemDelete => Call::SemDelete { id: a },
-        Gate::MsgQCreate => Call::MsgQCreate {
-            max_msgs: a,
-            max_length: b,
-            options: c,
-        },
-        Gate::MsgQSend => Call::MsgQSend {
-            id: a,
-            buffer: b,
-            count: c,
-            timeout: d,
-            priority: e,
-        },
-        Gate::MsgQReceive => Call::MsgQReceive {
-            id: a,
-            buffer: b,
-            count: c,
-            timeout: d,
-        },
-        Gate::MsgQDelete => Call::MsgQDelete { id: a },
-        Gate::MsgQNumMsgs => Call::MsgQNumMsgs { id: a },
-        Gate::WdCreate => Call::WdCreate,
-        Gate::WdStart => Call::WdStart {
-            id: a,
-            delay: b,
-            routine: c,
-            parameter: d,
-        },
-        Gate::WdCancel => Call::WdCancel { id: a },
-        Gate::WdDelete => Call::WdDelete { id: a },
-        Gate::IntLock => Call::IntLock,
-        Gate::IntUnlock => Call::IntUnlock { key: a },
-        Gate::IntContext => Call::IntContext,
-        Gate::Malloc => Call::Malloc { size: a },
-        Gate::Free => Call::Free { address: a },
-        Gate::Memalign => Call::Memalign { align: a, size: b },
-        Gate::SymAdd => Call::SymAdd {
-            table: a,
-            name: b,
-            value: c,
-            kind: d,
-            group: e,
-        },
-        Gate::Printf => Call::Printf {
-            format: a,
-            values: seven_values(gpr),
-            stack: gpr[1],
-        },
-        Gate::ErrnoGet => Call::ErrnoGet,
-        Gate::ErrnoSet => Call::ErrnoSet { number: a },
-        Gate::Ld => Call::Ld {
-            symbols: a,
-            no_abort: b,
-            name: c,
-        },
-        Gate::Unld => Call::Unld {
-            which: a,
-            options: b,
-        },
-        Gate::I => Call::I,
-        Gate::Lkup => Call::Lkup { text: a },
-        Gate::ModuleShow => Call::ModuleShow,
-        Gate::D => Call::D {
-            address: a,
-            units: b,
-            width: c,
-        },
-        Gate::IntConnect => Call::IntConnect {
-            slot: a,
-            routine: b,
-            parameter: c,
-        },
-        Gate::IntDisconnect => Call::IntDisconnect {
-            slot: a,
-            routine: b,
-        },
-        Gate::IntEnable => Call::IntEnable { slot: a },
-        Gate::IntDisable => Call::IntDisable { slot: a },
-        Gate::IntPending => Call::IntPending { slot: a },
-        Gate::DevRemove => Call::DevRemove { slot: a },
-    })
+    gate_table!(calls gate (a b c d e) (ram gpr))
 }
 
 /// The call that a caller makes at a gate. `None` at the return gates.
@@ -448,67 +368,24 @@ pub fn read_call(w: &World, gate: Gate, who: &Actor) -> Option<Call>
     }
 }
 
+// The gate of each call.
+macro_rules! gates {
+    (($called:expr)
+        $($back:literal $return:ident;)* =>
+        $($number:literal $call:ident $name:literal $arguments:tt
+            $callers:ident $refusal:ident $memory:literal;)*
+    ) => {
+        match $called {
+            $(Call::$call { .. } => Gate::$call,)*
+        }
+    };
+}
+
 impl Call {
     /// The gate of the call.
     pub fn gate(&self) -> Gate
         ensures { result ≡ gate_of self.now }
     {
-        match self {
-            Call::TaskSpawn { .. } => Gate::TaskSpawn,
-            Call::Sp { .. } => Gate::Sp,
-            Call::TaskDelete { .. } => Gate::TaskDelete,
-            Call::TaskSuspend { .. } => Gate::TaskSuspend,
-            Call::TaskResume { .. } => Gate::TaskResume,
-            Call::TaskPrioritySet { .. } => Gate::TaskPrioritySet,
-            Call::TaskPriorityGet { .. } => Gate::TaskPriorityGet,
-            Call::TaskDelay { .. } => Gate::TaskDelay,
-            Call::TaskLock => Gate::TaskLock,
-            Call::TaskUnlock => Gate::TaskUnlock,
-            Call::TaskSafe => Gate::TaskSafe,
-            Call::TaskUnsafe => Gate::TaskUnsafe,
-            Call::TaskIdSelf => Gate::TaskIdSelf,
-            Call::TaskIdVerify { .. } => Gate::TaskIdVerify,
-            Call::TaskNameToId { .. } => Gate::TaskNameToId,
-            Call::KernelTimeSlice { .. } => Gate::KernelTimeSlice,
-            Call::TickGet => Gate::TickGet,
-            Call::SemBCreate { .. } => Gate::SemBCreate,
-            Call::SemCCreate { .. } => Gate::SemCCreate,
-            Call::SemMCreate { .. } => Gate::SemMCreate,
-            Call::SemTake { .. } => Gate::SemTake,
-            Call::SemGive { .. } => Gate::SemGive,
-            Call::SemFlush { .. } => Gate::SemFlush,
-            Call::SemDelete { .. } => Gate::SemDelete,
-            Call::MsgQCreate { .. } => Gate::MsgQCreate,
-            Call::MsgQSend { .. } => Gate::MsgQSend,
-            Call::MsgQReceive { .. } => Gate::MsgQReceive,
-            Call::MsgQDelete { .. } => Gate::MsgQDelete,
-            Call::MsgQNumMsgs { .. } => Gate::MsgQNumMsgs,
-            Call::WdCreate => Gate::WdCreate,
-            Call::WdStart { .. } => Gate::WdStart,
-            Call::WdCancel { .. } => Gate::WdCancel,
-            Call::WdDelete { .. } => Gate::WdDelete,
-            Call::IntLock => Gate::IntLock,
-            Call::IntUnlock { .. } => Gate::IntUnlock,
-            Call::IntContext => Gate::IntContext,
-            Call::Malloc { .. } => Gate::Malloc,
-            Call::Free { .. } => Gate::Free,
-            Call::Memalign { .. } => Gate::Memalign,
-            Call::SymAdd { .. } => Gate::SymAdd,
-            Call::Printf { .. } => Gate::Printf,
-            Call::ErrnoGet => Gate::ErrnoGet,
-            Call::ErrnoSet { .. } => Gate::ErrnoSet,
-            Call::Ld { .. } => Gate::Ld,
-            Call::Unld { .. } => Gate::Unld,
-            Call::I => Gate::I,
-            Call::Lkup { .. } => Gate::Lkup,
-            Call::ModuleShow => Gate::ModuleShow,
-            Call::D { .. } => Gate::D,
-            Call::IntConnect { .. } => Gate::IntConnect,
-            Call::IntDisconnect { .. } => Gate::IntDisconnect,
-            Call::IntEnable { .. } => Gate::IntEnable,
-            Call::IntDisable { .. } => Gate::IntDisable,
-            Call::IntPending { .. } => Gate::IntPending,
-            Call::DevRemove { .. } => Gate::DevRemove,
-        }
+        gate_table!(gates self)
     }
 }

@@ -9,7 +9,7 @@ use Rattle.std.proofs.lemmas.Option.{same_Some}
 use Rattle.slab.proofs.SlabLemmas.{Updates-with_value, ContainsKey-within}
 use Rattle.slab.specs.Slab.{Slab, get, slab_len, with_value, Updates}
 use Rattle.id_table.specs.Records.{of_id, without}
-use Rattle.id_table.proofs.WindListsPlaces.{none_without}
+use Rattle.id_table.proofs.Places.{none_without}
 use Rattle.linked_lists.specs.declared.node.Node.{Node}
 use Rattle.linked_lists.specs.declared.node.Ends.{Ends}
 use Rattle.linked_lists.specs.Chains.{Chains, cell_key, all_cells, chain_at, is_key, put_before, value_in, value_of, Apart}

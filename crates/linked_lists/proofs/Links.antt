@@ -4,7 +4,7 @@ use Rattle.std.specs.Bool.{⊤}
 use Rattle.std.specs.Option.{option_map}
 use Rattle.std.proofs.lemmas.Bool.{eqb-true, eqb-false, eq-eqb, ne_eqb}
 use Rattle.id_table.specs.Records.{of_id, without}
-use Rattle.id_table.proofs.WindListsPlaces.{none_without, not_there}
+use Rattle.id_table.proofs.Places.{none_without, not_there}
 use Rattle.linked_lists.specs.declared.node.Node.{Node}
 use Rattle.linked_lists.specs.Chains.{cell_key, is_key, hold, Apart}
 use Rattle.linked_lists.specs.Inside.{first_or, last_or, goes_on, goes_back, holds, Linked, stepped, walked}

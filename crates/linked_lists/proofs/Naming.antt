@@ -12,7 +12,7 @@ use Rattle.id_table.specs.Records.{of_id, without, with_record, StandsAt, Rising
 use Rattle.id_table.proofs.Records.{found_place}
 use Rattle.id_table.proofs.Halving.{IsRank}
 use Rattle.id_table.proofs.Sorting.{length-insert_sorted}
-use Rattle.id_table.proofs.WindListsPlaces.{place_of, insert_place, of_id-without, of_id-with_record, Rising-without, Rising-with_record}
+use Rattle.id_table.proofs.Places.{place_of, insert_place, of_id-without, of_id-with_record, Rising-without, Rising-with_record}
 use Rattle.id_table.specs.declared.entry.Entry.{Entry}
 use Rattle.linked_lists.specs.declared.id_lists.Member.{Member}
 use Rattle.linked_lists.specs.Chains.{Chains, cell_key, all_cells, chain_at, first_key, is_key, put_before, value_in, value_of, IsOnlyIn}

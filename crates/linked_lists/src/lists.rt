@@ -1,7 +1,7 @@
 //! Linked lists in one slab.
 
 ghost use Rattle.std.specs.Option.{ForSome};
-ghost use Rattle.std.specs.Prelude.{◌≡◌, ◌<◌, ◌≤◌, ◌+◌, [], None, Some, length, map, replicate, IfOk, IsSome, slice_set};
+ghost use Rattle.std.specs.Prelude.{◌≡◌, ◌<◌, ◌+◌, [], None, Some, length, replicate, IfOk, IsSome};
 ghost use Rattle.linked_lists.specs.Chains.{Chains, all_cells, chain_at, first_key, value_in, value_of, with_cell, without_cell, with_value, AreChains, IsOnlyIn, ValueIs, NextIs};
 
 use crate::node::Side::{After, Before};

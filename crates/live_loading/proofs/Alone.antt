@@ -1,6 +1,6 @@
 -- What a load leaves as it was.
 use Rattle.std.proofs.Common.{◌≡◌, ℕ, ◌+◌, ◌<◌, ◌≤◌, List, length, Result, Ok, Err, refl, sym, ◌∙◌, subst, inl, inr, arith}
-use Rattle.std.specs.Prelude.{slice_index, codes}
+use Rattle.std.specs.Prelude.{codes}
 use Rattle.std.specs.List.{Contains}
 use Rattle.std.proofs.lemmas.List.Elements.{All-contains}
 use Rattle.wind_base.specs.Limits.{ok_word}
@@ -21,16 +21,15 @@ use Rattle.module_loader.proofs.Files.{is_file}
 use Rattle.module_loader.proofs.Owning.{write_law}
 use Rattle.wind_core.specs.State.{KernState}
 use Rattle.wind_core.specs.Moves.{change_task, past_gate, leave_gate, set_errno, answer, with_answer as answered}
-use Rattle.kernel_world.specs.State.{WorldState}
+use Rattle.kernel_calls.specs.KernelWorldState.{WorldState}
 use Rattle.id_table.specs.Idents.{shell_id}
-use Rattle.kernel_world.specs.Actors.{caller_words}
-use Rattle.kernel_world.specs.Replies.{left_gate}
-use Rattle.kernel_world.specs.Kept.{IsWorld}
-use Rattle.kernel_world.proofs.Goes.{drawn}
-use Rattle.kernel_world.proofs.OneTask.{other_task}
+use Rattle.kernel_calls.specs.KernelWorldReplies.{left_gate}
+use Rattle.kernel_calls.specs.KernelWorldKept.{IsWorld}
+use Rattle.kernel_calls.proofs.KernelWorldGoes.{drawn}
+use Rattle.kernel_calls.proofs.KernelWorldOneTask.{other_task}
 use Rattle.live_loading.specs.Said.{FileSaid, Held, Missing, TooLong}
 use Rattle.live_loading.specs.Texts.{reason}
-use Rattle.live_loading.specs.Loading.{shell, loader_state, accepted, refused, by_verdict, effect, load_call}
+use Rattle.live_loading.specs.Loading.{shell, loader_state, accepted, refused, by_verdict, effect, mode_wanted, load_call}
 use Rattle.kernel_calls.specs.Laws.{KernStays}
 use Rattle.live_loading.specs.Laws.{IsFresh, OnlyLoads, AloneLaw}
 use Rattle.live_loading.proofs.Going.{is_loader}
@@ -131,4 +130,4 @@ effect_alone w kept name mode (Held file) = go (file_verdict (loader_state (left
 
 pub alone_law : AloneLaw
 unfolding load_call
-alone_law w name said kept may = effect_alone w kept name (slice_index (caller_words w shell) 3) said
+alone_law w name said kept may = effect_alone w kept name (mode_wanted w) said

@@ -6,8 +6,8 @@ use Rattle.std.proofs.lemmas.List.Elements.{All-cons, All-weaker}
 use Rattle.wind_base.specs.Limits.{most_modules, greatest_id, most_symbols}
 use Rattle.module_loader.specs.declared.module.LoadErr.TheVariants as refusal
 use Rattle.module_loader.specs.Loading.{count_by}
-use Rattle.kernel_world.specs.State.{WorldState}
-use Rattle.kernel_world.specs.Kept.{Within, HasCounts}
+use Rattle.kernel_calls.specs.KernelWorldState.{WorldState}
+use Rattle.kernel_calls.specs.KernelWorldKept.{Within, HasCounts}
 
 -- if no count refuses it, there is room for a module, an id is left, and there is room for the symbols
 pub record Fits (modules next symbols : ℕ) : Type 0 where

@@ -31,24 +31,25 @@ use Rattle.module_loader.proofs.Holds.{load_keeps, held_by-loaded, none_before}
 use Rattle.task_block.specs.declared.task.Task.{Task}
 use Rattle.wind_core.specs.State.{KernState, Lives}
 use Rattle.wind_core.specs.Moves.{answer, change_task}
-use Rattle.wind_core.specs.Move.{Answer, DrawIds}
+use Rattle.wind_core.specs.Move.{Set, DrawIds}
+use Rattle.wind_core.specs.declared.changes.Change.TheVariants as changes
 use Rattle.wind_core.proofs.Ids.{lives_by, ids-change}
-use Rattle.kernel_world.specs.State.{WorldState}
+use Rattle.kernel_calls.specs.KernelWorldState.{WorldState}
 use Rattle.id_table.specs.Idents.{shell_id}
-use Rattle.kernel_world.specs.Actors.{MayCall, caller_words}
-use Rattle.kernel_world.specs.Replies.{left_gate, with_answer, with_errno}
-use Rattle.kernel_world.specs.Kept.{Stack, routine_stack, KeepsPool, AreStacks, KeepsLoaded, task_stacks, IsWorld, Within, call_sinces}
-use Rattle.kernel_world.proofs.Boards.{pool_in_ram}
-use Rattle.kernel_world.proofs.WorldIds.{ids_load}
-use Rattle.kernel_world.proofs.Advancing.{Advances, advances_on, advances_more, beside, by_kern, errno_advances}
-use Rattle.kernel_world.proofs.Goes.{drawn, goes-draw, goes-move}
-use Rattle.kernel_world.proofs.ObjectMoves.{objects-move}
-use Rattle.kernel_world.proofs.Stacks.{pool-alloc_on, stacks-alloc_on}
-use Rattle.kernel_world.proofs.Replying.{left_advances}
+use Rattle.kernel_calls.specs.KernelWorldActors.{MayCall}
+use Rattle.kernel_calls.specs.KernelWorldReplies.{left_gate, with_answer, with_errno}
+use Rattle.kernel_calls.specs.KernelWorldKept.{Stack, routine_stack, KeepsPool, AreStacks, KeepsLoaded, task_stacks, IsWorld, Within, call_sinces}
+use Rattle.kernel_calls.proofs.KernelWorldBoards.{pool_in_ram}
+use Rattle.kernel_calls.proofs.KernelWorldWorldIds.{ids_load}
+use Rattle.kernel_calls.proofs.KernelWorldAdvancing.{Advances, advances_on, advances_more, beside, by_kern, errno_advances}
+use Rattle.kernel_calls.proofs.KernelWorldGoes.{drawn, goes-draw, goes-move}
+use Rattle.kernel_calls.proofs.KernelWorldObjectMoves.{objects-move}
+use Rattle.kernel_calls.proofs.KernelWorldStacks.{pool-alloc_on, stacks-alloc_on}
+use Rattle.kernel_calls.proofs.KernelWorldReplying.{left_advances}
 use Rattle.kernel_calls.proofs.Serves.{passes_by}
 use Rattle.live_loading.specs.Said.{FileSaid, Held, Missing, TooLong}
 use Rattle.live_loading.specs.Texts.{reason, refused_text, undefined_text}
-use Rattle.live_loading.specs.Loading.{shell, loader_state, with_loader, writing, accepted, refused, by_verdict, effect, load_call}
+use Rattle.live_loading.specs.Loading.{shell, loader_state, with_loader, writing, accepted, refused, by_verdict, effect, mode_wanted, load_call}
 use Rattle.live_loading.specs.Laws.{LoadLaw}
 use Rattle.live_loading.proofs.Counted.{Fits, fits, counts_bound}
 
@@ -148,7 +149,7 @@ writing_advances : (w : WorldState) → IsWorld w → (n : ℕ) → Within n w �
 writing_advances w kept n within text = beside w kept n within w.slots (w.output ++ text) w.int_errno
 
 answer_advances : (w : WorldState) → IsWorld w → (n : ℕ) → Within n w → (value : ℕ) → Advances w (with_answer w shell value) n 0 0
-answer_advances w kept n within value = by_kern w kept (answer w.kern shell_id value) n 0 (goes-move w.kern n kept.kern within.0 (Answer shell_id value) tt) (objects-move w.kern w.objects kept.kern kept.objects (Answer shell_id value) (tt, tt, tt, tt)) within.1
+answer_advances w kept n within value = by_kern w kept (answer w.kern shell_id value) n 0 (goes-move w.kern n kept.kern within.0 (Set shell_id (changes.Answer value)) tt) (objects-move w.kern w.objects kept.kern kept.objects (Set shell_id (changes.Answer value)) (tt, tt, tt, tt)) within.1
 
 refused_advances : (w : WorldState) → IsWorld w → (n : ℕ) → Within n w → (name words : List ℕ) → Advances w (refused w name words) n 0 0
 refused_advances w kept n within name words =
@@ -184,7 +185,7 @@ unfolding load_call
 load_advances w name said n kept may within =
     let left = left_advances w kept n within shell may in
     let v = left_gate w shell in
-    let mode = slice_index (caller_words w shell) 3 in
+    let mode = mode_wanted w in
     advances_on w v (effect v name mode said) n n 0 0 0 0 left (effect_advances v left.kept n left.within name mode said)
 
 pub load_law : LoadLaw
@@ -207,7 +208,3 @@ pub kept_by : (w x : WorldState) (name : List ℕ) (said : FileSaid) → IsWorld
 kept_by w x name said kept may is =
     let (n, within) = counts_bound w in
     subst IsWorld (sym is) (load_advances w name said n kept may within).kept
-
-pub kept_either : {E : Type 0} (r : Result Unit E) (w x : WorldState) (name : List ℕ) (said : FileSaid) → IsWorld w → MayCall w.kern shell → OnOk r (x ≡ load_call w name said) → OnErr r (x ≡ w) → IsWorld x
-kept_either (Ok u) w x name said kept may ok err = kept_by w x name said kept may ok
-kept_either (Err e) w x name said kept may ok err = subst IsWorld (sym err) kept

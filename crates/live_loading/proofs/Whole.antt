@@ -1,7 +1,9 @@
 -- The world that a load leaves, by what its steps have answered.
-use Rattle.std.proofs.Common.{◌≡◌, ◌≢◌, ℕ, List, Result, Ok, Err, refl, sym, ap, ◌∙◌, subst}
-use Rattle.std.specs.Prelude.{slice_index, OnOk}
+use Rattle.std.proofs.Common.{◌≡◌, ◌≢◌, ℕ, List, Result, Ok, Err, refl, sym, ap, ◌∙◌, subst, None, Some}
+use Rattle.std.specs.Prelude.{slice_index, IfOk, OnOk, OnErr}
+use Rattle.wind_base.specs.declared.errno.Errno.TheVariants as errors
 use Rattle.wind_base.specs.declared.regs.Regs.{Regs}
+use Rattle.wind_base.specs.declared.gate.Gate.TheVariants as gates
 use Rattle.mem_partition.specs.State.{PartState}
 use Rattle.symbol_table.specs.declared.symbol.Symbol.{Symbol}
 use Rattle.wind_core.specs.State.{KernState}
@@ -13,16 +15,23 @@ use Rattle.module_loader.specs.declared.module.LoadErr.TheVariants as refusal
 use Rattle.module_loader.specs.declared.module.Loaded.{Loaded}
 use Rattle.module_loader.specs.Loading.{LoaderState, count_refusal, verdict, file_verdict, loaded, loaded_answer, IsLoaded, IsVerdict}
 use Rattle.module_loader.proofs.Files.{read_verdict}
-use Rattle.kernel_world.specs.State.{WorldState}
+use Rattle.kernel_calls.specs.KernelWorldState.{WorldState}
 use Rattle.id_table.specs.Idents.{shell_id}
-use Rattle.kernel_world.specs.Actors.{caller_regs, caller_words}
-use Rattle.kernel_world.specs.Replies.{left_gate, with_answer}
-use Rattle.kernel_world.specs.declared.actor.Actor.TheVariants.{Task}
+use Rattle.kernel_calls.specs.KernelWorldActors.{MayCall, caller_regs, caller_words}
+use Rattle.kernel_calls.specs.KernelWorldKept.{IsWorld}
+use Rattle.kernel_calls.specs.KernelWorldReplies.{left_gate, with_answer}
+use Rattle.kernel_calls.specs.KernelWorldActor.TheVariants.{Task}
+use Rattle.kernel_calls.specs.KernelWorldReply.{Reply}
+use Rattle.kernel_calls.specs.KernelWorldReply.TheVariants.{Answer, Refusal}
+use Rattle.kernel_calls.specs.declared.files.Load.{Load}
+use Rattle.kernel_calls.specs.Calls.{load_wanted}
 use Rattle.live_loading.specs.declared.text.Cause.TheVariants as causes
 use Rattle.live_loading.specs.Causes.{cause_text}
-use Rattle.live_loading.specs.Said.{Held}
+use Rattle.live_loading.specs.Said.{FileSaid, Held}
 use Rattle.live_loading.specs.Texts.{reason, undefined_text}
-use Rattle.live_loading.specs.Loading.{shell, loader_state, with_loader, writing, refused, by_verdict, load_call}
+use Rattle.live_loading.specs.Loading.{shell, loader_state, with_loader, writing, refused, by_verdict, load_call, mode_in, mode_wanted}
+use Rattle.live_loading.specs.Replies.{load_reply, verdict_reply}
+use Rattle.live_loading.proofs.Going.{kept_by}
 
 -- ---- a module that has been read
 -- it is loaded: this commutes with leaving the gate
@@ -51,6 +60,12 @@ loaded_world w x name m mode (Ok at) t l bytes to answer same is =
     ∙ ap (λ (u : LoaderState). with_answer (writing (left_gate (with_loader w u) shell) (undefined_text (loaded_answer (loader_state w) m).undefined)) shell (loaded_answer (loader_state w) m).id) to
     ∙ at_places w name m mode at
 
+-- its id is the answer
+pub loaded_reply : (w : WorldState) (name : List ℕ) (m : Module) (mode : ℕ) (v : Result Places LoadErr) (t : LoaderState) (l : Loaded) (r : Reply)
+    → IsLoaded v (loader_state w) name m mode t → l ≡ loaded_answer (loader_state w) m → r ≡ Answer l.id → r ≡ verdict_reply (left_gate w shell) v
+loaded_reply w name m mode (Err e) t l r to answer is = absurd to
+loaded_reply w name m mode (Ok at) t l r to answer is = is ∙ ap (λ (q : Loaded). Answer q.id) answer
+
 -- or refused
 verdict_is : (v : Result Places LoadErr) (e : LoadErr) → e ≢ refusal.NoMemory → IsVerdict v e → v ≡ Err e
 verdict_is v refusal.NoMemory some h = absurd (some refl)
@@ -61,32 +76,29 @@ verdict_is v refusal.TableFull some h = h
 verdict_is v (refusal.Part e) some h = h
 verdict_is v (refusal.Reloc e) some h = h
 
-pub refused_world : (w x : WorldState) (name : List ℕ) (m : Module) (mode : ℕ) (v : Result Places LoadErr) (t : LoaderState) (e : LoadErr) (bytes : List ℕ)
-    → e ≢ refusal.NoMemory → IsVerdict v e → t ≡ loader_state w → bytes ≡ w.output
-    → x ≡ refused (left_gate (with_output (with_loader w t) bytes) shell) name (cause_text (causes.Refused e)) → x ≡ by_verdict (left_gate w shell) name mode m v
-refused_world w x name m mode v t e bytes some h as_before same is =
-    is
-    ∙ ap (λ b. refused (left_gate (with_output (with_loader w t) b) shell) name (reason e)) same
-    ∙ ap (λ (u : LoaderState). refused (left_gate (with_loader w u) shell) name (reason e)) as_before
-    ∙ ap (by_verdict (left_gate w shell) name mode m) (sym (verdict_is v e some h))
+pub refused_reply : (w : WorldState) (v : Result Places LoadErr) (e : LoadErr) (r : Reply) → e ≢ refusal.NoMemory → IsVerdict v e → r ≡ Refusal errors.LoadFailed → r ≡ verdict_reply w v
+refused_reply w v e r some h is = is ∙ ap (verdict_reply w) (sym (verdict_is v e some h))
 
 -- ---- a file
 left_file : (w : WorldState) (file : List ℕ) (mode : ℕ) → file_verdict (loader_state w) file mode ≡ file_verdict (loader_state (left_gate w shell)) file mode
 unfolding file_verdict verdict count_refusal
 left_file w file mode = refl
 
--- the mode is in r3 of the shell's task
-mode_is : (w : WorldState) (regs : Regs) (id : ℕ) → regs ≡ caller_regs w.kern w.watch.level (Task id) → id ≡ shell_id → slice_index regs.gpr 3 ≡ slice_index (caller_words w shell) 3
-mode_is w regs id is same = ap (λ (r : Regs). slice_index r.gpr 3) is ∙ ap (λ n. slice_index (caller_words w (Task n)) 3) same
+-- the shell's task wants a load at the gate of ld, in this mode
+pub no_load : (w : WorldState) (id : ℕ) → None ≡ load_wanted gates.Ld w (Task id) → id ≡ shell_id → ⊥
+no_load w id none same = let is : None ≡ load_wanted gates.Ld w shell = none ∙ ap (λ n. load_wanted gates.Ld w (Task n)) same in absurd (cc)
 
-pub read_world : {E : Type 0} (r : Result Unit E) (w x : WorldState) (name file : List ℕ) (m : Module) (regs : Regs) (id : ℕ) → regs ≡ caller_regs w.kern w.watch.level (Task id) → id ≡ shell_id → ModuleOf file m
-    → OnOk r (x ≡ by_verdict (left_gate w shell) name (slice_index regs.gpr 3) m (verdict (loader_state w) m (slice_index regs.gpr 3))) → OnOk r (x ≡ load_call w name (Held file))
+pub mode_is : (w : WorldState) (id : ℕ) (load : Load) → Some load ≡ load_wanted gates.Ld w (Task id) → id ≡ shell_id → load.mode ≡ mode_wanted w
+mode_is w id load is same = ap mode_in (is ∙ ap (λ n. load_wanted gates.Ld w (Task n)) same)
+
+pub read_world : {A E : Type 0} (r : Result A E) (w x : WorldState) (name file : List ℕ) (m : Module) (n : ℕ) → n ≡ mode_wanted w → ModuleOf file m
+    → OnOk r (x ≡ by_verdict (left_gate w shell) name n m (verdict (loader_state w) m n)) → OnOk r (x ≡ load_call w name (Held file))
 unfolding load_call
-read_world (Err e) w x name file m regs id at same holds ok = tt
-read_world (Ok u) w x name file m regs id at same holds ok =
-    let mode : ℕ = slice_index (caller_words w shell) 3 in
+read_world (Err e) w x name file m n is holds ok = tt
+read_world (Ok u) w x name file m n is holds ok =
+    let mode : ℕ = mode_wanted w in
     ok
-    ∙ ap (λ (n : ℕ). by_verdict (left_gate w shell) name n m (verdict (loader_state w) m n)) (mode_is w regs id at same)
+    ∙ ap (λ (i : ℕ). by_verdict (left_gate w shell) name i m (verdict (loader_state w) m i)) is
     ∙ ap (λ (n : Module). by_verdict (left_gate w shell) name mode n (verdict (loader_state w) m mode)) holds.holds
     ∙ ap (by_verdict (left_gate w shell) name mode (module_at file)) (sym (read_verdict (loader_state w) file m mode holds) ∙ left_file w file mode)
 
@@ -100,27 +112,52 @@ parts_stay w kern symbols part a b c =
     ap (λ (k : KernState). with_parts w k symbols part) a ∙ ap (λ s. with_parts w w.kern s part) b ∙ ap (λ (p : PartState). with_parts w w.kern w.symbols p) c
 
 -- it is loaded
-pub outlined_world : {E : Type 0} (r : Result Unit E) (w x : WorldState) (kern : KernState) (symbols : List Symbol) (part : PartState) (name file : List ℕ) (regs : Regs) (id : ℕ)
-    → regs ≡ caller_regs w.kern w.watch.level (Task id) → id ≡ shell_id → kern ≡ w.kern → symbols ≡ w.symbols → part ≡ w.part → ModuleOf file (module_at file)
-    → OnOk r (x ≡ by_verdict (left_gate (with_parts w kern symbols part) shell) name (slice_index regs.gpr 3) (module_at file)
-    (verdict (loader_state (with_parts w kern symbols part)) (module_at file) (slice_index regs.gpr 3)))
+pub outlined_world : {A E : Type 0} (r : Result A E) (w x : WorldState) (kern : KernState) (symbols : List Symbol) (part : PartState) (name file : List ℕ) (mode : ℕ)
+    → mode ≡ mode_wanted w → kern ≡ w.kern → symbols ≡ w.symbols → part ≡ w.part → ModuleOf file (module_at file)
+    → OnOk r (x ≡ by_verdict (left_gate (with_parts w kern symbols part) shell) name mode (module_at file) (verdict (loader_state (with_parts w kern symbols part)) (module_at file) mode))
     → OnOk r (x ≡ load_call w name (Held file))
-outlined_world r w x kern symbols part name file regs id at same a b c holds ok =
-    let mode = slice_index regs.gpr 3 in
+outlined_world r w x kern symbols part name file mode is a b c holds ok =
     let m = module_at file in
-    read_world r w x name file m regs id at same holds
+    read_world r w x name file m mode is holds
     (subst (λ (v : WorldState). OnOk r (x ≡ by_verdict (left_gate v shell) name mode m (verdict (loader_state v) m mode))) (parts_stay w kern symbols part a b c) ok)
 
 -- or refused
-pub outline_refused : (w x : WorldState) (kern : KernState) (symbols : List Symbol) (part : PartState) (name file : List ℕ) (e : LoadErr) (regs : Regs) (id : ℕ)
-    → regs ≡ caller_regs w.kern w.watch.level (Task id) → id ≡ shell_id → kern ≡ w.kern → symbols ≡ w.symbols → part ≡ w.part
-    → e ≢ refusal.NoMemory → IsVerdict (file_verdict (loader_state w) file (slice_index regs.gpr 3)) e
+pub outline_refused : (w x : WorldState) (kern : KernState) (symbols : List Symbol) (part : PartState) (name file : List ℕ) (e : LoadErr) (n : ℕ)
+    → n ≡ mode_wanted w → kern ≡ w.kern → symbols ≡ w.symbols → part ≡ w.part
+    → e ≢ refusal.NoMemory → IsVerdict (file_verdict (loader_state w) file n) e
     → x ≡ refused (left_gate (with_parts w kern symbols part) shell) name (cause_text (causes.Refused e)) → x ≡ load_call w name (Held file)
 unfolding load_call
-outline_refused w x kern symbols part name file e regs id at same a b c some h is =
-    let mode : ℕ = slice_index (caller_words w shell) 3 in
-    let verdict : file_verdict (loader_state w) file mode ≡ Err e =
-    ap (file_verdict (loader_state w) file) (sym (mode_is w regs id at same)) ∙ verdict_is (file_verdict (loader_state w) file (slice_index regs.gpr 3)) e some h in
+outline_refused w x kern symbols part name file e n wanted a b c some h is =
+    let mode : ℕ = mode_wanted w in
+    let verdict : file_verdict (loader_state w) file mode ≡ Err e = ap (file_verdict (loader_state w) file) (sym wanted) ∙ verdict_is (file_verdict (loader_state w) file n) e some h in
     is
     ∙ ap (λ (v : WorldState). refused (left_gate v shell) name (reason e)) (parts_stay w kern symbols part a b c)
     ∙ ap (by_verdict (left_gate w shell) name mode (module_at file)) (sym verdict ∙ left_file w file mode)
+
+-- ---- how the caller is answered
+-- the verdict on the file, in the mode of the call
+module _ (w : WorldState) (file : List ℕ) (mode : ℕ) (at : mode ≡ mode_wanted w) where
+  reply_by : load_reply w (Held file) ≡ verdict_reply (left_gate w shell) (file_verdict (loader_state w) file mode)
+  unfolding load_reply
+  reply_by =
+      ap (verdict_reply (left_gate w shell)) (sym (left_file w file (mode_wanted w)))
+      ∙ ap (λ (n : ℕ). verdict_reply (left_gate w shell) (file_verdict (loader_state w) file n)) (sym at)
+
+  module _ (kern : KernState) (symbols : List Symbol) (part : PartState) (a : kern ≡ w.kern) (b : symbols ≡ w.symbols) (c : part ≡ w.part) where
+    pub outlined_reply : {E : Type 0} (r : Result Reply E) → ModuleOf file (module_at file)
+        → IfOk r (λ x. x ≡ verdict_reply (left_gate (with_parts w kern symbols part) shell) (verdict (loader_state (with_parts w kern symbols part)) (module_at file) mode))
+        → IfOk r (λ x. x ≡ load_reply w (Held file))
+    outlined_reply (Err e) holds ok = tt
+    outlined_reply (Ok x) holds ok =
+        ok
+        ∙ ap (λ (v : WorldState). verdict_reply (left_gate v shell) (verdict (loader_state v) (module_at file) mode)) (parts_stay w kern symbols part a b c)
+        ∙ ap (verdict_reply (left_gate w shell)) (sym (read_verdict (loader_state w) file (module_at file) mode holds))
+        ∙ sym reply_by
+
+  pub outline_refused_reply : (e : LoadErr) (r : Reply) → e ≢ refusal.NoMemory → IsVerdict (file_verdict (loader_state w) file mode) e → r ≡ Refusal errors.LoadFailed → r ≡ load_reply w (Held file)
+  outline_refused_reply e r some h is = refused_reply (left_gate w shell) (file_verdict (loader_state w) file mode) e r some h is ∙ sym reply_by
+
+-- ---- the world is kept, whether it was loaded or memory ran out
+pub kept_so : {A E : Type 0} (r : Result A E) (w x : WorldState) (name : List ℕ) (said : FileSaid) → IsWorld w → MayCall w.kern shell → OnOk r (x ≡ load_call w name said) → OnErr r (x ≡ w) → IsWorld x
+kept_so (Ok u) w x name said kept may ok err = kept_by w x name said kept may ok
+kept_so (Err e) w x name said kept may ok err = subst IsWorld (sym err) kept

@@ -3,10 +3,10 @@ use Rattle.std.specs.Prelude.{◌≡◌, ℕ, ◌+◌, ◌≤◌, List, slice_in
 use Rattle.mem_partition.specs.Laws.{IsIn}
 use Rattle.mem_partition.specs.declared.block.Block.{Block}
 use Rattle.std.specs.List.{Contains}
-use Rattle.kernel_world.specs.State.{WorldState}
+use Rattle.kernel_calls.specs.KernelWorldState.{WorldState}
 use Rattle.id_table.specs.Idents.{shell_id}
-use Rattle.kernel_world.specs.Actors.{MayCall}
-use Rattle.kernel_world.specs.Kept.{IsWorld, Within, call_sinces}
+use Rattle.kernel_calls.specs.KernelWorldActors.{MayCall}
+use Rattle.kernel_calls.specs.KernelWorldKept.{IsWorld, Within, call_sinces}
 use Rattle.kernel_calls.specs.Laws.{Passes, ElseStays}
 use Rattle.live_loading.specs.Said.{FileSaid}
 use Rattle.live_loading.specs.Loading.{shell, load_call}

@@ -1,19 +1,21 @@
 -- The call that loads a module, given what is said of its file.
-use Rattle.std.specs.Prelude.{ℕ, List, ◌++◌, slice_index, Result, Ok, Err, codes}
+use Rattle.std.specs.Prelude.{ℕ, List, ◌++◌, Option, None, Some, Result, Ok, Err, codes}
 use Rattle.wind_base.specs.Limits.{ok_word}
 use Rattle.wind_base.specs.Errno.{errno_number}
 use Rattle.wind_base.specs.declared.errno.Errno.TheVariants as errors
+use Rattle.wind_base.specs.declared.gate.Gate.TheVariants as gates
 use Rattle.elf_read.specs.declared.module.Module.{Module}
 use Rattle.elf_read.specs.Contents.{module_at}
 use Rattle.module_image.specs.declared.segments.Places.{Places}
 use Rattle.module_loader.specs.declared.module.LoadErr.{LoadErr}
 use Rattle.module_loader.specs.Loading.{LoaderState, file_verdict, loaded, loaded_answer}
-use Rattle.kernel_world.specs.State.{WorldState}
+use Rattle.kernel_calls.specs.KernelWorldState.{WorldState}
 use Rattle.id_table.specs.Idents.{shell_id}
-use Rattle.kernel_world.specs.Actors.{caller_words}
-use Rattle.kernel_world.specs.Replies.{left_gate, with_answer, with_errno}
-use Rattle.kernel_world.specs.declared.actor.Actor.{Actor}
-use Rattle.kernel_world.specs.declared.actor.Actor.TheVariants.{Task}
+use Rattle.kernel_calls.specs.Calls.{load_wanted}
+use Rattle.kernel_calls.specs.declared.files.Load.{Load}
+use Rattle.kernel_calls.specs.KernelWorldReplies.{left_gate, with_answer, with_errno}
+use Rattle.kernel_calls.specs.KernelWorldActor.{Actor}
+use Rattle.kernel_calls.specs.KernelWorldActor.TheVariants.{Task}
 use Rattle.live_loading.specs.Said.{FileSaid, Held, Missing, TooLong}
 use Rattle.live_loading.specs.Texts.{reason, refused_text, undefined_text}
 
@@ -51,6 +53,15 @@ effect w name mode (Held file) = by_verdict w name mode (module_at file) (file_v
 effect w name mode Missing = refused w name (codes "not found")
 effect w name mode TooLong = refused w name (codes "too long")
 
--- the call: the shell's task goes on after its gate, and the call has its effect, in the mode of r3; r4 isn't used
+-- the mode of a load
+abbrev pub mode_in : Option Load → ℕ
+mode_in None = 0
+mode_in (Some load) = load.mode
+
+-- the mode of the load that the shell's task wants at the gate of ld
+abbrev pub mode_wanted : WorldState → ℕ
+mode_wanted w = mode_in (load_wanted gates.Ld w shell)
+
+-- the call: the shell's task goes on after its gate, and the call has its effect
 unfoldable pub load_call : WorldState → List ℕ → FileSaid → WorldState
-load_call w name said = effect (left_gate w shell) name (slice_index (caller_words w shell) 3) said
+load_call w name said = effect (left_gate w shell) name (mode_wanted w) said

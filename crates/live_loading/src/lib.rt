@@ -8,6 +8,9 @@ mod outcome;
 mod text;
 
 pub use answer::FileAnswer;
-pub use kernel_calls::{end_task, file_wanted, is_device, make_call};
+pub use kernel_calls::{
+    Actor, World, end_task, file_wanted, gate_address, gate_at, is_call, is_device, make_call,
+    may_exhaust_memory, put_frame, starting_regs,
+};
 pub use laws::loading_law;
 pub use load::kernel_load;

@@ -1,7 +1,6 @@
 //! The texts of a load.
 
-ghost use Rattle.std.specs.Prelude.{◌≡◌, ℕ, ◌+◌, ◌*◌, ◌≤◌, ◌++◌, List, [], ◌∷◌, length};
-ghost use Rattle.std.specs.Fmt.{decimal};
+ghost use Rattle.std.specs.Prelude.{◌≡◌, ◌+◌, ◌≤◌, ◌++◌, List, [], ◌∷◌, length};
 ghost use Rattle.wind_base.specs.OutBuf.{Added, KeepsSpace};
 ghost use Rattle.symbol_table.specs.declared.symbol.Symbol.{Symbol};
 ghost use Rattle.elf_read.specs.Modules.{IsModule};

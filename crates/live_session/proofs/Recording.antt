@@ -68,7 +68,3 @@ room_after last line time event bytes d board late room =
     let e : Timed = record { time = time; line = line; number = 1; event = event } in
     let P : Timed → Type 0 = λ x. (x.time ≤ time) × (x.line < line + 1) in
     All-append P board.schedule.events (e ∷ []) (λ k x h. (omega (arith, (room k x h).0, late), omega (arith, (room k x h).1))) (All-cons P e [] (omega arith, omega arith) (All-nil P))
-
--- and an event at a later time in the same line
-pub room_later : (last time line : ℕ) (board : State) → last ≤ time → IsRoom last line board → IsRoom time line board
-room_later last time line board late room = λ k x h. (omega (arith, (room k x h).0, late), (room k x h).1)

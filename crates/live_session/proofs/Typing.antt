@@ -1,12 +1,11 @@
 -- One more part of the input.
 use Rattle.std.proofs.Common.{◌≡◌, ℕ, ◌+◌, Bool, true, false, cond, List, [], ◌∷◌, ◌++◌, Option, None, Some, length, refl, sym, ap, ◌∙◌, subst, arith, append_assoc, inl, inr}
-use Rattle.std.specs.Prelude.{IfSome}
 use Rattle.std.specs.Option.{option_map}
 use Rattle.std.proofs.lemmas.List.{append-nil, length-append}
 use Rattle.live_session.specs.Input.{IsLongest, IsPart, Takes}
 use Rattle.live_session.specs.Positions.{asked_by, position_after, sent_of}
 use Rattle.live_session.specs.Seen.{LiveState, Sends}
-use Rattle.live_session.specs.Session.{AreParts, Parts, IsStop, IsTyped, IsWhole, joined, most_parts, position_of, sent_by}
+use Rattle.live_session.specs.Session.{AreParts, Parts, IsStop, IsTyped, IsWhole, joined, position_of, sent_by}
 use Rattle.live_session.specs.declared.dot_line.DotLine.TheVariants as lines
 use Rattle.live_session.specs.declared.serving.Position.{Position}
 use Rattle.live_session.specs.declared.serving.Position.TheVariants.{Start}
@@ -33,9 +32,6 @@ sent_more position (x ∷ xs) y =
     ∙ sym (append_assoc (sent_if x.1 (sent_of position x.0)) (sent_by (position_after position x.0) xs) (sent_if y.1 (sent_of (position_of (position_after position x.0) xs) y.0)))
 
 -- ---- what is taken from the input
-takes_none : (left : Option (List ℕ)) → Takes left left []
-takes_none None = refl
-takes_none (Some bytes) = refl
 
 takes_both : (a b c : Option (List ℕ)) (xs ys : List ℕ) → Takes a b xs → Takes b c ys → Takes a c (xs ++ ys)
 takes_both None b c xs ys first second = subst (λ (x : Option (List ℕ)). Takes x c ys) first second
@@ -73,9 +69,6 @@ pub record Typing (old now : Option (List ℕ)) (console : List ℕ) (position :
 pub typed_at : (old now : Option (List ℕ)) (console later : List ℕ) (position after : Position) (count : ℕ) → later ≡ console → after ≡ position → Typing old now console position count → Typing old now later after count
 typed_at old now console later position after count same there t = record { parts = t.parts; taken = t.taken; parts_are = t.parts_are; sent = same ∙ t.sent; there = there ∙ t.there; counted = t.counted }
 
-pub typed_none : (left : Option (List ℕ)) (console : List ℕ) → console ≡ [] → Typing left left console Start 0
-typed_none left console empty = record { parts = []; taken = takes_none left; parts_are = tt; sent = empty; there = refl; counted = refl }
-
 -- ---- how it stops
 pub stop_whole : (s : Status) (left : Option (List ℕ)) (parts : Parts) → IsWhole left parts → IsStop s left parts
 stop_whole status.Ended left parts whole = whole
@@ -90,23 +83,6 @@ abbrev pub IsEarly : Status → Type 0
 IsEarly status.Ended = ⊥
 IsEarly status.Unrecorded = ⊥
 IsEarly s = Unit {0}
-
-stop_early : (s : Status) (left : Option (List ℕ)) (parts : Parts) → IsEarly s → IsStop s left parts
-stop_early status.Ended left parts early = absurd early
-stop_early status.Unrecorded left parts early = absurd early
-stop_early status.Usage left parts early = tt
-stop_early status.ReadFault left parts early = tt
-stop_early status.WriteFault left parts early = tt
-stop_early status.NoMemory left parts early = tt
-
-pub typed_early : (s : Status) (old new : Option (List ℕ)) (console : List ℕ) (position : Position) (count : ℕ) → Typing old new console position count → IsEarly s → IsTyped s old new console
-typed_early s old new console position count t early = record { parts = t.parts; taken = t.taken; parts_are = t.parts_are; sent = t.sent; stop = stop_early s new t.parts early }
-
-pub typed_most : (s : Status) (old new : Option (List ℕ)) (console : List ℕ) (position : Position) → Typing old new console position most_parts → IsTyped s old new console
-typed_most s old new console position t = record { parts = t.parts; taken = t.taken; parts_are = t.parts_are; sent = t.sent; stop = stop_whole s new t.parts (inr (inr t.counted)) }
-
-pub typed_all : (s : Status) (old new : Option (List ℕ)) (console : List ℕ) (position : Position) (count : ℕ) → Typing old new console position count → IfSome new (λ left. left ≡ []) → IsTyped s old new console
-typed_all s old new console position count t none = record { parts = t.parts; taken = t.taken; parts_are = t.parts_are; sent = t.sent; stop = stop_whole s new t.parts (inl none) }
 
 -- whether it was sent
 was_sent : (bytes : List ℕ) (l m : LiveState) → Sends bytes l m → (sent : Bool) × (m.console.bytes ≡ l.console.bytes ++ sent_if sent bytes)

@@ -7,7 +7,7 @@ use Rattle.wind_base.specs.OutBuf.{Output}
 use Rattle.wind_outside.specs.Counts.{Rose}
 use Rattle.wind_outside.specs.declared.device.Device.{Ghosts}
 use Rattle.wind_outside.specs.declared.device.DeviceKind.{DeviceKind}
-use Rattle.wind_session.specs.BoardSeen.{board_by, seen}
+use Rattle.wind_session.specs.BoardPlayerSeen.{board_by, seen}
 use Rattle.wind_machine.specs.State.{State}
 use Rattle.wind_machine.specs.Machine.{IsOver}
 use Rattle.wind_machine.specs.Extending.{Setup, IsRoom}

@@ -1,6 +1,6 @@
 //! The lines that are for the program and not for the board.
 
-ghost use Rattle.std.specs.Prelude.{◌≡◌, ◌==◌, ◌↔◌, ◌∷◌, [], List, IsTrue, length};
+ghost use Rattle.std.specs.Prelude.{◌≡◌, ◌==◌, []};
 ghost use Rattle.live_session.specs.DotLines.{without_end as without_end_lem, dot_line_of, number_after as number_after_lem, is_dotted as is_dotted_lem};
 
 use wind_base::decimal;

@@ -1,7 +1,7 @@
 //! The real outside: a stream that is read, and the files of a directory. Contracts tell nothing of
 //! their content. This is a trusted edge of the program.
 
-ghost use Rattle.std.specs.Prelude.{◌≡◌, ◌≤◌, vec_len, IfOk};
+ghost use Rattle.std.specs.Prelude.{◌≤◌, vec_len, IfOk};
 ghost use Rattle.std.specs.Io.{StopsAt};
 ghost use Rattle.wind_base.specs.Limits.{longest_chunk};
 

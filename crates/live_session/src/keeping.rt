@@ -1,6 +1,6 @@
 //! Whether the record may be written, and the writing of it.
 
-ghost use Rattle.std.specs.Prelude.{◌≡◌, ◌≢◌, ◌≤◌, IsTrue, false, Err, OnOk};
+ghost use Rattle.std.specs.Prelude.{◌≡◌, ◌≤◌, IsTrue, false, Err, OnOk};
 ghost use Rattle.wind_base.specs.Limits.{most_steps};
 ghost use Rattle.wind_outside.specs.Counts.{Rose};
 ghost use Rattle.live_session.specs.Ending.{is_quiet};

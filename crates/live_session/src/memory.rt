@@ -5,11 +5,6 @@ ghost use Rattle.std.specs.List.{All};
 ghost use Rattle.wind_base.specs.Limits.{longest_chunk};
 ghost use Rattle.wind_outside.specs.Counts.{Rose};
 ghost use Rattle.wind_outside.specs.Files.{with_file};
-ghost use Rattle.wind_outside.specs.declared.sink.Put.TheVariants as puts;
-ghost use Rattle.live_session.specs.Input.{Gives};
-ghost use Rattle.live_session.specs.Folder.{IsPresence, Replaced};
-ghost use Rattle.live_session.specs.declared.input.InputPart.TheVariants as parts;
-ghost use Rattle.live_session.specs.declared.record_folder.Presence.TheVariants as presence;
 
 use crate::input::{Input, InputPart};
 use crate::record_folder::{Presence, RecordFolder};

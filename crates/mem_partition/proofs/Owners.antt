@@ -22,23 +22,6 @@ find-with_block p b (c ∷ cs) h =
       | false ↦ ap (λ o. cond (p c) (Some c) o) (find-with_block p b cs h)
     ]
 
--- one that passes is found, or another before it
-pub found-with_block : (p : Block → Bool) (b : Block) (bs : List Block) → p b ≡ true → IsSome (find p (with_block b bs))
-found-with_block p b [] h = subst (λ t. IsSome (cond t (Some b) None)) (sym h) refl
-found-with_block p b (c ∷ cs) h =
-    elim (ltb b.addr c.addr) as (λ t. IsSome (find p (cond t (b ∷ c ∷ cs) (c ∷ with_block b cs)))) [
-      | true ↦ subst (λ t. IsSome (cond t (Some b) (find p (c ∷ cs)))) (sym h) refl
-      | false ↦ elim (p c) as (λ t. IsSome (cond t (Some c) (find p (with_block b cs)))) [ true ↦ refl | false ↦ found-with_block p b cs h ]
-    ]
-
--- what was found is found among more
-pub kept-with_block : (p : Block → Bool) (b : Block) (bs : List Block) → IsSome (find p bs) → IsSome (find p (with_block b bs))
-kept-with_block p b bs h =
-    elim (p b) as (λ t. p b ≡ t → IsSome (find p (with_block b bs))) [
-      | true ↦ λ e. found-with_block p b bs e
-      | false ↦ λ e. subst IsSome (sym (find-with_block p b bs e)) h
-    ] refl
-
 -- no block begins at the beginning of a range that overlaps none
 pub fresh_address : (lo hi : ℕ) (bs : List Block) (size at a : ℕ) (class : Class) → Laid lo hi bs → 0 < size → meets_none bs size at ≡ true → IsSome (own_block bs a class) → a ≡ at → ⊥
 fresh_address lo hi [] size at a class laid some free found same = absurd (cc)

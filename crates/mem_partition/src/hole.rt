@@ -1,6 +1,6 @@
 //! The holes of a pool, in order of address, as lists.
 
-ghost use Rattle.std.specs.Prelude.{◌≡◌, ◌<◌, ◌≤◌, ◌^◌, ◌+◌, ◌==◌, None, length, option_copied, nat_le, nat_lt, MatchOption, slice_index_or, vec_len, vec_capacity, position};
+ghost use Rattle.std.specs.Prelude.{◌≡◌, ◌<◌, ◌≤◌, ◌^◌, ◌+◌, ◌==◌, None, length, option_copied, nat_le, MatchOption, vec_len, vec_capacity, position};
 ghost use Rattle.std.specs.List.{find};
 ghost use Rattle.wind_base.specs.declared.board_kind.Side.TheVariants.{Low, High};
 ghost use Rattle.mem_partition.specs.Place.{greatest_align};

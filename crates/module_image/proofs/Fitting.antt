@@ -1,12 +1,10 @@
 -- The sections' places are inside the laid bytes.
-use Rattle.std.proofs.Common.{◌≡◌, ℕ, zero, suc, ◌+◌, ◌-◌, ◌^◌, ◌<◌, ◌≤◌, true, false, cond, List, [], ◌∷◌, ◌++◌, length, map, get_or, replicate, refl, sym, ap, ◌∙◌, subst, arith}
+use Rattle.std.proofs.Common.{◌≡◌, ℕ, zero, suc, ◌+◌, ◌-◌, ◌^◌, ◌<◌, ◌≤◌, true, false, cond, List, [], ◌∷◌, ◌++◌, length, map, get_or, replicate, refl, sym, ap, ◌∙◌, subst, arith, None, take, drop}
 use Rattle.std.specs.List.{All}
-use Rattle.std.proofs.lemmas.List.{length-append, length-replicate, length-map, get_or-map}
+use Rattle.std.proofs.lemmas.List.{length-append, length-replicate, length-map, get_or-map, places, take_at}
 use Rattle.std.proofs.Math.Nat.{mod-eq_of_lt}
 use Rattle.reloc_link.proofs.Writing.{length-patched}
 use Rattle.reloc_link.specs.Patched.{LiesWithin, Patched, patched}
-use Rattle.std.proofs.lemmas.List.{places, take_at}
-use Rattle.std.proofs.Common.{None, take, drop}
 use Rattle.elf_read.specs.declared.module.Body.{Body}
 use Rattle.elf_read.specs.declared.module.Body.TheVariants as body
 use Rattle.module_image.specs.declared.segments.Ends.{Ends}

@@ -1,5 +1,5 @@
 -- What the link asks of a module.
-use Rattle.std.specs.Prelude.{ℕ, ◌^◌, ◌≤◌, length}
+use Rattle.std.specs.Prelude.{◌≤◌, length}
 use Rattle.std.specs.List.{All}
 use Rattle.elf_read.specs.declared.module.Module.{Module}
 use Rattle.elf_read.specs.Modules.{IsModule, IsRel}

@@ -2,15 +2,13 @@
 
 ghost use Rattle.std.specs.Prelude.{◌≡◌, ◌≤◌, ◌&&◌, Some, length, IfOk};
 ghost use Rattle.wind_base.specs.Limits.{most_symbol_entries};
-ghost use Rattle.module_image.specs.Exports.{is_global as is_global_lem, is_wanted as is_wanted_lem, is_defined as is_defined_lem, export_count, kind_in, kind_at, kind_of as kind_of_lem, exported, exports_from};
-ghost use Rattle.module_image.specs.Layout.{segment_of};
+ghost use Rattle.module_image.specs.Exports.{is_global as is_global_lem, is_wanted as is_wanted_lem, is_defined as is_defined_lem, export_count, kind_at, kind_of as kind_of_lem, exported, exports_from};
 
 use crate::layout::segment;
 use crate::segments::SegmentKind;
 use elf_read::{Sect, Sym, SymPlace, find_shape};
 use std::alloc::{AllocError, Global};
 use symbol_table::{SymKind, Symbol};
-use wind_base::Name;
 
 /// The mode of a load that also adds local symbols.
 const LOCALS_TOO: u32 = 1;
@@ -107,14 +105,6 @@ fn kind_of(sections: &[Sect], place: SymPlace) -> SymKind
     }
 }
 
-/// A copy of a name.
-pub(crate) fn copied(alloc: Global, name: &Name) -> Result<Name, AllocError>
-    ensures { IfOk result (λ n. n ≡ name.now) }
-{
-    // a name is never too long, so the only error is that memory runs out
-    Name::new(alloc, name.bytes()).map_err(|_| AllocError)
-}
-
 /// The table entry for a symbol with this value.
 fn export(
     alloc: Global,
@@ -125,7 +115,7 @@ fn export(
 ) -> Result<Symbol, AllocError>
     ensures { IfOk result (λ s. s ≡ exported sections.now id y.now value) }
 {
-    let name = copied(alloc, &y.name)?;
+    let name = y.name.copied(alloc)?;
     Ok(Symbol {
         name,
         value,

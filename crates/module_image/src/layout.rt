@@ -3,7 +3,7 @@
 ghost use Rattle.std.specs.Prelude.{◌≡◌, ◌+◌, ◌*◌, ◌≤◌, ◌<◌, ◌%◌, ◌^◌, length, map, All, IfOk};
 ghost use Rattle.mem_partition.specs.Place.{aligned};
 ghost use Rattle.elf_read.specs.Outline.{shape_of};
-ghost use Rattle.module_image.specs.Layout.{segment_in, place_of, end_in, with_end, offset_by, after_shape, addresses_from, ends_by, no_ends, value_in, after_symbol, commons_end, IsRoom, IsShapeRoom, IsSectRoom, IsSymRoom, longest_step, most_entries, AreWithin, values_from};
+ghost use Rattle.module_image.specs.Layout.{segment_in, place_of, end_in, with_end, offset_by, after_shape, addresses_from, ends_by, no_ends, value_in, after_symbol, commons_end, IsShapeRoom, IsSectRoom, IsSymRoom, longest_step, most_entries, AreWithin, values_from};
 
 use crate::segments::{Ends, Places, SegmentKind};
 use elf_read::{Sect, Shape, Sym, SymPlace, find_shape};

@@ -1,16 +1,16 @@
 //! Makes what a load writes and adds, without touching RAM or the symbol table.
 
-ghost use Rattle.std.specs.Prelude.{◌≡◌, ◌<◌, ◌≤◌, ◌+◌, ◌^◌, ◌∷◌, IfOk, IfErr, length};
+ghost use Rattle.std.specs.Prelude.{◌≡◌, ◌<◌, ◌+◌, ◌^◌, ◌∷◌, IfOk, IfErr, length};
 ghost use Rattle.module_image.specs.Linkable.{IsLinkable};
 ghost use Rattle.module_image.specs.Needs.{needs_of};
-ghost use Rattle.module_image.specs.Layout.{ends_of, AreWithin};
+ghost use Rattle.module_image.specs.Layout.{ends_of};
 ghost use Rattle.module_image.specs.Exports.{exports as exports_lem};
 ghost use Rattle.module_image.specs.Binding.{bind, is_unbound as is_unbound_lem, unbound};
 ghost use Rattle.module_image.specs.Image.{image, joined, meaning_by, meanings_from, laid_both, patched_of};
 ghost use Rattle.module_image.specs.Making.{IsMade, IsPatched, IsRefusal};
 
 use crate::bytes::{lay, relocate};
-use crate::exports::{collect_exports, copied};
+use crate::exports::collect_exports;
 use crate::layout::section_addresses;
 use crate::locating::locate;
 use crate::segments::{Ends, Places, SegmentKind};
@@ -103,7 +103,7 @@ fn unbound_names(alloc: Global, syms: &Symbols, symbols: &[Sym]) -> Result<NameL
     let mut list = Vec::new(alloc);
     for y in symbols {
         if is_unbound(syms, y) {
-            list.push(copied(alloc, &y.name)?)?;
+            list.push(y.name.copied(alloc)?)?;
         }
     }
     Ok(Items::from_vec(list))

@@ -5,7 +5,7 @@ use Rattle.std.specs.Prelude.{OnOk, OnErr, IsSome}
 use Rattle.std.proofs.lemmas.List.Elements.{All-cons, All-head, All-tail, All-push}
 use Rattle.std.proofs.lemmas.Bool.{and_parts, and_from, and_left, eqb-true, eq-eqb, ne_eqb, cases_eq}
 use Rattle.std.specs.Option.{option_map}
-use Rattle.wind_lists.specs.Records.{of_id}
+use Rattle.id_table.specs.Records.{of_id}
 use Rattle.id_table.specs.Rows.{row_id, row_object, object_of, without, IdsBelow}
 use Rattle.wind_base.specs.declared.board_kind.Side.{Side}
 use Rattle.mem_partition.specs.declared.block.Block.{Block}

@@ -6,7 +6,7 @@ use Rattle.std.proofs.lemmas.List.Elements.{All-cons, All-head, All-tail}
 use Rattle.wind_core.specs.State.{KernState}
 use Rattle.std.specs.Option.{option_map}
 use Rattle.std.proofs.lemmas.Bool.{ne_eqb}
-use Rattle.wind_lists.specs.Records.{of_id}
+use Rattle.id_table.specs.Records.{of_id}
 use Rattle.id_table.specs.Rows.{row_id, row_object, object_of, without}
 use Rattle.module_loader.specs.declared.module.LoadedModule.{LoadedModule}
 use Rattle.module_loader.specs.Modules.{HasIdent}

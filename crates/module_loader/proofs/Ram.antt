@@ -87,10 +87,6 @@ held_apart ram p q fits (inr (inr (inr after))) held k h = byte_after ram q (p.0
 abbrev pub Has : List Block → Piece → Type 0
 Has = IsHeldBy
 
-Apart-sym : (a b : Block) → Apart a b → Apart b a
-Apart-sym a b (inl h) = inr h
-Apart-sym a b (inr h) = inl h
-
 Has-more : (b : Block) (blocks : List Block) (p : Piece) → Has blocks p → Has (b ∷ blocks) p
 Has-more b blocks p (inl h) = inl h
 Has-more b blocks p (inr (c, among, covers)) = inr (c, inr among, covers)

@@ -1,7 +1,7 @@
 //! The live modules.
 
 ghost use Rattle.std.specs.Prelude.{◌≡◌, ◌↔◌, ℕ, List, [], false, IfOk, IfErr, OnOk, OnErr, IsOk, IsSome, Some, option_copied, All};
-ghost use Rattle.wind_lists.specs.Records.{Rising};
+ghost use Rattle.id_table.specs.Records.{Rising};
 ghost use Rattle.id_table.specs.Rows.{object_of, next_above, row_id, without, removed};
 ghost use Rattle.symbol_table.specs.State.{without_group};
 ghost use Rattle.elf_read.specs.{Contents.{ModuleOf, module_at}, Outline.outline_of, Modules.IsModule};

@@ -1,5 +1,5 @@
 -- The kernel's moves begin no wait at a queue.
-use Rattle.std.proofs.Common.{◌≡◌, ℕ, ◌+◌, ◌≤◌, Bool, true, false, not, cond, eqb, List, [], ◌∷◌, Option, None, Some, refl, sym, ◌∙◌, subst, arith, ◌⊎◌, inl, inr, ⊎_elim}
+use Rattle.std.proofs.Common.{◌≡◌, ℕ, ◌+◌, ◌≤◌, Bool, true, false, not, cond, eqb, List, [], ◌∷◌, Option, None, Some, refl, sym, ap, ◌∙◌, subst, arith, ◌⊎◌, inl, inr, ⊎_elim}
 use Rattle.std.specs.List.{All}
 use Rattle.std.proofs.lemmas.List.Elements.{All-contains, All-filter, All-push}
 use Rattle.std.proofs.lemmas.Option.{same_Some}
@@ -9,11 +9,11 @@ use Rattle.id_table.specs.declared.ident.Place.{Place}
 use Rattle.task_block.specs.declared.task.Task.{Task}
 use Rattle.wind_core.specs.State.{KernState, IsKern, task_of}
 use Rattle.wind_core.specs.Orders.{waiters}
-use Rattle.wind_core.specs.Moves.{renewed, new_task, remove, wake_at, pended, pend, delayed, delay, released, release, answered, end_wait, end_waits, wake_all, suspended, is_suspended, resumed, resume, unmarked, reset, with_pri, has_pri, change_pri, move_task, change_task, renew_task, past_gate, with_answer, with_refusal, unreserved}
+use Rattle.wind_core.specs.Moves.{renewed, new_task, remove, wake_at, pended, pend, delayed, delay, released, release, answered, end_wait, end_waits, wake_all, suspended, is_suspended, resumed, resume, unmarked, reset, with_pri, has_pri, change_pri, move_task, change_task, renew_task, with_change}
 use Rattle.wind_core.specs.Releases.{releases}
 use Rattle.wind_core.specs.Tick.{tick}
-use Rattle.wind_core.specs.Move.{Spawn, Remove, Pend, Delay, Release, ReleaseAll, EndWait, WakeAll, Tick, Suspend, Resume, ChangePri, Reset, SetLocks, SetNormal, SetSafe, SetHeld, SetErrno, SetIntLocked, SetAgain, SetRegs, Unreserve, LeaveGate, Answer, Refuse, SetLast, SetSlice, DrawIds, Lend, apply}
-use Rattle.wind_core.specs.Move.{after as after_moves}
+use Rattle.wind_core.specs.Move.{Spawn, Remove, Pend, Delay, Release, ReleaseAll, EndWait, WakeAll, Tick, Suspend, Resume, ChangePri, Reset, Set, SetRegs, SetLast, SetSlice, DrawIds, Lend, apply, after as after_moves}
+use Rattle.wind_core.proofs.Mending.{change_stays}
 use Rattle.wind_core.proofs.Stable as stable
 use Rattle.wind_core.proofs.Moving.{move_keeps}
 use Rattle.wind_core.proofs.Ticking.{tick_keeps}
@@ -155,18 +155,10 @@ calms rs k (ChangePri who pri) is may spares =
 calms rs k (Reset who) is may spares =
     calm_at rs k (reset k who) (move_keeps k (Reset who) is may) refl (still-renew rs k k.next_id k who unmarked (λ t p. p) (at_first rs k k.next_id))
 calms rs k (Suspend who) is may spares = calm_set rs k who suspended (λ t. refl) (λ t. refl) (move_keeps k (Suspend who) is may)
-calms rs k (SetLocks who n) is may spares = calm_set rs k who (λ t. record t { locks = n }) (λ t. refl) (λ t. refl) (move_keeps k (SetLocks who n) is may)
-calms rs k (SetNormal who pri) is may spares = calm_set rs k who (λ t. record t { normal = pri }) (λ t. refl) (λ t. refl) (move_keeps k (SetNormal who pri) is may)
-calms rs k (SetSafe who n) is may spares = calm_set rs k who (λ t. record t { safe = n }) (λ t. refl) (λ t. refl) (move_keeps k (SetSafe who n) is may)
-calms rs k (SetHeld who n) is may spares = calm_set rs k who (λ t. record t { held = n }) (λ t. refl) (λ t. refl) (move_keeps k (SetHeld who n) is may)
-calms rs k (SetErrno who n) is may spares = calm_set rs k who (λ t. record t { errno = n }) (λ t. refl) (λ t. refl) (move_keeps k (SetErrno who n) is may)
-calms rs k (SetIntLocked who on) is may spares = calm_set rs k who (λ t. record t { int_locked = on }) (λ t. refl) (λ t. refl) (move_keeps k (SetIntLocked who on) is may)
-calms rs k (SetAgain who on) is may spares = calm_set rs k who (λ t. record t { again = on }) (λ t. refl) (λ t. refl) (move_keeps k (SetAgain who on) is may)
 calms rs k (SetRegs who regs) is may spares = calm_set rs k who (λ t. record t { regs = regs }) (λ t. refl) (λ t. refl) (move_keeps k (SetRegs who regs) is may)
-calms rs k (Unreserve who) is may spares = calm_set rs k who unreserved (λ t. refl) (λ t. refl) (move_keeps k (Unreserve who) is may)
-calms rs k (LeaveGate who) is may spares = calm_set rs k who past_gate (λ t. refl) (λ t. refl) (move_keeps k (LeaveGate who) is may)
-calms rs k (Answer who value) is may spares = calm_set rs k who (with_answer value) (λ t. refl) (λ t. refl) (move_keeps k (Answer who value) is may)
-calms rs k (Refuse who e) is may spares = calm_set rs k who (with_refusal e) (λ t. refl) (λ t. refl) (move_keeps k (Refuse who e) is may)
+calms rs k (Set who change) is may spares =
+    let stays = change_stays change in
+    calm_set rs k who (with_change change) (λ t. ap (λ s. s.0) (stays t)) (λ t. ap (λ s. s.3) (stays t)) (move_keeps k (Set who change) is may)
 calms rs k (SetLast last) is may spares = calm_at rs k (record k { last = last }) (move_keeps k (SetLast last) is may) refl (at_first rs k k.next_id)
 calms rs k (SetSlice n) is may spares = calm_at rs k (record k { slice = n }) (move_keeps k (SetSlice n) is may) refl (at_first rs k k.next_id)
 calms rs k (DrawIds next) is may spares = record { kern = move_keeps k (DrawIds next) is may; ids = may.0; waits = at_first rs k next }

@@ -1,5 +1,5 @@
 -- What each call adds to the kernel's counters.
-use Rattle.std.proofs.Common.{◌≡◌, ℕ, ◌+◌, List, [], ◌∷◌, length, Option, None, Some, Result, Ok, Err, IfOk, IfErr, refl, sym, ap, ◌∙◌, subst, arith}
+use Rattle.std.proofs.Common.{◌≡◌, ℕ, ◌+◌, List, [], ◌∷◌, length, Option, None, Some, refl, ◌∙◌, arith}
 use Rattle.wind_base.specs.declared.errno.Errno.{Errno}
 use Rattle.wind_base.specs.declared.errno.Errno.TheVariants as errors
 use Rattle.id_table.specs.declared.ident.Place.{Place}
@@ -10,11 +10,10 @@ use Rattle.wind_core.specs.Moves.{answered, move_found, move_task, end_wait, end
 use Rattle.wind_core.proofs.Waking.{since-end_wait, length-waiters}
 use Rattle.wind_core.proofs.Keeping.{end_waits_keep}
 use Rattle.msg_queue.specs.declared.asks.Ask.{Ask}
-use Rattle.msg_queue.specs.declared.words.MakeErr.{MakeErr}
-use Rattle.msg_queue.specs.State.{QueueState, QueuesState, Scene, queue_of, receivers, senders, first_asking}
+use Rattle.msg_queue.specs.State.{QueueState, Scene, queue_of, receivers, senders, first_asking}
 use Rattle.msg_queue.specs.Sends.{declined, passed_on, queued, blocked, send_deed, after_send}
 use Rattle.msg_queue.specs.Receives.{denied, taken, starved, receive_deed, taken_out, refilled, after_receive}
-use Rattle.msg_queue.specs.Comings.{IsMade, IsNotMade, awakened, deleted}
+use Rattle.msg_queue.specs.Comings.{awakened, deleted}
 use Rattle.msg_queue.specs.Laws.{CountsOn, CountLaw}
 
 counts_itself : (k : KernState) (n : ℕ) → CountsOn n k k
@@ -73,11 +72,3 @@ counts = record {
   creating = λ s q. record { tick = refl; lent = refl; sinces = omega arith };
   deleting = λ s id is. counts_deleted s id (queue_of s id) is;
 }
-
--- a call that makes a queue, or changes nothing
-pub made_counts : (k l : KernState) (qs us : QueuesState) (max_msgs max_len options : ℕ) (r : Result ℕ MakeErr)
-    → IfOk r (IsMade k l qs us max_msgs max_len options) → IfErr r (IsNotMade k l qs us max_msgs max_len options)
-    → CountsOn 0 k l
-made_counts k l qs us max_msgs max_len options (Ok id) ok err =
-    subst (CountsOn 0 k) (sym (ap (λ (s : Scene). s.kern) (ok.2 []))) (record { tick = refl; lent = refl; sinces = omega arith })
-made_counts k l qs us max_msgs max_len options (Err e) ok err = subst (CountsOn 0 k) (sym err.0) (counts_itself k 0)

@@ -10,8 +10,8 @@ use Rattle.wind_base.specs.declared.errno.Errno.TheVariants as errors
 use Rattle.id_table.specs.Rows.{object_of, without, ids, IdsBelow}
 use Rattle.id_table.specs.declared.ident.Place.{Place}
 use Rattle.task_block.specs.declared.task.Task.{Task}
-use Rattle.wind_lists.specs.Sorting.{first}
-use Rattle.wind_lists.proofs.Passing.{none_passes}
+use Rattle.id_table.specs.Sorting.{first}
+use Rattle.id_table.proofs.Passing.{none_passes}
 use Rattle.wind_core.specs.State.{KernState, IsKern, task_id}
 use Rattle.wind_core.specs.Orders.{waits_before, waits_at, waiters}
 use Rattle.wind_core.specs.Moves.{wake_all}

@@ -7,8 +7,8 @@ use Rattle.std.proofs.lemmas.List.Elements.{All-contains, All-cons, All-push}
 use Rattle.id_table.specs.declared.ident.Place.{Place}
 use Rattle.board_mem.specs.Memory.{with_bytes, bytes_at}
 use Rattle.task_block.specs.declared.task.Task.{Task}
-use Rattle.wind_lists.proofs.Passing.{none_passes, front_found, front_passes}
-use Rattle.wind_lists.proofs.Records.{found_at}
+use Rattle.id_table.proofs.Passing.{none_passes, front_found, front_passes}
+use Rattle.id_table.proofs.Records.{found_at}
 use Rattle.wind_core.specs.State.{KernState, IsKern, task_id}
 use Rattle.wind_core.specs.Orders.{waits_before, waits_at, first_waiter}
 use Rattle.wind_core.specs.Moves.{end_wait}

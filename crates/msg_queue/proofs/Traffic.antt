@@ -11,8 +11,8 @@ use Rattle.id_table.specs.Rows.{object_of, without}
 use Rattle.id_table.specs.Sides.{object_side, senders_side}
 use Rattle.id_table.specs.declared.ident.Place.{Place}
 use Rattle.task_block.specs.declared.task.Task.{Task}
-use Rattle.wind_lists.proofs.Passing.{front_found, front_passes}
-use Rattle.wind_lists.proofs.Records.{found_at, found_in}
+use Rattle.id_table.proofs.Passing.{front_found, front_passes}
+use Rattle.id_table.proofs.Records.{found_at, found_in}
 use Rattle.wind_core.specs.State.{IsKern, Lives, task_id}
 use Rattle.wind_core.specs.Orders.{waits_before, waits_at, is_place, first_waiter}
 use Rattle.wind_core.specs.Moves.{answered}
@@ -37,8 +37,6 @@ abbrev pub stock : Scene → Stock
 stock s = record { queues = s.queues.queues; next_id = s.kern.next_id }
 
 -- ---- which queue
-of_other : {X : Type 0} (id q : ℕ) (ms : List X) → eqb id q ≡ false → of_queue id q ms ≡ []
-of_other id q ms e = ap (λ b. cond b ms []) e
 
 pub of_none : {X : Type 0} (id q : ℕ) → of_queue {X = X} id q [] ≡ []
 of_none {X} id q = elim (eqb id q) as (λ b. ◌≡◌ {A = List X} (cond b [] []) []) [ true ↦ refl | false ↦ refl ]

@@ -11,7 +11,7 @@ use Rattle.id_table.specs.Sides.{object_side, senders_side}
 use Rattle.id_table.specs.declared.ident.Place.{Place}
 use Rattle.task_block.specs.declared.task.Task.{Task}
 use Rattle.task_block.specs.Standing.{is_ready}
-use Rattle.wind_lists.proofs.Records.{found_in}
+use Rattle.id_table.proofs.Records.{found_in}
 use Rattle.wind_core.specs.State.{KernState, IsKern, task_id, task_of}
 use Rattle.wind_core.specs.Orders.{is_place}
 use Rattle.wind_core.specs.Moves.{renewed, wake_at, pended, pend}

@@ -5,8 +5,7 @@ use Rattle.std.specs.List.Sorted.{IsPermutation}
 use Rattle.wind_base.specs.Limits.{most_tasks}
 use Rattle.id_table.specs.Rows.{object_of, IdsBelow}
 use Rattle.wind_core.specs.State.{KernState, IsKern}
-use Rattle.wind_core.specs.Move.{Move, Pend, apply, EachMove}
-use Rattle.wind_core.specs.Move.{IsAllowed as MayMove, after as after_moves}
+use Rattle.wind_core.specs.Move.{Move, Pend, apply, EachMove, IsAllowed as MayMove, after as after_moves}
 use Rattle.msg_queue.specs.declared.words.Sending.{Sending}
 use Rattle.msg_queue.specs.declared.words.Receiving.{Receiving}
 use Rattle.msg_queue.specs.State.{QueueState, Scene, scene, queue_of}

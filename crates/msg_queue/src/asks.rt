@@ -1,6 +1,6 @@
 //! The requests of waiting calls.
 
-ghost use Rattle.std.specs.Prelude.{◌≡◌, ◌==◌, ◌<◌, ◌≤◌, length, vec_capacity, option_copied};
+ghost use Rattle.std.specs.Prelude.{◌≡◌, ◌==◌, ◌<◌, length, vec_capacity, option_copied};
 ghost use Rattle.std.specs.List.{filter};
 ghost use Rattle.msg_queue.specs.State.{ask_of, counts as counts_lem, with_new_ask};
 

@@ -1,6 +1,6 @@
 //! What a call will do.
 
-ghost use Rattle.std.specs.Prelude.{◌≡◌, length, Option, Some, option_copied};
+ghost use Rattle.std.specs.Prelude.{◌≡◌, length, Option, Some};
 ghost use Rattle.msg_queue.specs.Sends.{send_refusal as send_refusal_lem, sends_at, queued_or_blocked as queued_or_blocked_lem, send_ask as send_ask_lem};
 ghost use Rattle.msg_queue.specs.Receives.{receive_refusal as receive_refusal_lem, receives_at, receive_ask as receive_ask_lem};
 ghost use Rattle.msg_queue.specs.Inside.{send_plan, receive_plan};

@@ -1,10 +1,10 @@
 //! One message queue.
 
-ghost use Rattle.std.specs.Prelude.{◌≡◌, ◌<◌, ◌≤◌, ◌^◌, [], length, drop, IfOk, IsTrue, vec_capacity, option_copied, ◌==◌, false, Some, None, if◌then◌else◌, ◌∷◌, ◌++◌};
+ghost use Rattle.std.specs.Prelude.{◌≡◌, ◌<◌, ◌≤◌, [], length, drop, IfOk, IsTrue, vec_capacity, option_copied, ◌==◌, false, Some, None, if◌then◌else◌, ◌∷◌, ◌++◌};
 ghost use Rattle.std.specs.List.{All};
 ghost use Rattle.std.specs.VecDeque.{deque_len, deque_capacity};
 ghost use Rattle.board_mem.specs.Memory.{has, bytes_at};
-ghost use Rattle.wind_lists.specs.Sorting.{first};
+ghost use Rattle.id_table.specs.Sorting.{first};
 ghost use Rattle.msg_queue.specs.State.{is_full as is_full_lem, added};
 
 use crate::message::Message;

@@ -1,6 +1,6 @@
 //! The message queues.
 
-ghost use Rattle.std.specs.Prelude.{◌≡◌, IfOk, IsSome, MatchOption, Some, None, [], is_some};
+ghost use Rattle.std.specs.Prelude.{◌≡◌, IfOk, IsSome, MatchOption, Some, None, []};
 ghost use Rattle.id_table.specs.Rows.{object_of};
 ghost use Rattle.wind_core.specs.Orders.{first_waiter};
 ghost use Rattle.msg_queue.specs.State.{asked_by};

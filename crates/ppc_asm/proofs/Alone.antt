@@ -11,7 +11,7 @@ use Rattle.ppc_text.specs.Shown.{text_of}
 use Rattle.ppc_text.specs.Laws.{line_with}
 use Rattle.ppc_text.proofs.Again.{parsed}
 use Rattle.ppc_text.proofs.Unbroken.{unbroken}
-use Rattle.text_lines.specs.Lines.{onto_first, pieces}
+use Rattle.source_text.specs.Lines.{onto_first, pieces}
 use Rattle.asm_lines.specs.declared.error.Cause.{Cause}
 use Rattle.asm_lines.specs.declared.error.Cause.TheVariants.{BadWord, TooLarge}
 use Rattle.asm_lines.specs.Items.{Placed, next, section_at, item_bytes, section_bytes}

@@ -58,8 +58,6 @@ prefix_before old new a b q =
     prefix_of old new (take q.0 a) (drop q.0 a ++ b) (a ++ b) (sym (append_assoc (take q.0 a) (drop q.0 a) b) ∙ ap (λ t. t ++ b) (take-append-drop q.0 a)) q.1
 
 -- ---- lines
-pub puts_none : (old : Option (List ℕ)) (n : ℕ) → PutsLines [] Done old old n n
-puts_none old n = record { done = λ e. appended_none old; part = (0, appended_none old); failed = λ e. cc; never_falls = omega arith }
 
 pub puts_both : (old mid new : Option (List ℕ)) (k m n : ℕ) (a b : List ℕ) (end : Put) → PutsLines a Done old mid k m → PutsLines b end mid new m n → PutsLines (a ++ b) end old new k n
 puts_both old mid new k m n a b end p q = record {

@@ -12,7 +12,7 @@ use Rattle.ppc_text.specs.declared.line.Item.{Item}
 use Rattle.ppc_text.specs.declared.line.Item.TheVariants.{Nothing, Text, Data, Global, Long, Ascii, Space, Align, Instruction}
 use Rattle.ppc_text.specs.declared.line.Line.{Line}
 use Rattle.ppc_text.specs.Lines.{line_of}
-use Rattle.text_lines.specs.Lines.{pieces}
+use Rattle.source_text.specs.Lines.{pieces}
 use Rattle.asm_lines.specs.declared.error.Cause.{Cause}
 use Rattle.asm_lines.specs.declared.error.Cause.TheVariants.{Twice, TooLarge}
 use Rattle.asm_lines.specs.declared.section.Fix.{Fix}

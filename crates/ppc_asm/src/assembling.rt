@@ -1,6 +1,6 @@
 //! The module of a source text. Its constants are those of the ELF gABI.
 
-ghost use Rattle.std.specs.Prelude.{◌≡◌, ℕ, List, [], ◌∷◌, ◌++◌, ◌+◌, ◌<◌, ◌^◌, ◌≤◌, OnOk, IfOk, IfErr, Ok, length, map, filter, Bool, unwrap_or};
+ghost use Rattle.std.specs.Prelude.{◌≡◌, ℕ, List, [], ◌∷◌, ◌++◌, ◌+◌, ◌<◌, ◌^◌, ◌≤◌, OnOk, IfOk, IfErr, Ok, length, map, filter, unwrap_or};
 ghost use Rattle.std.specs.List.{All};
 ghost use Rattle.wind_base.specs.Limits.{longest_name};
 ghost use Rattle.elf_build.specs.Buildable.{Buildable};

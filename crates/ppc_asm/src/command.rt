@@ -1,6 +1,6 @@
 //! A call of the program: its arguments ask for a module or a listing.
 
-ghost use Rattle.std.specs.Prelude.{◌≡◌, ◌≤◌, ◌↔◌, map, Some, None, IfSome, IfOk, IfErr, bytes_eq, codes};
+ghost use Rattle.std.specs.Prelude.{◌≡◌, ◌↔◌, map, None, IfSome, IfOk, IfErr, bytes_eq, codes};
 ghost use Rattle.wind_outside.specs.Counts.{Rose};
 ghost use Rattle.ppc_asm.specs.declared.status.AsmStatus.TheVariants as ends;
 ghost use Rattle.ppc_asm.specs.Command.{Assembles, Lists, Unread, HasBytes, AssemblesFile, ListsFile, to_assemble, to_list, is_file as is_file_lem};

@@ -1,6 +1,5 @@
 //! The execution of one instruction.
 
-ghost use Rattle.std.specs.Prelude.{◌≡◌};
 ghost use Rattle.ppc_core.specs.Instructions.{trap_where, effect_of, exec_of};
 ghost use Rattle.ppc_core.specs.Outcomes.{Leaves};
 

@@ -1,6 +1,6 @@
 //! Masks and shifts (Book I, 3.3.12).
 
-ghost use Rattle.std.specs.Prelude.{◌≡◌, ◌<◌, ◌≤◌};
+ghost use Rattle.std.specs.Prelude.{◌≡◌, ◌<◌};
 ghost use Rattle.ppc_core.specs.Logic as logic;
 
 use crate::words::bits_of;

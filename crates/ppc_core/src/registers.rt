@@ -1,6 +1,6 @@
 //! The single registers (Book I, 2.3 and 3.2).
 
-ghost use Rattle.std.specs.Prelude.{◌≡◌, ◌<◌, ◌^◌};
+ghost use Rattle.std.specs.Prelude.{◌≡◌, ◌<◌};
 ghost use Rattle.ppc_core.specs.Fields.{rt, ra};
 ghost use Rattle.ppc_core.specs.Registers as register;
 

@@ -10,8 +10,8 @@ use Prim.Native.Char.{code}
 use Rattle.wind_base.specs.Limits.{greatest_word, longest_name}
 use Rattle.ppc_text.specs.declared.token.Token.{Token}
 use Rattle.ppc_text.specs.declared.token.Token.TheVariants as tokens
-use Rattle.source_literals.specs.Words.{is_blank, is_word_byte}
-use Rattle.source_literals.specs.Numbers.{value_within, number_in, number_of}
+use Rattle.source_text.specs.Words.{is_blank, is_word_byte}
+use Rattle.source_text.specs.Numbers.{value_within, number_in, number_of}
 use Rattle.ppc_text.specs.Tokens.{number_token, name_token, word_token, word_len, dot_first, name_len, plain_at, word_at, token_at, tokens_from}
 use Rattle.ppc_text.proofs.Lexing.{token_taken}
 

@@ -6,9 +6,9 @@ use Rattle.std.proofs.lemmas.List.Sums.{prefix_len-le-length}
 use Rattle.std.specs.Char.{is_ascii_digit}
 use Prim.Native.Char.{code}
 use Rattle.ppc_text.specs.declared.token.Token.{Token}
-use Rattle.source_literals.specs.Words.{is_word_byte}
-use Rattle.source_literals.specs.Strings.{string_at}
-use Rattle.source_literals.proofs.Within.{string_len, string_within}
+use Rattle.source_text.specs.Words.{is_word_byte}
+use Rattle.source_text.specs.Strings.{string_at}
+use Rattle.source_text.proofs.Within.{string_len, string_within}
 use Rattle.ppc_text.specs.Tokens.{word_len, dot_first, name_len, word_at, string_token, token_at}
 
 -- a token has at most n bytes after its first

@@ -3,7 +3,7 @@ use Rattle.std.proofs.Common.{◌≡◌, ℕ, zero, suc, ◌+◌, List, [], ◌�
 use Rattle.std.specs.Prelude.{if◌then◌else◌, ◌==◌}
 use Prim.Native.Char.{code}
 use Rattle.ppc_text.specs.declared.token.Token.{Token}
-use Rattle.source_literals.specs.Words.{is_blank}
+use Rattle.source_text.specs.Words.{is_blank}
 use Rattle.ppc_text.specs.Tokens.{word_token, word_len, plain_at, token_at, tokens_from}
 
 -- bytes that belong to the token before are skipped

@@ -28,9 +28,9 @@ use Rattle.ppc_text.specs.declared.line.Item.{Item}
 use Rattle.ppc_text.specs.declared.line.Item.TheVariants as items
 use Rattle.ppc_text.specs.declared.line.Line.{Line}
 use Rattle.ppc_text.specs.declared.mnemonic.Spelling.{Spelling}
-use Rattle.source_literals.specs.Words.{is_blank, is_word_byte}
-use Rattle.source_literals.specs.Numbers.{are_digits, value_within, number_in, number_of}
-use Rattle.source_literals.specs.Strings.{string_at}
+use Rattle.source_text.specs.Words.{is_blank, is_word_byte}
+use Rattle.source_text.specs.Numbers.{are_digits, value_within, number_in, number_of}
+use Rattle.source_text.specs.Strings.{string_at}
 use Rattle.ppc_text.specs.Tokens.{number_token, name_token, word_len, name_len, plain_at, word_at, half_of, half_token, string_token, mark_of, token_at, tokens_from, tokens_of}
 use Rattle.ppc_text.specs.Shapes.{parts_of}
 use Rattle.ppc_text.specs.Operands.{first_number, number_at, taken_away, addend_at, address_with, address_at, half_kind, first_half, with_half, with_address, half_operand, plain, by_number, residue, immediate_at, reach_of, target_kind, words_of, target_address, register_of, register_at, swapped, is_comma, is_open, is_close, mark_operand, part_at, with_value, later, finished, with_operand, operands_from, operands_at}

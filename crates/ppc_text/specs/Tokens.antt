@@ -8,9 +8,9 @@ use Rattle.ppc_text.specs.declared.token.Half.{Half}
 use Rattle.ppc_text.specs.declared.token.Half.TheVariants.{Low, High, HighAdjusted}
 use Rattle.ppc_text.specs.declared.token.Token.{Token}
 use Rattle.ppc_text.specs.declared.token.Token.TheVariants.{Number, Str, Name, Dotted, Part, Colon, Comma, Open, Close, Plus, Minus, Unknown}
-use Rattle.source_literals.specs.Words.{is_blank, is_word_byte}
-use Rattle.source_literals.specs.Numbers.{number_of}
-use Rattle.source_literals.specs.Strings.{string_at}
+use Rattle.source_text.specs.Words.{is_blank, is_word_byte}
+use Rattle.source_text.specs.Numbers.{number_of}
+use Rattle.source_text.specs.Strings.{string_at}
 
 -- the token of a number; Unknown if there is none
 abbrev pub number_token : Option ℕ → Token

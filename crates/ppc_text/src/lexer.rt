@@ -1,12 +1,11 @@
 //! The tokens of a line.
 
-ghost use Rattle.std.specs.Prelude.{◌≡◌, ◌≤◌, ◌+◌, ◌∷◌, IfOk, length, drop, take};
-ghost use Rattle.std.specs.List.{prefix_len};
-ghost use Rattle.source_literals.specs.Numbers.{number_of as number_of_lem};
+ghost use Rattle.std.specs.Prelude.{◌≡◌, ◌≤◌, ◌+◌, ◌∷◌, IfOk, length, take};
+ghost use Rattle.source_text.specs.Numbers.{number_of as number_of_lem};
 ghost use Rattle.ppc_text.specs.Tokens.{number_token as number_token_lem, name_token as name_token_lem, word_token as word_token_lem, word_len as word_len_lem, dot_first as dot_first_lem, plain_at, word_at, half_of as half_of_lem, half_token as half_token_lem, string_token as string_token_lem, mark_of, token_at, tokens_of};
 
 use crate::token::{Half, Token, Word};
-use source_literals::{Text, is_blank, is_word_byte, number_of, string, word_len};
+use source_text::{Text, is_blank, is_word_byte, number_of, string, word_len};
 use std::alloc::{AllocError, Global};
 use wind_base::bytes_after;
 use wind_base::limits::NAME_BYTES;

@@ -15,6 +15,6 @@ mod values;
 pub use line::{Instruction, Item, Line, parse};
 pub use making::insn_of;
 pub use showing::{show, shown_law};
-pub use source_literals::Text;
+pub use source_text::Text;
 pub use token::{Reference, Word};
 pub use values::{Value, Values};

@@ -1,7 +1,6 @@
 //! A line of source text: an optional label and an item.
 
-ghost use Rattle.std.specs.Prelude.{◌≡◌, ◌∷◌, ◌<◌, ◌^◌, IfOk, option_map};
-ghost use Rattle.ppc_text.specs.Tokens.{tokens_of};
+ghost use Rattle.std.specs.Prelude.{◌≡◌, ◌<◌, IfOk, option_map};
 ghost use Rattle.ppc_text.specs.Lines.{colon_first as colon_first_lem, name_first as name_first_lem, label_of as label_of_lem, label_tokens as label_tokens_lem, wrapped as wrapped_lem, address_value as address_value_lem, value_at as value_at_lem, values_of as values_of_lem, number_alone as number_alone_lem, name_alone as name_alone_lem, text_alone as text_alone_lem, is_alignment as is_alignment_lem, alignment_item as alignment_item_lem, instruction_of as instruction_of_lem, none_left, item_of as item_of_lem, item_at as item_at_lem, line_of as line_of_lem};
 
 use crate::lexer::tokens;
@@ -13,7 +12,7 @@ use crate::part::parts_of;
 use crate::token::{Reference, Token, Word};
 use crate::values::{Value, Values};
 use ppc_word::Row;
-use source_literals::Text;
+use source_text::Text;
 use std::alloc::{AllocError, Global};
 
 /// An instruction as a line writes it. Its word may be outside the processor's table; `insn_of` checks that.

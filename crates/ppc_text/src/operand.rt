@@ -1,6 +1,6 @@
 //! Operands, read from tokens. Relocation types are those of the PowerPC ABI supplement.
 
-ghost use Rattle.std.specs.Prelude.{◌≡◌, ◌<◌, ◌≤◌, ◌*◌, ◌^◌, ◌+◌, drop, length, slice_set, map, option_map};
+ghost use Rattle.std.specs.Prelude.{◌≡◌, ◌<◌, ◌≤◌, ◌*◌, ◌^◌, ◌+◌, drop};
 ghost use Rattle.ppc_text.specs.Operands.{first_number as first_number_lem, after_minus as after_minus_lem, number_at as number_at_lem, address_with as address_with_lem, taken_away as taken_away_lem, addend_at as addend_at_lem, first_half as first_half_lem, finished as finished_lem, operands_from as operands_from_lem, residue as residue_lem, address_at as address_at_lem, half_kind as half_kind_lem, with_half as with_half_lem, half_operand as half_operand_lem, plain as plain_lem, immediate_at as immediate_at_lem, number_operand as number_operand_lem, target_at as target_at_lem, register_of as register_of_lem, register_at as register_at_lem, special_at as special_at_lem, mark_operand as mark_operand_lem, is_comma as is_comma_lem, is_open as is_open_lem, is_close as is_close_lem, part_at as part_at_lem, with_field as with_field_lem, with_value as with_value_lem, later as later_lem, operands_at as operands_at_lem, reach_of as reach_of_lem, target_kind as target_kind_lem, words_of as words_of_lem, swapped as swapped_lem, target_address as target_address_lem};
 
 use crate::part::{Part, Reach};

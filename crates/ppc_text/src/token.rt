@@ -1,6 +1,6 @@
 //! The tokens of a line.
 
-use source_literals::Text;
+use source_text::Text;
 use std::marker::Model;
 
 /// A name: bytes of the source text.

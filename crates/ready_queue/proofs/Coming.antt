@@ -2,9 +2,9 @@
 use Rattle.std.proofs.Common.{◌≡◌, ℕ, Option, None, Some, ap}
 use Rattle.std.specs.Option.{option_map}
 use Rattle.std.proofs.lemmas.Option.{same_Some}
-use Rattle.wind_lists.specs.Sorting.{first}
-use Rattle.wind_lists.specs.Arrivals.{after_changes}
-use Rattle.wind_lists.proofs.Arrivals.{first_earliest}
+use Rattle.linked_lists.specs.IdTableSorting.{first}
+use Rattle.linked_lists.specs.IdTableArrivals.{after_changes}
+use Rattle.linked_lists.proofs.IdTableArrivals.{first_earliest}
 use Rattle.ready_queue.specs.Order.{task_id, task_pri}
 use Rattle.ready_queue.specs.Laws.{FirstLaw}
 

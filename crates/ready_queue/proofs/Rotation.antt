@@ -5,8 +5,8 @@ use Rattle.std.specs.Option.{option_map}
 use Rattle.std.proofs.lemmas.Bool.{cases_eq, le-leb, lt-leb}
 use Rattle.std.proofs.lemmas.List.{get_or-map, get_or-set_same, get_or-set_other, length-map, length-set, length-append, get_or-replicate, length-replicate}
 use Rattle.std.proofs.lemmas.List.Elements.{filter-append}
-use Rattle.wind_lists.specs.Records.{of_id, without}
-use Rattle.wind_lists.proofs.Places.{none_without, fewer_without, gone}
+use Rattle.linked_lists.specs.IdTableRecords.{of_id, without}
+use Rattle.linked_lists.proofs.IdTablePlaces.{none_without, fewer_without, gone}
 use Rattle.linked_lists.specs.Chains.{cell_key, all_cells, chain_at, first_key, put_before, value_in, value_of, IsOnlyIn}
 use Rattle.linked_lists.proofs.Naming.{cells_without}
 use Rattle.ready_queue.proofs.Bits.{word_empty}

@@ -1,6 +1,6 @@
 -- What follows from the order of ready tasks alone.
 use Rattle.std.specs.Prelude.{◌≡◌, ℕ, List, Some}
-use Rattle.wind_lists.specs.Arrivals.{ArrivalLaw, Change, IsEarliest, after_changes, arrivals}
+use Rattle.linked_lists.specs.IdTableArrivals.{ArrivalLaw, Change, IsEarliest, after_changes, arrivals}
 use Rattle.ready_queue.specs.Order.{task_id, task_pri, first_id}
 
 -- the ready tasks are always those that came and didn't go, by priority, and those of one priority in order of arrival

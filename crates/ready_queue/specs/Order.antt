@@ -1,9 +1,9 @@
 -- What a contract sees of ready tasks: their priorities and ids in order of urgency, and the greatest number of them.
 use Rattle.std.specs.Prelude.{ℕ, List, Option, None, Some}
 use Rattle.std.specs.Option.{option_map}
-use Rattle.wind_lists.specs.Records as records
-use Rattle.wind_lists.specs.Sorting.{first}
-use Rattle.wind_lists.specs.Arrivals.{put_after}
+use Rattle.linked_lists.specs.IdTableRecords as records
+use Rattle.linked_lists.specs.IdTableSorting.{first}
+use Rattle.linked_lists.specs.IdTableArrivals.{put_after}
 
 -- the tasks, each as its priority and id, and the room
 pub record Order : Type 0 where

@@ -1,8 +1,8 @@
 //! A bit map of the priorities that have a ready task.
 
-ghost use Rattle.std.specs.Prelude.{◌≡◌, ◌<◌, ℕ, MatchOption, if◌then◌else◌};
+ghost use Rattle.std.specs.Prelude.{◌≡◌, ◌<◌, ℕ, if◌then◌else◌};
 ghost use Rattle.std.specs.Int.{bit_at};
-ghost use Rattle.ready_queue.specs.Map.{priorities, marked, IsMarked, IsLowest, IsFirstMarked};
+ghost use Rattle.ready_queue.specs.Map.{priorities, IsMarked, IsLowest, IsFirstMarked};
 
 use wind_base::limits::LEAST_URGENT;
 

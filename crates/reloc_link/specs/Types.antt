@@ -1,5 +1,5 @@
 -- The types of relocation (System V ABI, PowerPC Processor Supplement, "Relocation Types") and the forms of their fields.
-use Rattle.std.specs.Prelude.{◌≡◌, ◌⊎◌, ℕ, Bool, true, false, ◌==◌, List, [], ◌∷◌, Option, None, Some}
+use Rattle.std.specs.Prelude.{◌≡◌, ◌⊎◌, ℕ, Bool, ◌==◌, List, [], ◌∷◌, Option, None, Some}
 use Rattle.std.specs.List.{find, list_any}
 use Rattle.reloc_link.specs.declared.kind.RelocType.{RelocType}
 use Rattle.reloc_link.specs.declared.kind.RelocType.TheVariants.{Nothing, Addr32, Addr24, Addr16, Addr16Lo, Addr16Hi, Addr16Ha, Addr14, Addr14BrTaken, Addr14BrNTaken, Rel24, Rel14, Rel14BrTaken, Rel14BrNTaken, Uaddr32, Uaddr16, Rel32}

@@ -1,6 +1,6 @@
 //! The content of one field.
 
-ghost use Rattle.std.specs.Prelude.{◌≡◌, ◌+◌, ◌<◌, ◌≤◌, ◌/◌, ◌%◌, ◌^◌, IfOk};
+ghost use Rattle.std.specs.Prelude.{◌≡◌, ◌+◌, ◌<◌, ◌/◌, ◌%◌, ◌^◌, IfOk};
 ghost use Rattle.reloc_link.specs.Types.{width_by, width_of, IsWidth};
 ghost use Rattle.reloc_link.specs.Formula.{sum_of, distance_of, value_of, lies_within, target, with_bits, hinted, put_by, field as field_lem};
 

@@ -10,7 +10,7 @@ use Rattle.wind_base.specs.declared.profile.Profile.{Profile}
 use Rattle.wind_base.specs.declared.profile.Profile.TheVariants.{One, Two}
 use Rattle.task_block.specs.declared.task.Task.{Task}
 use Rattle.wind_core.specs.State.{KernState, IsKern, Lives, task_id, task_of}
-use Rattle.wind_lists.proofs.Passing.{front_found}
+use Rattle.id_table.proofs.Passing.{front_found}
 use Rattle.wind_core.specs.Orders.{first_waiter, waiters, waits_at, waits_before}
 use Rattle.wind_core.specs.Moves.{set_held, set_normal, change_pri, renewed, pended, wake_at, end_wait, end_waits, wake_all}
 use Rattle.wind_core.proofs.Passes.{waits_before-order}
@@ -117,9 +117,6 @@ is_own ms n id owner caller e owned alike =
       here = m.1;
       own = sym (ap owner_in m.1) ∙ subst (λ j. owner_in (object_of ms j) ≡ Some owner) f.same (sym owned) ∙ ap Some (eqb-true owner caller (not-false (eqb owner caller) alike));
     }
-
-pub not_found : (ms : List (ℕ × Mutex)) (n : ℕ) → None ≡ live_mutex ms n → object_of ms n ≡ None
-not_found ms n e = elim (object_of ms n) as (λ o. None ≡ option_map (λ _. n) o → o ≡ None) [ None ↦ λ q. refl | Some m ↦ λ q. absurd (cc) ] e
 
 -- ---- take
 module _ (s : MutexState) (who id n : ℕ) (is : IsKern s.kern) (are : AreMutexes s.mutexes) (lives : Lives s.kern who) (kept : KeepsMutexes s) where

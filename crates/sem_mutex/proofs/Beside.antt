@@ -9,7 +9,7 @@ use Rattle.task_block.specs.declared.task.Task.{Task}
 use Rattle.task_block.specs.declared.task.NewTask.{NewTask}
 use Rattle.wind_core.specs.State.{KernState, task_of}
 use Rattle.wind_core.specs.Orders.{waiters}
-use Rattle.wind_core.specs.Moves.{move_task, new_task, spawn, remove, wake_at, pended, pend, delayed, delay, released, release, answered, end_wait, end_waits, wake_all, suspended, suspend, resumed, is_suspended, resume, unmarked, reset, set_locks, set_safe, set_errno, set_int_locked, set_again, set_regs, past_gate, leave_gate, with_answer, answer, with_refusal, refuse, unreserved, unreserve}
+use Rattle.wind_core.specs.Moves.{move_task, new_task, spawn, remove, wake_at, pended, pend, delayed, delay, released, release, answered, end_wait, end_waits, wake_all, suspended, suspend, resumed, is_suspended, resume, unmarked, reset, set_safe, set_regs}
 use Rattle.wind_core.specs.Releases.{releases, release_all}
 use Rattle.wind_core.specs.Tick.{tick}
 use Rattle.wind_core.proofs.Stable.{move_task-stable, tick-stable}
@@ -18,10 +18,6 @@ use Rattle.task_safety.specs.Safety.{deletion, safe_of, lessen}
 use Rattle.inheritance.specs.declared.mutex.Mutex.{Mutex}
 use Rattle.inheritance.specs.Reach.{mutex_at}
 use Rattle.sem_mutex.proofs.Following.{Same, Comes, Follows, alike, goes_on, comes_on, themselves, renews, by_change, by_renewal, by_move}
-
--- from a to b, and from b to c
-pub follows_on : (ms : List (ℕ × Mutex)) (k m n : KernState) → m.next_id ≡ k.next_id → All (Comes ms k) n.tasks → n.next_id ≡ m.next_id → Follows ms k n
-follows_on ms k m n e all f = record { next = omega (arith, e, f); tasks = all }
 
 module _ (ms : List (ℕ × Mutex)) where
   -- ---- several waits end
@@ -112,35 +108,11 @@ module _ (ms : List (ℕ × Mutex)) where
     pub follows-reset : (who : ℕ) → Follows ms k (reset k who)
     follows-reset who = by_renewal ms k who unmarked (λ t. alike ms k t (unmarked t) refl refl refl refl refl refl)
 
-    pub follows-set_locks : (who n : ℕ) → Follows ms k (set_locks k who n)
-    follows-set_locks who n = by_change ms k who (λ t. record t { locks = n }) (λ t. alike ms k t (record t { locks = n }) refl refl refl refl refl refl)
-
     pub follows-set_safe : (who n : ℕ) → Follows ms k (set_safe k who n)
     follows-set_safe who n = by_change ms k who (λ t. record t { safe = n }) (λ t. alike ms k t (record t { safe = n }) refl refl refl refl refl refl)
 
-    pub follows-set_errno : (who n : ℕ) → Follows ms k (set_errno k who n)
-    follows-set_errno who n = by_change ms k who (λ t. record t { errno = n }) (λ t. alike ms k t (record t { errno = n }) refl refl refl refl refl refl)
-
-    pub follows-set_int_locked : (who : ℕ) (on : Bool) → Follows ms k (set_int_locked k who on)
-    follows-set_int_locked who on = by_change ms k who (λ t. record t { int_locked = on }) (λ t. alike ms k t (record t { int_locked = on }) refl refl refl refl refl refl)
-
-    pub follows-set_again : (who : ℕ) (on : Bool) → Follows ms k (set_again k who on)
-    follows-set_again who on = by_change ms k who (λ t. record t { again = on }) (λ t. alike ms k t (record t { again = on }) refl refl refl refl refl refl)
-
     pub follows-set_regs : (who : ℕ) (regs : Regs) → Follows ms k (set_regs k who regs)
     follows-set_regs who regs = by_change ms k who (λ t. record t { regs = regs }) (λ t. alike ms k t (record t { regs = regs }) refl refl refl refl refl refl)
-
-    pub follows-leave_gate : (who : ℕ) → Follows ms k (leave_gate k who)
-    follows-leave_gate who = by_change ms k who past_gate (λ t. alike ms k t (past_gate t) refl refl refl refl refl refl)
-
-    pub follows-answer : (who value : ℕ) → Follows ms k (answer k who value)
-    follows-answer who value = by_change ms k who (with_answer value) (λ t. alike ms k t (with_answer value t) refl refl refl refl refl refl)
-
-    pub follows-refuse : (who : ℕ) (e : Errno) → Follows ms k (refuse k who e)
-    follows-refuse who e = by_change ms k who (with_refusal e) (λ t. alike ms k t (with_refusal e t) refl refl refl refl refl refl)
-
-    pub follows-unreserve : (who : ℕ) → Follows ms k (unreserve k who)
-    follows-unreserve who = by_change ms k who unreserved (λ t. alike ms k t (unreserved t) refl refl refl refl refl refl)
 
     -- ---- safe sections
     pub follows-lessen : (who n : ℕ) → Follows ms k (lessen k who n)

@@ -14,8 +14,8 @@ use Rattle.inheritance.specs.declared.mutex.Mutex.{Mutex}
 use Rattle.inheritance.specs.Mutexes.{is_id, holds, held_count, mutex_place}
 use Rattle.inheritance.specs.Reach.{mutex_at, owner_at}
 use Rattle.sem_mutex.proofs.Following.{mutex_at_has, lender_is}
-use Rattle.wind_lists.specs.Records.{Rising}
-use Rattle.wind_lists.proofs.Records.{rising_tail, rising_head}
+use Rattle.id_table.specs.Records.{Rising}
+use Rattle.id_table.proofs.Records.{rising_tail, rising_head}
 
 abbrev pub one : Bool → ℕ
 one b = cond b 1 0

@@ -12,13 +12,14 @@ use Rattle.id_table.specs.Rows.{object_of, with_object, row_id}
 use Rattle.wind_base.specs.declared.profile.Profile.{Profile}
 use Rattle.wind_base.specs.declared.profile.Profile.TheVariants.{One}
 use Rattle.task_block.specs.declared.task.Task.{Task}
-use Rattle.wind_lists.proofs.Records.{found_at, found_in}
-use Rattle.wind_lists.proofs.Passing.{contains_filter, front_passes, front_found, none_passes}
-use Rattle.wind_lists.proofs.Orders.{first_least}
+use Rattle.id_table.proofs.Records.{found_at, found_in}
+use Rattle.id_table.proofs.Passing.{contains_filter, front_passes, front_found, none_passes}
+use Rattle.id_table.proofs.Orders.{first_least}
 use Rattle.wind_core.specs.State.{KernState, IsKern, Lives, task_id, task_of}
 use Rattle.wind_core.specs.Orders.{is_less, is_place, waits_at, waits_before, wait_pri, first_waiter}
 use Rattle.wind_core.specs.Moves.{answered, end_wait, set_held}
-use Rattle.wind_core.specs.Move.{EndWait, SetSafe, SetHeld}
+use Rattle.wind_core.specs.Move.{EndWait, Set}
+use Rattle.wind_core.specs.declared.changes.Change.TheVariants as changes
 use Rattle.wind_core.proofs.Passes.{waits_before-order}
 use Rattle.wind_core.proofs.Moving.{move_keeps}
 use Rattle.wind_core.proofs.Ids.{ids, ids-change, ids-move, lives_by}
@@ -34,7 +35,7 @@ use Rattle.sem_mutex.proofs.Beside.{follows-end_wait}
 use Rattle.sem_mutex.proofs.Counting.{one, count_write, no_lender}
 use Rattle.sem_mutex.proofs.Owning.{holds_less, urgent_dropped}
 use Rattle.sem_mutex.proofs.Handing.{IsOwned, switch, waits_owned, urgent_switch, follows-eased, lives_below, plus, plus_above, holds_hand, urgent_hand, new_owner, found_row}
-use Rattle.wind_lists.specs.Records.{Rising}
+use Rattle.id_table.specs.Records.{Rising}
 
 -- ---- the first waiter is as urgent as the others
 -- a list of numbers that isn't before another doesn't begin with a lesser number
@@ -58,10 +59,10 @@ first_urgent k id x y e at waits fx fy =
 
 -- ---- the kernel's invariant
 pub kern_hand : (k : KernState) (who : ℕ) (m : Mutex) → IsKern k → IsKern (guarded (holding k who m) who m)
-kern_hand k who m is = guards (holding k who m) (elim m.inversion_safe as (λ b. IsKern (cond b (set_held k who (held_of (task_of k.tasks who) + 1)) k)) [ true ↦ move_keeps k (SetHeld who (held_of (task_of k.tasks who) + 1)) is tt | false ↦ is ])
+kern_hand k who m is = guards (holding k who m) (elim m.inversion_safe as (λ b. IsKern (cond b (set_held k who (held_of (task_of k.tasks who) + 1)) k)) [ true ↦ move_keeps k (Set who (changes.Held (held_of (task_of k.tasks who) + 1))) is tt | false ↦ is ])
   where
     guards : (r : KernState) → IsKern r → IsKern (guarded r who m)
-    guards r q = elim m.delete_safe as (λ b. IsKern (cond b (make_safe r who) r)) [ true ↦ move_keeps r (SetSafe who (safe_of (task_of r.tasks who) + 1)) q tt | false ↦ q ]
+    guards r q = elim m.delete_safe as (λ b. IsKern (cond b (make_safe r who) r)) [ true ↦ move_keeps r (Set who (changes.Safe (safe_of (task_of r.tasks who) + 1))) q tt | false ↦ q ]
 
 pub ids_hand : (k : KernState) (who : ℕ) (m : Mutex) → ids (guarded (holding k who m) who m).tasks ≡ ids k.tasks
 ids_hand k who m = guards (holding k who m) ∙ elim m.inversion_safe as (λ b. ids (cond b (set_held k who (held_of (task_of k.tasks who) + 1)) k).tasks ≡ ids k.tasks) [ true ↦ ids-change k.tasks who (λ t. record t { held = held_of (task_of k.tasks who) + 1 }) (λ t. refl) | false ↦ refl ]
@@ -189,10 +190,6 @@ let_go_keeps p count ns k who n m own is lives h urgent counted =
       holds = holds_follows ns j (eased j who m n) goes p (held_count ns) (λ i le. none_above ns j.next_id i less_holds.mutexes le) less_holds;
       urgent = λ first. urgent_follows ns j (eased j who m n) goes less_holds.mutexes (less_urgent first);
     }
-
-next_lends : (m : Mutex) (o : Option Task) → (next_owner m o).inversion_safe ≡ m.inversion_safe
-next_lends m None = refl
-next_lends m (Some x) = refl
 
 pub give_up_keeps : (s : MutexState) (who id : ℕ) (m : Mutex) → IsKern s.kern → Rising row_id s.mutexes → Lives s.kern who → object_of s.mutexes id ≡ Some m → m.owner ≡ Some who → KeepsMutexes s → KeepsMutexes (give_up s who id m)
 give_up_keeps s who id m is up lives e own kept =

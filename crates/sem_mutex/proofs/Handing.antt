@@ -11,7 +11,7 @@ use Rattle.id_table.specs.Rows.{object_of, with_object, row_id}
 use Rattle.wind_base.specs.declared.profile.Profile.{Profile}
 use Rattle.wind_base.specs.declared.profile.Profile.TheVariants.{One}
 use Rattle.task_block.specs.declared.task.Task.{Task}
-use Rattle.wind_lists.proofs.Records.{found_id}
+use Rattle.id_table.proofs.Records.{found_id}
 use Rattle.wind_core.specs.State.{KernState, IsKern, Lives, task_id, task_of}
 use Rattle.wind_core.specs.Orders.{is_place}
 use Rattle.wind_core.specs.Moves.{renewed, pended, wake_at, set_held}
@@ -27,7 +27,7 @@ use Rattle.sem_mutex.proofs.Following.{Follows, holds_follows, urgent_follows, n
 use Rattle.sem_mutex.proofs.Beside.{follows-set_safe, follows-lessen}
 use Rattle.sem_mutex.proofs.Counting.{one, mutex_at-write, mutex_at_place, count_write}
 use Rattle.sem_mutex.proofs.Owning.{From, Slack, SlackBut, urgent_slack, urgent_slack_but, live_task, holds_more}
-use Rattle.wind_lists.specs.Records.{Rising}
+use Rattle.id_table.specs.Records.{Rising}
 use Rattle.wind_core.proofs.Becoming.{All-change_at, found_all}
 
 -- ---- one mutex is overwritten
@@ -105,9 +105,6 @@ lives_below k who is lives =
 -- how many mutexes each task owns after mutex v goes to its owner
 abbrev pub plus : (ℕ → ℕ) → Mutex → ℕ → ℕ
 plus count v i = count i + one (holds i v)
-
-abbrev pub minus : (ℕ → ℕ) → Mutex → ℕ → ℕ
-minus count m i = count i - one (holds i m)
 
 pub plus_above : (count : ℕ → ℕ) (who : ℕ) (v : Mutex) (next : ℕ) → v.owner ≡ Some who → who < next → ((i : ℕ) → next ≤ i → count i ≡ 0) → (i : ℕ) → next ≤ i → plus count v i ≡ 0
 plus_above count who v next own below none i le =

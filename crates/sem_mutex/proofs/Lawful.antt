@@ -8,10 +8,10 @@ use Rattle.sem_mutex.specs.Calls.{delete, delete_refusal}
 use Rattle.sem_mutex.proofs.Ending.{delete_same, priority_keeps}
 use Rattle.sem_mutex.proofs.Making.{create_keeps}
 use Rattle.sem_mutex.specs.Laws.{SparesMutexes, BesideLaw, SafetyLaw, CallsLaw, Keeps, GoneLaw}
-use Rattle.sem_mutex.proofs.Following.{Follows, follows_keeps}
+use Rattle.sem_mutex.proofs.Following.{Follows, follows_keeps, alike, by_change}
 use Rattle.sem_mutex.proofs.Keeping.{take_keeps, give_same}
-use Rattle.sem_mutex.proofs.Beside.{follows-tick, follows-pend, follows-delay, follows-release, follows-release_all, follows-end_wait, follows-wake_all, follows-remove, follows-spawn, follows-ids, follows-last, follows-slice, follows-suspend, follows-resume, follows-reset, follows-set_locks, follows-set_safe, follows-set_errno, follows-set_int_locked, follows-set_again, follows-set_regs, follows-leave_gate, follows-answer, follows-refuse, follows-lessen, follows-lent, follows-unreserve}
-use Rattle.wind_lists.specs.Records.{Rising}
+use Rattle.sem_mutex.proofs.Beside.{follows-tick, follows-pend, follows-delay, follows-release, follows-release_all, follows-end_wait, follows-wake_all, follows-remove, follows-spawn, follows-ids, follows-last, follows-slice, follows-suspend, follows-resume, follows-reset, follows-set_regs, follows-lessen, follows-lent}
+use Rattle.id_table.specs.Records.{Rising}
 use Rattle.task_safety.specs.declared.deleting.Deed.{Deed}
 use Rattle.task_safety.specs.declared.deleting.Deed.TheVariants.{Refuses, EndsItself, Removes, Awaits}
 use Rattle.task_safety.specs.Deletion.{deed_of, asked, unguarded, awaiting, after}
@@ -19,30 +19,12 @@ use Rattle.task_safety.specs.Safety.{deletion, safe_of, lessen}
 use Rattle.task_safety.proofs.Targets.{Says, deed_says}
 use Rattle.wind_base.specs.Limits.{wait_forever}
 use Rattle.wind_core.specs.Orders.{waits_at}
-use Rattle.wind_core.specs.Moves.{remove, set_again}
-use Rattle.wind_core.specs.Move.{Move, Spawn, Remove, Pend, Delay, Release, ReleaseAll, EndWait, WakeAll, Tick, Suspend, Resume, ChangePri, Reset, SetLocks, SetNormal, SetSafe, SetHeld, SetErrno, SetIntLocked, SetAgain, SetRegs, Unreserve, LeaveGate, Answer, Refuse, SetLast, SetSlice, DrawIds, Lend, apply}
+use Rattle.wind_core.specs.Moves.{remove, set_again, with_change}
+use Rattle.wind_core.specs.Move.{Move, Spawn, Remove, Pend, Delay, Release, ReleaseAll, EndWait, WakeAll, Tick, Suspend, Resume, ChangePri, Reset, Set, SetRegs, SetLast, SetSlice, DrawIds, Lend, apply}
+use Rattle.wind_core.specs.declared.changes.Change.TheVariants as changes
 use Rattle.std.specs.List.{All}
 use Rattle.sem_mutex.proofs.Handing.{lives_below}
 use Rattle.sem_mutex.proofs.Steady.{nobody_left}
-
--- the deletion of a task, even one that owns mutexes
-task_deleted : (s : MutexState) (caller n : ℕ) (d : Deed) → IsKern s.kern → Says s.kern.tasks caller n d → KeepsMutexes s → Keeps s (after s.kern caller d)
-task_deleted s caller n (Refuses e) is said kept = follows_keeps s (asked s.kern caller) (follows-set_again s.mutexes s.kern caller false) kept
-task_deleted s caller n (EndsItself count) is said kept =
-    let ms = s.mutexes in
-    let k : KernState = asked s.kern caller in
-    let less : KernState = unguarded s.kern caller count in
-    let one : KeepsMutexes (record s { kern = k }) = follows_keeps s k (follows-set_again ms s.kern caller false) kept in
-    let two : KeepsMutexes (record s { kern = less }) = follows_keeps (record s { kern = k }) less (follows-lessen ms k caller count) one in
-    follows_keeps (record s { kern = less }) (remove less caller) (follows-remove ms less caller) two
-task_deleted s caller n (Removes who) is said kept =
-    let k : KernState = asked s.kern caller in
-    let one : KeepsMutexes (record s { kern = k }) = follows_keeps s k (follows-set_again s.mutexes s.kern caller false) kept in
-    follows_keeps (record s { kern = k }) (remove k who) (follows-remove s.mutexes k who) one
-task_deleted s caller n (Awaits who) is said kept =
-    let k : KernState = set_again s.kern caller true in
-    let one : KeepsMutexes (record s { kern = k }) = follows_keeps s k (follows-set_again s.mutexes s.kern caller true) kept in
-    follows_keeps (record s { kern = k }) (awaiting s.kern caller who) (follows-pend s.mutexes k caller (deletion who) false wait_forever refl (lives_below s.kern who is said.1)) one
 
 -- a move that leaves mutexes alone
 follows : (s : MutexState) (m : Move) → SparesMutexes s m → Follows s.mutexes s.kern (apply s.kern m)
@@ -59,18 +41,12 @@ follows s (Suspend who) spares = follows-suspend s.mutexes s.kern who
 follows s (Resume who) spares = follows-resume s.mutexes s.kern who
 follows s (ChangePri who pri) spares = absurd spares
 follows s (Reset who) spares = follows-reset s.mutexes s.kern who
-follows s (SetLocks who n) spares = follows-set_locks s.mutexes s.kern who n
-follows s (SetNormal who pri) spares = absurd spares
-follows s (SetSafe who n) spares = follows-set_safe s.mutexes s.kern who n
-follows s (SetHeld who n) spares = absurd spares
-follows s (SetErrno who n) spares = follows-set_errno s.mutexes s.kern who n
-follows s (SetIntLocked who on) spares = follows-set_int_locked s.mutexes s.kern who on
-follows s (SetAgain who on) spares = follows-set_again s.mutexes s.kern who on
+follows s (Set who (changes.Normal pri)) spares = absurd spares
+follows s (Set who (changes.Held n)) spares = absurd spares
 follows s (SetRegs who regs) spares = follows-set_regs s.mutexes s.kern who regs
-follows s (Unreserve who) spares = follows-unreserve s.mutexes s.kern who
-follows s (LeaveGate who) spares = follows-leave_gate s.mutexes s.kern who
-follows s (Answer who value) spares = follows-answer s.mutexes s.kern who value
-follows s (Refuse who e) spares = follows-refuse s.mutexes s.kern who e
+follows s (Set who change) spares =
+    by_change s.mutexes s.kern who (with_change change)
+    (λ t. alike s.mutexes s.kern t (with_change change t) refl refl refl refl refl refl)
 follows s (SetLast last) spares = follows-last s.mutexes s.kern last
 follows s (SetSlice n) spares = follows-slice s.mutexes s.kern n
 follows s (DrawIds next) spares = follows-ids s.mutexes s.kern next spares
@@ -79,9 +55,28 @@ follows s (Lend on) spares = follows-lent s.mutexes s.kern on
 pub beside_law : BesideLaw
 beside_law s m kept spares = follows_keeps s (apply s.kern m) (follows s m spares) kept
 
+-- the deletion of a task, even one that owns mutexes
+task_deleted : (s : MutexState) (caller n : ℕ) (d : Deed) → IsKern s.kern → Says s.kern.tasks caller n d → KeepsMutexes s → Keeps s (after s.kern caller d)
+task_deleted s caller n (Refuses e) is said kept = beside_law s (Set caller (changes.Again false)) kept tt
+task_deleted s caller n (EndsItself count) is said kept =
+    let ms = s.mutexes in
+    let k : KernState = asked s.kern caller in
+    let less : KernState = unguarded s.kern caller count in
+    let one : KeepsMutexes (record s { kern = k }) = beside_law s (Set caller (changes.Again false)) kept tt in
+    let two : KeepsMutexes (record s { kern = less }) = follows_keeps (record s { kern = k }) less (follows-lessen ms k caller count) one in
+    follows_keeps (record s { kern = less }) (remove less caller) (follows-remove ms less caller) two
+task_deleted s caller n (Removes who) is said kept =
+    let k : KernState = asked s.kern caller in
+    let one : KeepsMutexes (record s { kern = k }) = beside_law s (Set caller (changes.Again false)) kept tt in
+    follows_keeps (record s { kern = k }) (remove k who) (follows-remove s.mutexes k who) one
+task_deleted s caller n (Awaits who) is said kept =
+    let k : KernState = set_again s.kern caller true in
+    let one : KeepsMutexes (record s { kern = k }) = beside_law s (Set caller (changes.Again true)) kept tt in
+    follows_keeps (record s { kern = k }) (awaiting s.kern caller who) (follows-pend s.mutexes k caller (deletion who) false wait_forever refl (lives_below s.kern who is said.1)) one
+
 pub safety_law : SafetyLaw
 safety_law s kept = record {
-  guarding = λ who. beside_law s (SetSafe who (safe_of (task_of s.kern.tasks who) + 1)) kept tt;
+  guarding = λ who. beside_law s (Set who (changes.Safe (safe_of (task_of s.kern.tasks who) + 1))) kept tt;
   lessening = λ who n. follows_keeps s (lessen s.kern who n) (follows-lessen s.mutexes s.kern who n) kept;
   deleting = λ caller target is. task_deleted s caller target (deed_of s.kern.tasks caller target) is (deed_says s.kern.tasks caller target) kept;
 }

@@ -14,5 +14,5 @@ pub mod Opening
 pub mod Lawful
 pub mod Answering
 pub use Rattle.task_safety.proofs.Waiting as TaskSafetyWaiting
-pub use Rattle.inheritance.proofs.Same
-pub use Rattle.inheritance.proofs.Exact
+pub use Rattle.inheritance.proofs.Same as InheritanceSame
+pub use Rattle.inheritance.proofs.Exact as InheritanceExact

@@ -7,8 +7,8 @@ use Rattle.id_table.specs.Rows.{object_of}
 use Rattle.wind_base.specs.declared.profile.Profile.{Profile}
 use Rattle.wind_base.specs.declared.profile.Profile.TheVariants.{One, Two}
 use Rattle.task_block.specs.declared.task.Task.{Task}
-use Rattle.wind_lists.specs.Sorting.{first}
-use Rattle.wind_lists.proofs.Passing.{none_passes}
+use Rattle.id_table.specs.Sorting.{first}
+use Rattle.id_table.proofs.Passing.{none_passes}
 use Rattle.wind_core.specs.State.{KernState, IsKern, task_id, task_of}
 use Rattle.wind_core.specs.Orders.{waiters, first_waiter, waits_at, waits_before}
 use Rattle.wind_core.specs.Moves.{renewed, move_task, released, release, answered, wake_all, with_pri, has_pri, change_pri, set_held, set_safe, pended, wake_at}

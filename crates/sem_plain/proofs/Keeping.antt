@@ -2,7 +2,7 @@
 use Rattle.std.proofs.Common.{◌≡◌, ℕ, ◌+◌, ◌-◌, ◌<◌, ◌≤◌, true, false, ◌&&◌, not, cond, eqb, List, [], ◌∷◌, ◌++◌, get_or, Option, None, Some, IfSome, is_some, refl, sym, ap, ◌∙◌, subst, arith}
 use Rattle.std.specs.List.{All}
 use Rattle.std.specs.Option.{option_map}
-use Rattle.std.proofs.lemmas.Bool.{eqb-true, eqb-false, ne_eqb, and_parts, leb-true, le-leb}
+use Rattle.std.proofs.lemmas.Bool.{eqb-true, ne_eqb, and_parts, leb-true, le-leb}
 use Rattle.std.proofs.lemmas.List.Elements.{All-weaker, All-push, All-filter}
 use Rattle.wind_base.specs.declared.errno.Errno.{Errno}
 use Rattle.wind_base.specs.declared.errno.Errno.TheVariants as errors
@@ -13,17 +13,18 @@ use Rattle.id_table.specs.Rows.{IdsBelow, object_of, with_object, without}
 use Rattle.id_table.specs.declared.ident.Place.{Place}
 use Rattle.id_table.proofs.Lookups.{object_of-write, object_of-without, object_of-push, All-write, found_has, found_below}
 use Rattle.task_block.specs.declared.task.Task.{Task}
-use Rattle.wind_lists.proofs.Passing.{none_passes}
+use Rattle.id_table.proofs.Passing.{none_passes}
 use Rattle.wind_core.specs.State.{KernState, task_id}
 use Rattle.wind_core.specs.Orders.{same_place, is_place, waits_at, waits_before}
 use Rattle.wind_core.specs.Moves.{pend, end_wait, wake_all}
 use Rattle.wind_core.proofs.Passes.{waits_before-order}
 use Rattle.sem_plain.specs.declared.semaphore.Semaphore.{Semaphore}
 use Rattle.sem_plain.specs.State.{SemState, both, sem_place, may_hold}
-use Rattle.sem_plain.specs.Calls.{live, written, new_semaphore, create, counted_down, awaited, take_found, take, count_after_give, counted_up, next_of, handed, give_found, give}
+use Rattle.sem_plain.specs.Calls.{live, written, new_semaphore, create, declined, taken, starved, take_deed, counted_down, after_take, take, denied, passed_on, counted, give_deed, next_of, count_after_give, counted_up, after_give, give}
 use Rattle.sem_plain.specs.Kept.{IsCount, IsForEmpty, IsForMade, KeepsSemaphores, BeginsOnly}
 use Rattle.sem_plain.specs.Laws.{nowhere, MayBegin, BesideLaw, CallsLaw}
 use Rattle.sem_plain.proofs.Beginning.{all_old}
+use Rattle.sem_plain.proofs.Deeds.{TakeIs, take_is, GiveIs, give_is}
 use Rattle.sem_plain.proofs.Moving.{begins-pend, begins-end_wait, begins-wake_all}
 
 -- ---- the kernel's other moves
@@ -140,31 +141,25 @@ may_pend s id v p kept e zero here =
 
 take_keeps : (s : SemState) (who id n : ℕ) → KeepsSemaphores s → KeepsSemaphores (take s who id n)
 take_keeps s who id n kept =
-    elim (live s id) as (λ o. live s id ≡ o → KeepsSemaphores (take_found s who id n o)) [
-      | None ↦ λ e. kept
-      | Some v ↦ λ e.
-          elim (eqb v.count 0) as (λ b. eqb v.count 0 ≡ b → KeepsSemaphores (cond b (awaited s who id n v) (written s id (counted_down v)))) [
-            | true ↦ λ b.
-                beside s (same_place (sem_place id)) (pend s.kern who (sem_place id) (not (is_priority v.options)) n) kept
-                (begins-pend s.kern who (sem_place id) (not (is_priority v.options)) n) (λ p here. may_pend s id v p kept e (eqb-true v.count 0 b) here)
-            | false ↦ λ b.
-                write_keeps s id (counted_down v) kept (count_down_may v.kind v.count (found_has IsCount s.semaphores id v kept.counts e))
-                (λ i d within. nobody_waits s.semaphores id v (get_or s.kern.tasks i d).wait e (eqb-false v.count 0 b) (kept.empty i d within))
-          ] refl
-    ] refl
+    elim (take_deed n (live s id)) as (λ d. TakeIs s id n d → KeepsSemaphores (after_take s who id n d)) [
+      | declined e ↦ λ is. kept
+      | taken v ↦ λ is.
+          write_keeps s id (counted_down v) kept (count_down_may v.kind v.count (found_has IsCount s.semaphores id v kept.counts is.0))
+          (λ i d within. nobody_waits s.semaphores id v (get_or s.kern.tasks i d).wait is.0 is.1 (kept.empty i d within))
+      | starved v ↦ λ is.
+          beside s (same_place (sem_place id)) (pend s.kern who (sem_place id) (not (is_priority v.options)) n) kept
+          (begins-pend s.kern who (sem_place id) (not (is_priority v.options)) n) (λ p here. may_pend s id v p kept is.0 is.1 here)
+    ] (take_is s id n)
 
 give_keeps : (s : SemState) (id : ℕ) → KeepsSemaphores s → KeepsSemaphores (give s id)
 give_keeps s id kept =
-    elim (live s id) as (λ o. live s id ≡ o → KeepsSemaphores (give_found s id o)) [
-      | None ↦ λ e. kept
-      | Some v ↦ λ e.
-          elim (next_of s id) as (λ o. next_of s id ≡ o → KeepsSemaphores (handed s id v o)) [
-            | None ↦ λ none.
-                write_keeps s id (counted_up v) kept (count_up_may v.kind v.count (found_has IsCount s.semaphores id v kept.counts e))
-                (none_passes task_id waits_before waits_before-order (waits_at (sem_place id)) s.kern.tasks none)
-            | Some t ↦ λ some. calmly s (end_wait s.kern t.id 0 None) kept (begins-end_wait s.kern t.id 0 None)
-          ] refl
-    ] refl
+    elim (give_deed (next_of s id) (live s id)) as (λ d. GiveIs s id d → KeepsSemaphores (after_give s id d)) [
+      | denied e ↦ λ is. kept
+      | passed_on t ↦ λ is. calmly s (end_wait s.kern t.id 0 None) kept (begins-end_wait s.kern t.id 0 None)
+      | counted v ↦ λ is.
+          write_keeps s id (counted_up v) kept (count_up_may v.kind v.count (found_has IsCount s.semaphores id v kept.counts is.0))
+          (none_passes task_id waits_before waits_before-order (waits_at (sem_place id)) s.kern.tasks is.1)
+    ] (give_is s id)
 
 -- a wait isn't for more semaphores after one is removed
 empty_without : (ss : List (ℕ × Semaphore)) (id : ℕ) (w : Option Place) → IsForEmpty ss w → IsForEmpty (without ss id) w

@@ -1,5 +1,6 @@
 pub mod Beginning
 pub mod Moving
+pub mod Deeds
 pub mod Keeping
 pub mod Living
 pub mod Coding

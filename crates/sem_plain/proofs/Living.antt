@@ -10,9 +10,9 @@ use Rattle.id_table.specs.Rows.{object_of, with_object, without}
 use Rattle.id_table.specs.declared.ident.Place.{Place}
 use Rattle.id_table.proofs.Lookups.{object_of-write, object_of-without, object_of-push}
 use Rattle.task_block.specs.declared.task.Task.{Task}
-use Rattle.wind_lists.specs.Sorting.{first}
-use Rattle.wind_lists.proofs.Orders.{first_least}
-use Rattle.wind_lists.proofs.Passing.{contains_filter, front_passes, none_passes}
+use Rattle.id_table.specs.Sorting.{first}
+use Rattle.id_table.proofs.Orders.{first_least}
+use Rattle.id_table.proofs.Passing.{contains_filter, front_passes, none_passes}
 use Rattle.wind_core.specs.State.{KernState, IsKern, task_id}
 use Rattle.wind_core.specs.Orders.{same_place, is_place, waits_at, waits_before}
 use Rattle.wind_core.specs.Moves.{pend, end_wait, wake_all}
@@ -20,10 +20,11 @@ use Rattle.wind_core.proofs.Passes.{waits_before-order}
 use Rattle.wind_core.proofs.Lawful.{none_left}
 use Rattle.sem_plain.specs.declared.semaphore.Semaphore.{Semaphore}
 use Rattle.sem_plain.specs.State.{SemState, both, sem_place}
-use Rattle.sem_plain.specs.Calls.{live, written, new_semaphore, counted_down, awaited, take_found, take, counted_up, next_of, handed, give_found, give}
+use Rattle.sem_plain.specs.Calls.{live, new_semaphore, declined, taken, starved, take_deed, counted_down, after_take, take, denied, passed_on, counted, give_deed, counted_up, next_of, after_give, give}
 use Rattle.sem_plain.specs.Kept.{WaitsLive, live_with, BeginsOnly}
 use Rattle.sem_plain.specs.Laws.{nowhere, LiveBesideLaw, WaitsLiveIn, LiveCallsLaw, HandLaw, WokenLaw}
 use Rattle.sem_plain.proofs.Beginning.{all_old}
+use Rattle.sem_plain.proofs.Deeds.{TakeIs, take_is}
 use Rattle.sem_plain.proofs.Moving.{begins-pend, begins-end_wait, begins-wake_all}
 use Rattle.sem_plain.proofs.Keeping.{place_is}
 
@@ -71,26 +72,20 @@ module _ (others : Place → Bool) where
 
   take_lives : (s : SemState) (who id n : ℕ) → WaitsLiveIn others s → WaitsLiveIn others (take s who id n)
   take_lives s who id n all =
-      elim (live s id) as (λ o. live s id ≡ o → WaitsLiveIn others (take_found s who id n o)) [
-        | None ↦ λ e. all
-        | Some v ↦ λ e.
-            elim (eqb v.count 0) as (λ b. WaitsLiveIn others (cond b (awaited s who id n v) (written s id (counted_down v)))) [
-              | true ↦
-                  live_beside (live_with others s.semaphores) (same_place (sem_place id)) s.kern (pend s.kern who (sem_place id) (not (is_priority v.options)) n) all
-                  (begins-pend s.kern who (sem_place id) (not (is_priority v.options)) n) (λ p here. lives_there s id v p e here)
-              | false ↦ all_grow s.kern s.semaphores (with_object s.semaphores id (counted_down v)) (more_written s.semaphores id (counted_down v)) all
-            ]
-      ] refl
+      elim (take_deed n (live s id)) as (λ d. TakeIs s id n d → WaitsLiveIn others (after_take s who id n d)) [
+        | declined e ↦ λ is. all
+        | taken v ↦ λ is. all_grow s.kern s.semaphores (with_object s.semaphores id (counted_down v)) (more_written s.semaphores id (counted_down v)) all
+        | starved v ↦ λ is.
+            live_beside (live_with others s.semaphores) (same_place (sem_place id)) s.kern (pend s.kern who (sem_place id) (not (is_priority v.options)) n) all
+            (begins-pend s.kern who (sem_place id) (not (is_priority v.options)) n) (λ p here. lives_there s id v p is.0 here)
+      ] (take_is s id n)
 
   give_lives : (s : SemState) (id : ℕ) → WaitsLiveIn others s → WaitsLiveIn others (give s id)
   give_lives s id all =
-      elim (live s id) as (λ o. WaitsLiveIn others (give_found s id o)) [
-        | None ↦ all
-        | Some v ↦
-            elim (next_of s id) as (λ o. WaitsLiveIn others (handed s id v o)) [
-              | None ↦ all_grow s.kern s.semaphores (with_object s.semaphores id (counted_up v)) (more_written s.semaphores id (counted_up v)) all
-              | Some t ↦ live_calmly s (end_wait s.kern t.id 0 None) all (begins-end_wait s.kern t.id 0 None)
-            ]
+      elim (give_deed (next_of s id) (live s id)) as (λ d. WaitsLiveIn others (after_give s id d)) [
+        | denied e ↦ all
+        | passed_on t ↦ live_calmly s (end_wait s.kern t.id 0 None) all (begins-end_wait s.kern t.id 0 None)
+        | counted v ↦ all_grow s.kern s.semaphores (with_object s.semaphores id (counted_up v)) (more_written s.semaphores id (counted_up v)) all
       ]
 
   wake_lives : (s : SemState) (id answer : ℕ) (errno : Option Errno) → WaitsLiveIn others s → WaitsLiveIn others (both (wake_all s.kern (sem_place id) answer errno) s.semaphores)

@@ -1,5 +1,5 @@
 -- No move of the kernel begins a wait, except a pend.
-use Rattle.std.proofs.Common.{◌≡◌, ℕ, ◌+◌, Bool, true, false, not, cond, eqb, List, [], ◌∷◌, Option, Some, refl, ◌∙◌, arith, inr}
+use Rattle.std.proofs.Common.{◌≡◌, ℕ, ◌+◌, Bool, true, false, not, cond, eqb, List, [], ◌∷◌, Option, Some, refl, sym, ap, subst, arith, inr}
 use Rattle.std.proofs.lemmas.Bool.{eq-eqb, and_from}
 use Rattle.std.proofs.lemmas.List.Elements.{All-filter, All-push}
 use Rattle.wind_base.specs.declared.errno.Errno.{Errno}
@@ -8,13 +8,14 @@ use Rattle.task_block.specs.declared.task.Task.{Task}
 use Rattle.task_block.specs.declared.task.NewTask.{NewTask}
 use Rattle.wind_core.specs.State.{KernState, task_of}
 use Rattle.wind_core.specs.Orders.{same_place, waiters}
-use Rattle.wind_core.specs.Moves.{change_task, move_task, new_task, spawn, remove, wake_at, pended, pend, delayed, delay, released, release, answered, end_wait, end_waits, wake_all, suspended, resumed, is_suspended, resume, unmarked, with_pri, has_pri, change_pri, past_gate, with_answer, with_refusal, unreserved}
+use Rattle.wind_core.specs.Moves.{change_task, move_task, new_task, spawn, remove, wake_at, pended, pend, delayed, delay, released, release, answered, end_wait, end_waits, wake_all, suspended, resumed, is_suspended, resume, unmarked, with_pri, has_pri, change_pri, with_change}
 use Rattle.wind_core.specs.Releases.{releases}
 use Rattle.wind_core.specs.Tick.{tick}
-use Rattle.wind_core.specs.Move.{Spawn, Remove, Pend, Delay, Release, ReleaseAll, EndWait, WakeAll, Tick, Suspend, Resume, ChangePri, Reset, SetLocks, SetNormal, SetSafe, SetHeld, SetErrno, SetIntLocked, SetAgain, SetRegs, Unreserve, LeaveGate, Answer, Refuse, SetLast, SetSlice, DrawIds, Lend, apply, after}
+use Rattle.wind_core.specs.Move.{Spawn, Remove, Pend, Delay, Release, ReleaseAll, EndWait, WakeAll, Tick, Suspend, Resume, ChangePri, Reset, Set, SetRegs, SetLast, SetSlice, DrawIds, Lend, apply, after}
+use Rattle.wind_core.proofs.Mending.{change_stays}
 use Rattle.wind_core.proofs.Stable.{tick-stable}
 use Rattle.wind_core.proofs.NextId.{next-tick}
-use Rattle.sem_plain.specs.Kept.{BeginsOnly}
+use Rattle.sem_plain.specs.Kept.{IsOldOr, BeginsOnly}
 use Rattle.sem_plain.specs.Laws.{nowhere, begun_by, KernelLaw, SeriesLaw}
 use Rattle.sem_plain.proofs.Beginning.{IsOld, themselves, by_change, by_renewal, by_move, by_tasks, begins_more, then}
 
@@ -98,18 +99,8 @@ moves k (Resume who) more = begins-resume k who
 moves k (ChangePri who pri) more = begins-change_pri k who pri
 moves k (Reset who) more = by_renewal nowhere k who unmarked (λ t old. old)
 moves k (Suspend who) more = writes k who suspended (λ t old. old)
-moves k (SetLocks who n) more = writes k who (λ t. record t { locks = n }) (λ t old. old)
-moves k (SetNormal who pri) more = writes k who (λ t. record t { normal = pri }) (λ t old. old)
-moves k (SetSafe who n) more = writes k who (λ t. record t { safe = n }) (λ t old. old)
-moves k (SetHeld who n) more = writes k who (λ t. record t { held = n }) (λ t old. old)
-moves k (SetErrno who n) more = writes k who (λ t. record t { errno = n }) (λ t old. old)
-moves k (SetIntLocked who on) more = writes k who (λ t. record t { int_locked = on }) (λ t old. old)
-moves k (SetAgain who on) more = writes k who (λ t. record t { again = on }) (λ t old. old)
 moves k (SetRegs who regs) more = writes k who (λ t. record t { regs = regs }) (λ t old. old)
-moves k (Unreserve who) more = writes k who unreserved (λ t old. old)
-moves k (LeaveGate who) more = writes k who past_gate (λ t old. old)
-moves k (Answer who value) more = writes k who (with_answer value) (λ t old. old)
-moves k (Refuse who e) more = writes k who (with_refusal e) (λ t old. old)
+moves k (Set who change) more = writes k who (with_change change) (λ t old. subst (IsOldOr nowhere k.tasks) (sym (ap (λ s. s.3) (change_stays change t))) old)
 moves k (SetLast last) more = by_tasks nowhere k (record k { last = last }) (omega arith) (themselves nowhere k)
 moves k (SetSlice n) more = by_tasks nowhere k (record k { slice = n }) (omega arith) (themselves nowhere k)
 moves k (DrawIds next) more = by_tasks nowhere k (record k { next_id = next }) more (themselves nowhere k)

@@ -1,6 +1,6 @@
 -- What the calls on binary and counting semaphores return, and the state after them (VxWorks 5.4 Reference Manual, semLib).
-use Rattle.std.specs.Prelude.{◌==◌, ℕ, ◌+◌, ◌-◌, ◌&&◌, not, if◌then◌else◌, [], ◌∷◌, ◌++◌, length, Option, None, Some}
-use Rattle.wind_base.specs.Limits.{most_semaphores, greatest_word, error_word, ok_word, no_wait}
+use Rattle.std.specs.Prelude.{◌==◌, ℕ, ◌+◌, ◌-◌, not, if◌then◌else◌, [], ◌∷◌, ◌++◌, length, Option, None, Some}
+use Rattle.wind_base.specs.Limits.{most_semaphores, greatest_word, error_word, ok_word, no_wait, wait_forever}
 use Rattle.wind_base.specs.SemBits.{is_priority}
 use Rattle.wind_base.specs.declared.errno.Errno.{Errno}
 use Rattle.wind_base.specs.declared.errno.Errno.TheVariants as errors
@@ -41,42 +41,94 @@ create s v = record {
 }
 
 -- ---- take
--- the semaphore's count is one lower
-abbrev pub counted_down : Semaphore → Semaphore
-counted_down v = record v { count = v.count - 1 }
+-- what a take does
+pub data TakeDeed : Type 0 where
+  -- it is refused
+  declined : Errno → TakeDeed
+  -- it gets the semaphore
+  taken : Semaphore → TakeDeed
+  -- the caller waits for the semaphore
+  starved : Semaphore → TakeDeed
 
--- there is no such semaphore, or its count is 0 and the caller doesn't wait
-abbrev pub take_refused : ℕ → Option Semaphore → Option Errno
-take_refused n None = Some errors.ObjIdError
-take_refused n (Some v) = if v.count == 0 && n == no_wait then Some errors.ObjUnavailable else None
+-- what a take with this timeout does, given the live semaphore: if its count is 0, the caller waits or is refused
+abbrev pub take_deed : ℕ → Option Semaphore → TakeDeed
+take_deed n None = declined errors.ObjIdError
+take_deed n (Some v) =
+    if v.count == 0 then (if n == no_wait then declined errors.ObjUnavailable else starved v)
+    else taken v
+
+-- the error of a take that is refused
+abbrev pub take_error : TakeDeed → Option Errno
+take_error (declined e) = Some e
+take_error (taken v) = None
+take_error (starved v) = None
 
 -- why a take with this timeout is refused
 abbrev pub take_refusal : SemState → ℕ → ℕ → Option Errno
-take_refusal s id n = take_refused n (live s id)
+take_refusal s id n = take_error (take_deed n (live s id))
 
--- the caller waits if the count is 0
-abbrev pub took_of : Option Semaphore → Took
-took_of None = Pended
-took_of (Some v) = if v.count == 0 then Pended else Taken
+-- whether it gets the semaphore; otherwise the caller waits
+abbrev pub took_by : TakeDeed → Took
+took_by (declined e) = Pended
+took_by (taken v) = Taken
+took_by (starved v) = Pended
 
--- whether a take gets the semaphore or waits
+-- whether a take that may wait gets the semaphore or waits
 abbrev pub took : SemState → ℕ → Took
-took s id = took_of (live s id)
+took s id = took_by (take_deed wait_forever (live s id))
+
+-- the semaphore's count is one lower
+abbrev pub counted_down : Semaphore → Semaphore
+counted_down v = record v { count = v.count - 1 }
 
 -- the task begins to wait for it: by priority or in order of arrival, as its options say
 abbrev pub awaited : SemState → ℕ → ℕ → ℕ → Semaphore → SemState
 awaited s who id n v = record s { kern = pend s.kern who (sem_place id) (not (is_priority v.options)) n }
 
--- a take by this task with this timeout, given the live semaphore
-abbrev pub take_found : SemState → ℕ → ℕ → ℕ → Option Semaphore → SemState
-take_found s who id n None = s
-take_found s who id n (Some v) = if v.count == 0 then awaited s who id n v else written s id (counted_down v)
+-- the state after what a take by this task with this timeout does
+abbrev pub after_take : SemState → ℕ → ℕ → ℕ → TakeDeed → SemState
+after_take s who id n (declined e) = s
+after_take s who id n (taken v) = written s id (counted_down v)
+after_take s who id n (starved v) = awaited s who id n v
 
--- the state after this task's take with this timeout, which isn't refused
+-- the state after this task's take with this timeout
 abbrev pub take : SemState → ℕ → ℕ → ℕ → SemState
-take s who id n = take_found s who id n (live s id)
+take s who id n = after_take s who id n (take_deed n (live s id))
 
 -- ---- give
+-- what a give does
+pub data GiveDeed : Type 0 where
+  -- it is refused
+  denied : Errno → GiveDeed
+  -- the first waiting task gets the semaphore
+  passed_on : Task → GiveDeed
+  -- no task waits, and the count rises
+  counted : Semaphore → GiveDeed
+
+-- what a give does to a live semaphore, given the first waiting task: without one, the greatest count can't rise
+abbrev pub give_to : Semaphore → Option Task → GiveDeed
+give_to v (Some t) = passed_on t
+give_to v None = if v.count == greatest_word then denied errors.CountOver else counted v
+
+-- what a give does, given the first waiting task and the live semaphore
+abbrev pub give_deed : Option Task → Option Semaphore → GiveDeed
+give_deed next None = denied errors.ObjIdError
+give_deed next (Some v) = give_to v next
+
+-- the task that gets the semaphore next
+abbrev pub next_of : SemState → ℕ → Option Task
+next_of s id = first_waiter s.kern.tasks (sem_place id)
+
+-- the error of a give that is refused
+abbrev pub give_error : GiveDeed → Option Errno
+give_error (denied e) = Some e
+give_error (passed_on t) = None
+give_error (counted v) = None
+
+-- why a give is refused
+abbrev pub give_refusal : SemState → ℕ → Option Errno
+give_refusal s id = give_error (give_deed (next_of s id) (live s id))
+
 -- the count after a give: 1 for a binary semaphore, one more for a counting one
 abbrev pub count_after_give : SemKind → ℕ → ℕ
 count_after_give kinds.Binary n = 1
@@ -87,37 +139,15 @@ count_after_give kinds.Mutex n = n + 1
 abbrev pub counted_up : Semaphore → Semaphore
 counted_up v = record v { count = count_after_give v.kind v.count }
 
--- the task that gets the semaphore next
-abbrev pub next_of : SemState → ℕ → Option Task
-next_of s id = first_waiter s.kern.tasks (sem_place id)
+-- the state after what a give does: a task that gets the semaphore goes on with the result 0
+abbrev pub after_give : SemState → ℕ → GiveDeed → SemState
+after_give s id (denied e) = s
+after_give s id (passed_on t) = record s { kern = end_wait s.kern t.id ok_word None }
+after_give s id (counted v) = written s id (counted_up v)
 
--- the count is the greatest one, and no task waits
-abbrev pub over : Semaphore → Option Task → Option Errno
-over v None = if v.count == greatest_word then Some errors.CountOver else None
-over v (Some t) = None
-
--- why a give is refused, given the first waiting task and the live semaphore
-abbrev pub give_refused : Option Task → Option Semaphore → Option Errno
-give_refused next None = Some errors.ObjIdError
-give_refused next (Some v) = over v next
-
--- why a give is refused
-abbrev pub give_refusal : SemState → ℕ → Option Errno
-give_refusal s id = give_refused (next_of s id) (live s id)
-
--- the first waiting task gets it, and its call ends with the result 0; if no task waits, the count rises
-abbrev pub handed : SemState → ℕ → Semaphore → Option Task → SemState
-handed s id v None = written s id (counted_up v)
-handed s id v (Some t) = record s { kern = end_wait s.kern t.id ok_word None }
-
--- a give, given the live semaphore
-abbrev pub give_found : SemState → ℕ → Option Semaphore → SemState
-give_found s id None = s
-give_found s id (Some v) = handed s id v (next_of s id)
-
--- the state after a give that isn't refused
+-- the state after a give
 abbrev pub give : SemState → ℕ → SemState
-give s id = give_found s id (live s id)
+give s id = after_give s id (give_deed (next_of s id) (live s id))
 
 -- ---- flush and delete
 -- there is no such semaphore

@@ -2,3 +2,4 @@ pub mod State
 pub mod Calls
 pub mod Kept
 pub mod Laws
+pub mod Inside

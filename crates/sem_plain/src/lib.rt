@@ -3,6 +3,7 @@
 
 mod laws;
 mod plain;
+mod plans;
 mod semaphore;
 
 pub use laws::{calls_law, kernel_law, waiters_law};

@@ -1,13 +1,15 @@
 //! The binary and counting semaphores, and the calls on them.
 
-ghost use Rattle.std.specs.Prelude.{◌≡◌, ◌<◌, ◌+◌, ◌^◌, ◌==◌, true, false, [], Some, None, IsSome, IfOk, IfErr, MatchOption};
-ghost use Rattle.wind_base.specs.Limits.{greatest_word};
+ghost use Rattle.std.specs.Prelude.{◌≡◌, ◌<◌, ◌==◌, true, false, [], Some, None, IsSome, IfOk, IfErr, MatchOption};
 ghost use Rattle.wind_base.specs.SemBits.{is_priority};
-ghost use Rattle.id_table.specs.Rows.{object_of, with_object, IdsBelow};
+ghost use Rattle.id_table.specs.Rows.{object_of, IdsBelow};
 ghost use Rattle.wind_core.specs.State.{Lives};
+ghost use Rattle.wind_core.specs.Orders.{first_waiter};
 ghost use Rattle.sem_plain.specs.State.{both, may_hold, sem_place, IsEarly};
-ghost use Rattle.sem_plain.specs.Calls.{create, create_refusal, new_semaphore, take, take_refusal, took, awaited, counted_down, counted_up, give, give_refusal, flush, flush_refusal, delete, delete_refusal};
+ghost use Rattle.sem_plain.specs.Inside.{take_plan, give_plan};
+ghost use Rattle.sem_plain.specs.Calls.{create, create_refusal, new_semaphore, take, take_deed, take_refusal, took, awaited, give, give_deed, give_refusal, flush, flush_refusal, delete, delete_refusal};
 
+use crate::plans::{GivePlan, TakePlan};
 use crate::semaphore::{Semaphore, count_down, count_up};
 use id_table::sides::OBJECT;
 use id_table::{Ident, Place, Table};
@@ -94,6 +96,39 @@ impl Plain {
         kern.pend(who, place_of(id), fifo, timeout);
     }
 
+    // What a take with this timeout will do.
+    fn plan_take(&self, id: u32, timeout: u32) -> TakePlan
+        ensures { result ≡ take_plan id (take_deed timeout (object_of self.now id)) }
+    {
+        let Some(at) = self.find(id) else {
+            return TakePlan::Declined(Errno::ObjIdError);
+        };
+        if self.semaphore(at).count > 0 {
+            TakePlan::Taken(at)
+        } else if timeout == NO_WAIT {
+            TakePlan::Declined(Errno::ObjUnavailable)
+        } else {
+            TakePlan::Starved(at)
+        }
+    }
+
+    // What a give will do.
+    fn plan_give(&self, kern: &Kern, id: u32) -> GivePlan
+        ensures { result
+            ≡ give_plan id (give_deed (first_waiter kern.now.tasks (sem_place id)) (object_of self.now id)) }
+    {
+        let Some(at) = self.find(id) else {
+            return GivePlan::Denied(Errno::ObjIdError);
+        };
+        if let Some(who) = kern.first_waiter(place_of(at)) {
+            GivePlan::PassedOn(who)
+        } else if self.semaphore(at).count == u32::MAX {
+            GivePlan::Denied(Errno::CountOver)
+        } else {
+            GivePlan::Counted(at)
+        }
+    }
+
     /// Makes a semaphore with an initial count (VxWorks 5.4 Reference Manual, semBCreate and
     /// semCCreate).
     ///
@@ -148,18 +183,17 @@ impl Plain {
         ensures err { IfErr result (λ e. take_refusal (both kern.old self.old) id timeout ≡ Some e) }
         ensures same { IfErr result (λ _. both kern.new self.new ≡ both kern.old self.old) }
     {
-        let Some(id) = self.find(id) else {
-            return Err(Errno::ObjIdError);
-        };
-        if self.semaphore(id).count > 0 {
-            count_down(self.table.object_mut(id));
-            return Ok(Took::Taken);
+        match self.plan_take(id, timeout) {
+            TakePlan::Declined(e) => Err(e),
+            TakePlan::Taken(at) => {
+                count_down(self.table.object_mut(at));
+                Ok(Took::Taken)
+            }
+            TakePlan::Starved(at) => {
+                self.wait(kern, caller, at, timeout);
+                Ok(Took::Pended)
+            }
         }
-        if timeout == NO_WAIT {
-            return Err(Errno::ObjUnavailable);
-        }
-        self.wait(kern, caller, id, timeout);
-        Ok(Took::Pended)
     }
 
     /// Gives the semaphore (semGive). The first task that waits for it gets it, and its call ends
@@ -178,18 +212,17 @@ impl Plain {
         ensures same { IfErr result (λ _. both kern.new self.new ≡ both kern.old self.old) }
     {
         kern.facts();
-        let Some(id) = self.find(id) else {
-            return Err(Errno::ObjIdError);
-        };
-        if let Some(who) = kern.first_waiter(place_of(id)) {
-            kern.end_wait(who, OK, None);
-            return Ok(());
+        match self.plan_give(kern, id) {
+            GivePlan::Denied(e) => Err(e),
+            GivePlan::PassedOn(who) => {
+                kern.end_wait(who, OK, None);
+                Ok(())
+            }
+            GivePlan::Counted(at) => {
+                count_up(self.table.object_mut(at));
+                Ok(())
+            }
         }
-        if self.semaphore(id).count == u32::MAX {
-            return Err(Errno::CountOver);
-        }
-        count_up(self.table.object_mut(id));
-        Ok(())
     }
 
     /// Ends the waits of all tasks for the semaphore, in their order, with the result 0 (semFlush).

@@ -1,6 +1,7 @@
 //! One semaphore.
 
 ghost use Rattle.std.specs.Prelude.{◌≡◌, ◌+◌, ◌<◌, ◌^◌};
+ghost use Rattle.wind_base.specs.Limits.{greatest_word};
 ghost use Rattle.sem_plain.specs.State.{may_hold as may_hold_lem};
 ghost use Rattle.sem_plain.specs.Calls.{counted_down, counted_up, count_after_give as count_after_give_lem};
 
@@ -51,7 +52,7 @@ fn count_after_give(kind: SemKind, count: u32) -> u32
 // Counts a give that no task waits for: a binary semaphore's count becomes 1, and a counting one's
 // rises by 1.
 pub(crate) fn count_up(semaphore: &mut Semaphore)
-    requires { semaphore.old.count + 1 < 2 ^ 32 }
+    requires { semaphore.old.count ≡ greatest_word → ⊥ }
     ensures { semaphore.new ≡ counted_up semaphore.old }
 {
     semaphore.count = count_after_give(semaphore.kind, semaphore.count);

@@ -25,8 +25,7 @@ use Rattle.shell_parse.specs.Trees as trees
 use Rattle.shell_parse.specs.Trees.{PlainTree}
 use Rattle.shell_eval.specs.Pending.{Pending, Number, Str, Name, Lone, Address, Word, Unary, Binary, Choice, SetName, SetWord, New, Call, Hole, Args, End, Then, Logic, All, Any, logic_of, two_sided, begun}
 use Rattle.shell_eval.specs.Reduce.{Is, Steps, Calls, Faults, reduce, reduce_all, within, given, padded, decides, lone_by, kind_or_data, old_read, resolved, left_by}
-use Rattle.shell_eval.specs.Evaluate.{ended, evaluate}
-use Rattle.shell_eval.specs.Evaluate.{Call as CallEnd}
+use Rattle.shell_eval.specs.Evaluate.{ended, evaluate, Call as CallEnd}
 use Rattle.shell_eval.specs.Code.{compiled, form_of, after_left}
 use Rattle.shell_eval.specs.Machine.{Fails, Moved, Ends, Goes, Makes, Stops, onward, top_word, below, pushes, argument, arguments, asks, alone_by, mixes, places, left_effect, side_step, mixed_effect, close_effect, move}
 use Rattle.shell_eval.specs.Frames.{Frame, InWord, InUnary, OnLeft, OnRight, OnLeftSide, Over, AsCallee, AsArgument, Part, Source, Alone, Value, over, before, plugged, code_after, stack_under, words_onto, code_at, stack_at, part_tree, Stands}

@@ -1,6 +1,6 @@
 //! A statement as postfix code.
 
-ghost use Rattle.std.specs.Prelude.{◌≡◌, ◌∷◌, ◌<◌, ◌≤◌, ◌+◌, length, [], IfOk, OnOk, option_map};
+ghost use Rattle.std.specs.Prelude.{◌≡◌, ◌∷◌, ◌<◌, length, [], OnOk, option_map};
 ghost use Rattle.shell_parse.specs.Trees.{plain_tree, plain_arguments, plain_stmt, Load};
 ghost use Rattle.shell_eval.specs.Pending.{logic_of};
 ghost use Rattle.shell_eval.specs.Code.{compiled, compiled_all, compiled_stmt, compiled_expr, after_left, side_of as side_of_lem, count_onto};
@@ -9,16 +9,6 @@ use crate::code::{Code, LeftSide, Op, Text};
 use shell_parse::{BinOp, Stmt, Tree};
 use std::alloc::Global;
 use wind_base::{Name, NoMemory};
-
-// A copy of a name.
-fn copied(alloc: Global, name: &Name) -> Result<Name, NoMemory>
-    ensures { IfOk result (λ copy. copy ≡ name.now) }
-{
-    match Name::new(alloc, name.bytes()) {
-        Ok(copy) => Ok(copy),
-        Err(_) => Err(NoMemory),
-    }
-}
 
 // How an operator that may skip its right side treats its left side.
 fn side_of(op: BinOp) -> Option<LeftSide>
@@ -75,8 +65,8 @@ fn emit(code: &mut Code, alloc: Global, tree: &Tree) -> Result<(), NoMemory>
     match tree {
         Tree::Number(n) => code.push(Op::Push(*n)),
         Tree::Str(text) => code.push(Op::Str(Text::new(alloc, text)?)),
-        Tree::Name(name) => code.push(Op::Name(copied(alloc, name)?)),
-        Tree::Address(name) => code.push(Op::Address(copied(alloc, name)?)),
+        Tree::Name(name) => code.push(Op::Name(name.copied(alloc)?)),
+        Tree::Address(name) => code.push(Op::Address(name.copied(alloc)?)),
         Tree::Word(a) => {
             code.push(Op::Word)?;
             emit(code, alloc, a)
@@ -92,7 +82,7 @@ fn emit(code: &mut Code, alloc: Global, tree: &Tree) -> Result<(), NoMemory>
         Tree::SetName(aop, name, e) => {
             code.push(Op::Close)?;
             emit(code, alloc, e)?;
-            code.push(Op::Left(*aop, copied(alloc, name)?))
+            code.push(Op::Left(*aop, name.copied(alloc)?))
         }
         Tree::SetWord(aop, a, e) => {
             emit_place(code, alloc, *aop, e)?;
@@ -133,7 +123,7 @@ fn emit_expr(code: &mut Code, alloc: Global, tree: &Tree) -> Result<(), NoMemory
     ensures { OnOk result (code.new ≡ compiled_expr (plain_tree tree.now)) }
 {
     match tree {
-        Tree::Name(name) => code.push(Op::Lone(copied(alloc, name)?)),
+        Tree::Name(name) => code.push(Op::Lone(name.copied(alloc)?)),
         _ => emit(code, alloc, tree),
     }
 }
@@ -163,7 +153,7 @@ pub(crate) fn emit_stmt(code: &mut Code, alloc: Global, stmt: &Stmt) -> Result<(
         Stmt::Ld(file) => emit_load(code, alloc, file),
         Stmt::Call(name, arguments) => {
             emit_call(code, alloc, arguments)?;
-            code.push(Op::Name(copied(alloc, name)?))
+            code.push(Op::Name(name.copied(alloc)?))
         }
         Stmt::Expr(tree) => emit_expr(code, alloc, tree),
     }

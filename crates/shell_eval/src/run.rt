@@ -1,13 +1,12 @@
 //! Runs postfix code up to a value, a call or a fault.
 
-ghost use Rattle.std.specs.Prelude.{◌≡◌, ◌+◌, ◌*◌, ◌<◌, ◌≤◌, length, false, OnOk, OnErr, IfOk};
+ghost use Rattle.std.specs.Prelude.{◌≡◌, ◌+◌, ◌*◌, ◌<◌, ◌≤◌, length, false, OnOk, OnErr, IfOk, ◌-◌, min};
 ghost use Rattle.shell_eval.specs.Seen.{seen, SameEnv, SameSize, SpaceGrows, Ready, most_announced, kept_free};
 ghost use Rattle.shell_eval.specs.Machine.{move};
 ghost use Rattle.shell_eval.specs.Follows.{tree_of, tree_with_hole, Follows};
 ghost use Rattle.shell_eval.specs.Frames.{Stands};
 ghost use Rattle.shell_eval.specs.Ran.{of_step, advanced, IsEnd, Proceeds, IsAfter, room_after, is_call as is_call_lem};
 ghost use Rattle.shell_eval.specs.Inside.{IsEval, most_operations, ComesTo};
-ghost use Rattle.std.specs.Prelude.{◌-◌, min};
 ghost use Rattle.wind_base.specs.Limits.{most_symbols};
 ghost use Rattle.wind_base.specs.OutBuf.{KeepsSpace};
 

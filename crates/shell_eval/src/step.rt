@@ -1,9 +1,8 @@
 //! Makes one operation.
 
-ghost use Rattle.std.specs.Prelude.{◌≡◌, ◌+◌, ◌-◌, ◌<◌, ◌≤◌, not, ◌==◌, length, ◌∷◌, drop, if◌then◌else◌, None};
+ghost use Rattle.std.specs.Prelude.{◌≡◌, ◌+◌, ◌-◌, ◌<◌, ◌≤◌, ◌==◌, length, None};
 ghost use Rattle.wind_base.specs.Limits.{most_symbols};
 ghost use Rattle.wind_base.specs.OutBuf.{KeepsSpace};
-ghost use Rattle.ppc_core.specs.Words.{bit};
 ghost use Rattle.symbol_table.specs.Newest.{find};
 ghost use Rattle.shell_eval.specs.State.{State};
 ghost use Rattle.shell_eval.specs.Seen.{seen, SameEnv, SameSize, KeptParts, AddsOne, Ready, most_announced};

@@ -8,9 +8,9 @@ use Rattle.shell_parse.specs.declared.tree.BinOp.TheVariants.{OrElse, AndAlso, O
 use Rattle.shell_parse.specs.declared.token.Token.{Token}
 use Rattle.shell_parse.specs.declared.token.Spot.{Spot}
 use Rattle.shell_parse.specs.declared.token.Spot.TheVariants.{AtStart, AfterLd, AtFile, Within}
-use Rattle.source_literals.specs.Words.{is_word_byte}
-use Rattle.source_literals.specs.Strings.{escaped, string_at}
-use Rattle.source_literals.proofs.Within.{string_len, string_within}
+use Rattle.source_text.specs.Words.{is_word_byte}
+use Rattle.source_text.specs.Strings.{escaped, string_at}
+use Rattle.source_text.proofs.Within.{string_len, string_within}
 use Rattle.shell_parse.specs.Ascii.{next_is, is_file_byte}
 use Rattle.shell_parse.specs.Literals.{escaped_character, character_at, string_token}
 use Rattle.shell_parse.specs.Signs.{or_set, or_twice, shift_at, comparison_at, angle_at, comparing_at, sign_at}

@@ -1,10 +1,10 @@
 -- Laws on the tokens of a line.
-use Rattle.std.proofs.Common.{◌≡◌, ℕ, zero, suc, ◌+◌, List, [], ◌∷◌, true, false, refl, ap, sym, ◌∙◌, arith, drop, take, add-zero, add-one}
+use Rattle.std.proofs.Common.{◌≡◌, ℕ, zero, suc, ◌+◌, List, [], ◌∷◌, false, refl, ap, sym, ◌∙◌, arith, drop, take, add-zero, add-one}
 use Rattle.std.specs.List.{prefix_len}
 use Rattle.shell_parse.specs.declared.token.Token.{Token}
 use Rattle.std.specs.Prelude.{if◌then◌else◌}
 use Rattle.shell_parse.specs.declared.token.Spot.{Spot}
-use Rattle.source_literals.specs.Words.{is_blank, is_word_byte}
+use Rattle.source_text.specs.Words.{is_blank, is_word_byte}
 use Rattle.shell_parse.specs.Tokens.{word_token, word_at, token_at, spot_after, tokens_from}
 
 -- bytes that belong to the token before are passed over
@@ -12,12 +12,6 @@ pub tokens_passed : (spot : Spot) (column k : ℕ) (bs : List ℕ) → tokens_fr
 tokens_passed spot column zero bs = ap (λ n. tokens_from spot n 0 bs) (sym (add-zero column))
 tokens_passed spot column (suc k) [] = refl
 tokens_passed spot column (suc k) (b ∷ bs) = tokens_passed spot (column + 1) k bs ∙ ap (λ n. tokens_from spot n 0 (drop k bs)) (omega arith)
-
--- a blank is passed over
-pub blank_passed : (spot : Spot) (column b : ℕ) (bs : List ℕ) → is_blank b ≡ true → tokens_from spot column 0 (b ∷ bs) ≡ tokens_from spot (column + 1) 0 bs
-blank_passed spot column b bs t =
-    ap (λ blank. if blank then tokens_from spot (column + 1) 0 bs
-    else record { token = (token_at spot b bs).0; column = column } ∷ tokens_from (spot_after spot (token_at spot b bs).0) (column + 1) (token_at spot b bs).1 bs) t
 
 -- a token, and the tokens after it
 pub token_taken : (spot : Spot) (column b : ℕ) (bs : List ℕ) (len : ℕ) → is_blank b ≡ false → len ≡ (token_at spot b bs).1

@@ -181,9 +181,6 @@ back_semi (InCommand n ∷ fs) ts h = h
 back_semi (InGroup mark ∷ fs) ts h = absurd h
 back_semi (InCall n mark ∷ fs) ts h = absurd h
 
-back_operator : (B : List Token → Type 0) (mark : Bool) {t : Token} {ts : List Token} → ChainThen B (t ∷ ts) → Tail mark B (t ∷ ts)
-back_operator B mark {t = t} {ts = ts} h = tail_of mark B (t ∷ ts) h
-
 back_done : (mark : Bool) (fs : List Frame) (t : Token) (ts : List Token) → LangOf (on_done mark fs t) ts → Tail mark (After fs) (t ∷ ts)
 back_done mark fs (Operator op) ts (b, (mid, (u, (rest, (c, k))))) = tail_of mark (After fs) (Operator op ∷ ts) (rest, (goes_on u c, k))
 back_done true fs (Set op) ts h = inr h

@@ -1,7 +1,7 @@
 -- Bytes of a line by their kind, as ASCII characters.
 use Rattle.std.specs.Prelude.{ℕ, Bool, false, List, [], ◌∷◌, ◌==◌, ◌&&◌, not}
 use Prim.Native.Char.{code}
-use Rattle.source_literals.specs.Words.{is_blank}
+use Rattle.source_text.specs.Words.{is_blank}
 
 -- a byte of the name of a file, which ends before a blank or a semicolon
 abbrev pub is_file_byte : ℕ → Bool

@@ -1,7 +1,7 @@
 -- Characters and strings: the project's choice of the literals of C (ISO/IEC 9899, 6.4.4 and 6.4.5).
 use Rattle.std.specs.Prelude.{ℕ, List, ◌∷◌, Option, Some, None, ◌==◌, ◌&&◌, not, if◌then◌else◌}
 use Prim.Native.Char.{code}
-use Rattle.source_literals.specs.Strings.{escaped}
+use Rattle.source_text.specs.Strings.{escaped}
 use Rattle.shell_parse.specs.declared.token.Token.{Token}
 use Rattle.shell_parse.specs.declared.token.Token.TheVariants.{Number, Str, Unknown}
 use Rattle.shell_parse.specs.Ascii.{next_is}

@@ -8,9 +8,9 @@ use Rattle.shell_parse.specs.declared.token.Token.{Token}
 use Rattle.shell_parse.specs.declared.token.Token.TheVariants.{Number, Name, Operator, Semi, Redirect, File, Unknown}
 use Rattle.shell_parse.specs.declared.token.Spot.{Spot}
 use Rattle.shell_parse.specs.declared.token.Spot.TheVariants.{AtStart, AfterLd, AtFile, Within}
-use Rattle.source_literals.specs.Words.{is_blank, is_word_byte}
-use Rattle.source_literals.specs.Numbers.{number_of}
-use Rattle.source_literals.specs.Strings.{string_at}
+use Rattle.source_text.specs.Words.{is_blank, is_word_byte}
+use Rattle.source_text.specs.Numbers.{number_of}
+use Rattle.source_text.specs.Strings.{string_at}
 use Rattle.shell_parse.specs.Ascii.{is_file_byte}
 use Rattle.shell_parse.specs.Literals.{character_at, string_token}
 use Rattle.shell_parse.specs.Signs.{sign_at}

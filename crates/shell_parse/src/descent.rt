@@ -1,8 +1,8 @@
 //! The trees of tokens, by recursive descent.
 
-ghost use Rattle.std.specs.Prelude.{◌≡◌, ◌<◌, ◌≤◌, ◌∷◌, ◌==◌, suc, Some, None, IfOk, IfErr, length, option_map};
+ghost use Rattle.std.specs.Prelude.{◌≡◌, ◌<◌, ◌==◌, suc, Some, None, IfOk, IfErr, option_map};
 ghost use Rattle.shell_parse.specs.declared.descent.ReadErr.TheVariants.{NoTree};
-ghost use Rattle.shell_parse.specs.Levels.{level_of, levels};
+ghost use Rattle.shell_parse.specs.Levels.{level_of};
 ghost use Rattle.shell_parse.specs.Trees.{plain_tree, plain_arguments};
 ghost use Rattle.shell_parse.specs.Trees as trees;
 ghost use Rattle.shell_parse.specs.Gives.{Gives};
@@ -10,7 +10,7 @@ ghost use Rattle.shell_parse.specs.Descent.{whole_at, star_at, climb_at, more_at
 
 use crate::token::{Token, Word};
 use crate::tree::{BinOp, Tree, UnOp};
-use source_literals::Text;
+use source_text::Text;
 use std::alloc::{AllocError, AllocFailed, Global};
 use wind_base::{Name, NameErr};
 

@@ -1,6 +1,6 @@
 //! The tokens of a line.
 
-ghost use Rattle.std.specs.Prelude.{◌≡◌, ◌<◌, ◌≤◌, ◌+◌, ◌∷◌, IfOk, length, drop, map};
+ghost use Rattle.std.specs.Prelude.{◌≡◌, ◌<◌, ◌≤◌, ◌+◌, ◌∷◌, IfOk, length};
 ghost use Rattle.std.specs.List.{prefix_len};
 ghost use Rattle.wind_base.specs.Limits.{longest_line};
 ghost use Rattle.shell_parse.specs.Ascii.{is_file_byte as is_file_byte_lem};
@@ -10,7 +10,7 @@ use crate::literal::{character, string_token};
 use crate::sign::sign;
 use crate::token::{Spot, Token, Word};
 use crate::tree::BinOp;
-use source_literals::{is_blank, is_word_byte, number_of, string, word_len};
+use source_text::{is_blank, is_word_byte, number_of, string, word_len};
 use std::alloc::{AllocError, Global};
 use wind_base::bytes_after;
 

@@ -5,7 +5,7 @@ ghost use Rattle.shell_parse.specs.Ascii.{next_is as next_is_lem};
 ghost use Rattle.shell_parse.specs.Literals.{escaped_character as escaped_character_lem, character_at, string_token as string_token_lem};
 
 use crate::token::Token;
-use source_literals::{Text, escaped};
+use source_text::{Text, escaped};
 
 /// Whether the first byte is this one.
 pub(crate) fn next_is(byte: u8, bytes: &[u8]) -> bool

@@ -1,12 +1,12 @@
 //! The statements made of the tokens of a line.
 
-ghost use Rattle.std.specs.Prelude.{◌≡◌, ◌<◌, ◌≤◌, ◌∷◌, Some, None, length, if◌then◌else◌};
+ghost use Rattle.std.specs.Prelude.{◌≡◌, ◌<◌, ◌≤◌, None, length, if◌then◌else◌};
 ghost use Rattle.wind_base.specs.Limits.{longest_line};
 ghost use Rattle.shell_parse.specs.Trees.{plain_stmt, plain_stmts};
 ghost use Rattle.shell_parse.specs.Trees as trees;
 ghost use Rattle.shell_parse.specs.Gives.{Gives};
 ghost use Rattle.shell_parse.specs.Grammar.{most_arguments, is_ld as is_ld_lem};
-ghost use Rattle.shell_parse.specs.Descent.{whole_at, listed_at, file_by, mapped, named_by, stmt_at, line_at, stmts_of};
+ghost use Rattle.shell_parse.specs.Descent.{whole_at, listed_at, file_by, mapped, stmt_at, line_at, stmts_of};
 
 use crate::descent::{ARGUMENTS, ReadErr, Reads, Tokens, listed, name_of, whole};
 use crate::token::{Token, Word};

@@ -1,7 +1,7 @@
 //! The tokens of a line.
 
 use crate::tree::BinOp;
-use source_literals::Text;
+use source_text::Text;
 use std::marker::Model;
 
 /// Bytes of the line: a name, or the name of a file.

@@ -1,5 +1,5 @@
 -- Look-ups along chains, and chains that get one entry more.
-use Rattle.std.proofs.Common.{◌≡◌, ℕ, zero, suc, ◌+◌, ◌-◌, ◌%◌, ◌<◌, ◌≤◌, Bool, true, false, cond, eqb, not, ◌||◌, List, [], ◌∷◌, ◌++◌, length, map, take, get_or, set, Some, None, refl, sym, ap, ap₂, ◌∙◌, subst, inl, inr, arith}
+use Rattle.std.proofs.Common.{◌≡◌, ℕ, zero, suc, ◌+◌, ◌-◌, ◌%◌, ◌<◌, ◌≤◌, Bool, true, false, cond, eqb, not, ◌||◌, List, [], ◌∷◌, ◌++◌, length, map, take, get_or, set, Some, refl, sym, ap, ap₂, ◌∙◌, subst, inl, inr, arith}
 use Rattle.std.specs.Prelude.{replicate}
 use Rattle.std.proofs.lemmas.Bool.{eq-eqb, ne_eqb, eqb-true, and_parts, cases_eq}
 use Rattle.std.proofs.lemmas.List.{take_more, take_all, length-append, length-set, length-map, length-take-le, map-append, get_or-map, get_or-set_same, get_or-set_other, get_or_append_left, get_or_push, length-replicate}
@@ -131,12 +131,6 @@ newest_less p list n d less e =
     ∙ newest-added p (take n list) (get_or list n d)
     ∙ ap (λ t. cond t (Some (get_or list n d)) (newest p (take n list))) e
 
-newest_here : (p : Symbol → Bool) (list : List Symbol) (n : ℕ) (d : Symbol) → n < length list → p (get_or list n d) ≡ true → newest p (take (n + 1) list) ≡ Some (get_or list n d)
-newest_here p list n d less e =
-    ap (newest p) (take_more list n d less)
-    ∙ newest-added p (take n list) (get_or list n d)
-    ∙ ap (λ t. cond t (Some (get_or list n d)) (newest p (take n list))) e
-
 -- a link leads to the newest entry with its hash: the entries in between don't pass
 come_link : (p : Symbol → Bool) (hash : Symbol → ℕ) (h : ℕ) (list : List Symbol) (d : Symbol) (n : ℕ) → Only p hash h → n ≤ length list
     → newest p (take n list) ≡ newest p list → HasCome p hash h list (newest_link (map hash list) n h)
@@ -194,16 +188,6 @@ goes_on p hash h list s at next x only k some stands fails e come =
     let back : newest p (take (at - 1) list) ≡ newest p list = sym (newest_less p list (at - 1) x less (ap p (sym stands) ∙ fails)) ∙ ap (λ m. newest p (take m list)) up ∙ come.rest in
     let low = link_below (map hash list) (at - 1) h in
     (subst (HasCome p hash h list) (sym is) (come_link p hash h list x (at - 1) only (omega arith) back), omega arith)
-
-pub hits : (p : Symbol → Bool) (hash : Symbol → ℕ) (h : ℕ) (list : List Symbol) (at : ℕ) (x : Symbol) → (at ≡ 0 → ⊥) → x ≡ get_or list (at - 1) x → p x ≡ true
-    → HasCome p hash h list at → Some x ≡ newest p list
-hits p hash h list at x some stands passes come =
-    let le = come.within in
-    let up : at - 1 + 1 ≡ at = omega arith in
-    ap Some stands ∙ sym (newest_here p list (at - 1) x (omega arith) (ap p (sym stands) ∙ passes)) ∙ ap (λ m. newest p (take m list)) up ∙ come.rest
-
-pub misses : (p : Symbol → Bool) (hash : Symbol → ℕ) (h : ℕ) (list : List Symbol) (at : ℕ) → at ≡ 0 → HasCome p hash h list at → None ≡ newest p list
-misses p hash h list at none come = ap (λ m. newest p (take m list)) (sym none) ∙ come.rest
 
 -- ---- what a chain holds
 

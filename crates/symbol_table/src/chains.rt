@@ -1,10 +1,10 @@
 //! The symbols in order of adding, and their chains.
 
-ghost use Rattle.std.specs.Prelude.{◌≡◌, ◌<◌, ◌≤◌, ◌-◌, ◌+◌, ◌↔◌, [], length, count_by, ◌==◌, IfOk, OnOk, Err, slice_get, option_copied, vec_capacity};
+ghost use Rattle.std.specs.Prelude.{◌≡◌, ◌<◌, ◌≤◌, ◌-◌, ◌+◌, ◌↔◌, [], length, IfOk, OnOk, Err, option_copied, vec_capacity};
 ghost use Rattle.wind_base.specs.Limits.{most_symbols};
 ghost use Rattle.symbol_table.specs.Newest.{newest, find_by_value};
 ghost use Rattle.std.specs.List.{All};
-ghost use Rattle.symbol_table.specs.State.{TableState, IsTable, IsNamed, added, without_group, count_of};
+ghost use Rattle.symbol_table.specs.State.{IsNamed, added, without_group, count_of};
 ghost use Rattle.symbol_table.specs.Chains.{AreChains, is_sought, table_of};
 ghost use Rattle.symbol_table.specs.declared.symbol.SymErr.TheVariants as errors;
 

@@ -4,7 +4,7 @@ use Rattle.std.specs.Option.{option_map}
 use Rattle.std.proofs.lemmas.Bool.{eqb-true, eqb-false}
 use Rattle.std.proofs.lemmas.Option.{same_Some}
 use Rattle.task_block.specs.declared.task.Task.{Task}
-use Rattle.wind_lists.proofs.Records.{found_id}
+use Rattle.id_table.proofs.Records.{found_id}
 use Rattle.wind_core.specs.State.{KernState, Lives, task_id, task_of}
 use Rattle.wind_core.specs.Orders.{waiters}
 use Rattle.wind_core.specs.Moves.{live_id, set_again, set_safe}
@@ -50,13 +50,6 @@ named ts n id e =
             | None ↦ λ o r. absurd (cc)
             | Some t ↦ λ o r. ap (task_of ts) (same_Some id t.id r ∙ found_id task_id ts n t o) ∙ o
           ] refl q
-    ] e
-
-pub not_named : (ts : List Task) (n : ℕ) → None ≡ live_id ts n → None ≡ target_of ts n
-not_named ts n e =
-    elim (eqb n 0) as (λ b. None ≡ cond b None (option_map task_id (task_of ts n)) → None ≡ cond b None (task_of ts n)) [
-      | true ↦ λ q. refl
-      | false ↦ λ q. elim (task_of ts n) as (λ o. None ≡ option_map task_id o → None ≡ o) [ None ↦ λ r. refl | Some t ↦ λ r. absurd (cc) ] q
     ] e
 
 -- the target of a deed is the live task with its number

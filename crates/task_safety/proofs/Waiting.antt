@@ -11,15 +11,16 @@ use Rattle.id_table.specs.Sides.{deletion_side}
 use Rattle.id_table.specs.declared.ident.Place.{Place}
 use Rattle.task_block.specs.declared.task.Task.{Task}
 use Rattle.task_block.specs.declared.task.NewTask.{NewTask}
-use Rattle.wind_lists.specs.Sorting.{first}
-use Rattle.wind_lists.proofs.Records.{found_id, found_in}
-use Rattle.wind_lists.proofs.Passing.{none_passes}
+use Rattle.id_table.specs.Sorting.{first}
+use Rattle.id_table.proofs.Records.{found_id, found_in}
+use Rattle.id_table.proofs.Passing.{none_passes}
 use Rattle.wind_core.specs.State.{KernState, IsKern, task_id, task_of}
 use Rattle.wind_core.specs.Orders.{waits_before, is_place, waits_at, waiters}
-use Rattle.wind_core.specs.Moves.{renewed, change_task, renew_task, move_task, new_task, spawn, remove, wake_at, pended, delayed, released, release, answered, end_waits, suspended, resumed, is_suspended, resume, unmarked, reset, with_pri, has_pri, change_pri, set_safe, set_again, past_gate, with_answer, with_refusal, unreserved}
+use Rattle.wind_core.specs.Moves.{renewed, change_task, renew_task, move_task, new_task, spawn, remove, wake_at, pended, delayed, released, release, answered, end_waits, suspended, resumed, is_suspended, resume, unmarked, reset, with_pri, has_pri, change_pri, set_safe, set_again, with_change}
 use Rattle.wind_core.specs.Releases.{releases, release_all}
 use Rattle.wind_core.specs.Tick.{tick}
-use Rattle.wind_core.specs.Move.{Spawn, Remove, Pend, Delay, Release, ReleaseAll, EndWait, WakeAll, Tick, Suspend, Resume, ChangePri, Reset, SetLocks, SetNormal, SetSafe, SetHeld, SetErrno, SetIntLocked, SetAgain, SetRegs, Unreserve, LeaveGate, Answer, Refuse, SetLast, SetSlice, DrawIds, Lend}
+use Rattle.wind_core.specs.Move.{Spawn, Remove, Pend, Delay, Release, ReleaseAll, EndWait, WakeAll, Tick, Suspend, Resume, ChangePri, Reset, Set, SetRegs, SetLast, SetSlice, DrawIds, Lend}
+use Rattle.wind_core.specs.declared.changes.Change.TheVariants.{Safe, Again}
 use Rattle.wind_core.proofs.Passes.{waits_before-order}
 use Rattle.wind_core.proofs.Moving.{move_keeps}
 use Rattle.wind_core.proofs.Stable.{All-change, renew_task-stable, move_task-stable, tick-stable}
@@ -133,7 +134,7 @@ module _ (s : KernState) (kept : KeepsDeleters s) where
       let place : Place = deletion who in
       let after : KernState = release_all less place in
       let fine : All Fine after.tasks = releases-stable Fine (λ since t h. h) (λ t h. tt) less (waiters less.tasks place) (written_fine who m) in
-      let nobody = none_passes task_id waits_before waits_before-order (waits_at place) after.tasks (ap first (releases-clear less place (waiters less.tasks place) (move_keeps s (SetSafe who m) is tt) refl)) in
+      let nobody = none_passes task_id waits_before waits_before-order (waits_at place) after.tasks (ap first (releases-clear less place (waiters less.tasks place) (move_keeps s (Set who (Safe m)) is tt) refl)) in
       let same : map seen after.tasks ≡ map seen less.tasks = map-releases seen (λ n t. refl) (λ t. refl) less (waiters less.tasks place) in
       λ k d h. freed after (get_or after.tasks k d) (λ id other safe. subst (λ n. 0 < n) (sym (same_safe after.tasks less.tasks id same ∙ safe_other s who m id other)) safe) (nobody k d h) (fine k d h)
     where
@@ -229,7 +230,7 @@ deed_keeps s caller n (EndsItself count) is kept idle said =
     let first : KernState = asked s caller in
     let fine = marks s kept is caller idle false in
     let same : count ≡ safe_of (task_of first.tasks caller) = said.1 ∙ sym (same_safe first.tasks s.tasks caller (map-change seen s.tasks caller (λ t. record t { again = false }) (λ t. refl))) in
-    removes (unguarded s caller count) (eases first fine (move_keeps s (SetAgain caller false) is tt) caller count) caller (none_left first caller count same)
+    removes (unguarded s caller count) (eases first fine (move_keeps s (Set caller (Again false)) is tt) caller count) caller (none_left first caller count same)
 deed_keeps s caller n (Removes who) is kept idle said =
     removes (asked s caller) (marks s kept is caller idle false) who
     (same_safe (asked s caller).tasks s.tasks who (map-change seen s.tasks caller (λ t. record t { again = false }) (λ t. refl)) ∙ said.2)
@@ -268,19 +269,11 @@ moves_keep k Tick is kept spares = as_safe k kept (tick k) (map-tick seen (λ n 
 moves_keep k (Resume who) is kept spares = resumes k who kept
 moves_keep k (ChangePri who pri) is kept spares = priorities k who pri kept
 moves_keep k (Reset who) is kept spares = resets k kept is who spares
-moves_keep k (SetSafe who n) is kept spares = writes k kept who n spares
-moves_keep k (SetAgain who on) is kept spares = marks k kept is who spares on
+moves_keep k (Set who (Safe n)) is kept spares = writes k kept who n spares
+moves_keep k (Set who (Again on)) is kept spares = marks k kept is who spares on
 moves_keep k (Suspend who) is kept spares = changes k kept who suspended (λ t. refl) (λ t h. h)
-moves_keep k (SetLocks who n) is kept spares = changes k kept who (λ t. record t { locks = n }) (λ t. refl) (λ t h. h)
-moves_keep k (SetNormal who pri) is kept spares = changes k kept who (λ t. record t { normal = pri }) (λ t. refl) (λ t h. h)
-moves_keep k (SetHeld who n) is kept spares = changes k kept who (λ t. record t { held = n }) (λ t. refl) (λ t h. h)
-moves_keep k (SetErrno who n) is kept spares = changes k kept who (λ t. record t { errno = n }) (λ t. refl) (λ t h. h)
-moves_keep k (SetIntLocked who on) is kept spares = changes k kept who (λ t. record t { int_locked = on }) (λ t. refl) (λ t h. h)
 moves_keep k (SetRegs who regs) is kept spares = changes k kept who (λ t. record t { regs = regs }) (λ t. refl) (λ t h. h)
-moves_keep k (Unreserve who) is kept spares = changes k kept who unreserved (λ t. refl) (λ t h. h)
-moves_keep k (LeaveGate who) is kept spares = changes k kept who past_gate (λ t. refl) (λ t h. h)
-moves_keep k (Answer who value) is kept spares = changes k kept who (with_answer value) (λ t. refl) (λ t h. h)
-moves_keep k (Refuse who e) is kept spares = changes k kept who (with_refusal e) (λ t. refl) (λ t h. h)
+moves_keep k (Set who change) is kept spares = changes k kept who (with_change change) (λ t. refl) (λ t h. h)
 moves_keep k (SetLast last) is kept spares = kept
 moves_keep k (SetSlice n) is kept spares = kept
 moves_keep k (DrawIds next) is kept spares = kept

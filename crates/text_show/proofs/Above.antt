@@ -4,7 +4,7 @@ use Rattle.std.specs.List.{All, AllByRecursion, filter, find, flat_map}
 use Rattle.std.specs.Option.{option_map}
 use Rattle.std.proofs.lemmas.Bool.{lt-ltb, le-ltb, ltb-true, ltb-false, eq-eqb, ne_eqb}
 use Rattle.std.proofs.lemmas.List.Elements.{All-head, All-tail}
-use Rattle.wind_lists.specs.Records.{Rising, of_id}
+use Rattle.id_table.specs.Records.{Rising, of_id}
 use Rattle.id_table.specs.Rows.{row_id, row_object, next_above, object_of}
 use Rattle.module_loader.specs.declared.module.LoadedModule.{LoadedModule}
 use Rattle.module_loader.specs.Modules.{HasIdent}

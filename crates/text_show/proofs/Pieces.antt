@@ -1,8 +1,6 @@
 -- A format, piece by piece.
 use Rattle.std.proofs.Common.{◌≡◌, ℕ, zero, suc, ◌+◌, true, false, List, [], ◌∷◌, ◌++◌, take, drop, refl, ap, sym, ◌∙◌, arith, append_assoc}
-use Rattle.std.proofs.lemmas.List.{append-nil}
 use Rattle.std.specs.Prelude.{Option, None, Some}
-use Rattle.std.specs.Option.{option_map}
 use Rattle.std.specs.Fmt.{◌++?◌}
 use Rattle.wind_base.specs.Limits.{longest_print}
 use Rattle.text_show.specs.declared.format.Conversion.{Conversion}
@@ -20,9 +18,6 @@ pieces_after (suc k) (b ∷ bytes) = pieces_after k bytes
 after_two : (a b : List ℕ) (o : Option (List ℕ)) → Some a ++? (Some b ++? o) ≡ Some (a ++ b) ++? o
 after_two a b None = refl
 after_two a b (Some c) = ap Some (sym (append_assoc a b c))
-
-nothing_after : (a : List ℕ) (o : Option (List ℕ)) → Some a ++? (None ++? o) ≡ None
-nothing_after a o = refl
 
 -- n values are taken, and the text of what is before the rest of a format is done
 pub record IsDone (s : Source) (format : List ℕ) (n : ℕ) (rest items : List ℕ) : Type 0 where
@@ -81,17 +76,3 @@ conversion_done s format n b bytes rest items new c r e d p =
 refused : (o : Option (List ℕ)) (old new : List ℕ) → Prints o false old new → o ≡ None
 refused None old new p = refl
 refused (Some text) old new p = absurd (let e = p.0 in cc)
-
-pub conversion_refused : (s : Source) (format : List ℕ) (n b : ℕ) (bytes rest items new : List ℕ) (c : Conversion) → rest ≡ b ∷ bytes → conversion_of b bytes ≡ Some c
-    → IsDone s format n rest items → Prints (conversion_text s n c.style c.letter) false items new → text_of s 0 (pieces 0 format) ≡ None
-conversion_refused s format n b bytes rest items new c r e d p =
-    d.whole ∙ ap (λ xs. Some d.done ++? text_of s n (pieces 0 xs)) r
-    ∙ ap (λ (x : Option (List ℕ)). Some d.done ++? x) (rest_text s n b bytes (Some c) e)
-    ∙ ap (λ (x : Option (List ℕ)). Some d.done ++? (x ++? text_of s (n + values_of c.letter) (pieces 0 (drop c.taken bytes)))) (refused (conversion_text s n c.style c.letter) items new p)
-
--- all is done
-pub all_done : (s : Source) (format rest items : List ℕ) (n : ℕ) → rest ≡ [] → IsDone s format n rest items → Some items ≡ option_map (take longest_print) (text_of s 0 (pieces 0 format))
-all_done s format rest items n e d =
-    let whole : text_of s 0 (pieces 0 format) ≡ Some d.done =
-    d.whole ∙ ap (λ xs. Some d.done ++? text_of s n (pieces 0 xs)) e ∙ ap Some (append-nil d.done) in
-    ap Some d.shown ∙ ap (option_map (take longest_print)) (sym whole)

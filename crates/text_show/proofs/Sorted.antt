@@ -1,14 +1,13 @@
 -- Tasks by rising id, priority by priority, are the tasks in order of priority and id.
 use Rattle.std.proofs.Common.{◌≡◌, ℕ, zero, suc, ◌+◌, ◌<◌, ◌≤◌, Bool, true, false, List, [], ◌∷◌, ◌++◌, refl, ap, sym, ◌∙◌, arith}
-use Rattle.std.specs.Prelude.{if◌then◌else◌, ◌==◌}
+use Rattle.std.specs.Prelude.{if◌then◌else◌, ◌==◌, length, take, slice_index_or}
 use Rattle.std.specs.List.{filter}
 use Rattle.std.proofs.lemmas.Bool.Decides.{nat_tests}
-use Rattle.wind_lists.specs.Sorting.{sorted, insert_sorted}
+use Rattle.id_table.specs.Sorting.{sorted, insert_sorted}
 use Rattle.task_block.specs.declared.task.Task.{Task}
 use Rattle.text_show.specs.Tasks.{has_priority, from_priority, stands_before, AreLow}
 use Rattle.text_show.proofs.Order.{take_one_more}
-use Rattle.std.specs.Prelude.{length, take, slice_index_or}
-use Rattle.wind_lists.specs.Records.{Rising}
+use Rattle.id_table.specs.Records.{Rising}
 use Rattle.wind_core.specs.State.{task_id}
 
 abbrev pub AllOf : (Task → Type 0) → List Task → Type 0

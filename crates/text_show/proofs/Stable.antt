@@ -5,8 +5,8 @@ use Rattle.std.specs.Cmp.{IsStrictWeakOrder}
 use Rattle.std.specs.List.{filter, AllByRecursion}
 use Rattle.std.specs.List.Sorted.{ties, IsSortedBy, IsStableBy}
 use Rattle.std.proofs.lemmas.List.Sorted.{sorted_far}
-use Rattle.wind_lists.specs.Sorting.{insert_sorted, sorted}
-use Rattle.wind_lists.proofs.Sorting.{InOrder, in_order_sorted, filter-sorted}
+use Rattle.id_table.specs.Sorting.{insert_sorted, sorted}
+use Rattle.id_table.proofs.Sorting.{InOrder, in_order_sorted, filter-sorted}
 
 -- ---- the tests
 -- neither of two holds

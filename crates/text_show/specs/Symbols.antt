@@ -6,7 +6,7 @@ use Rattle.std.specs.Ordering.{is_lt, nat_cmp}
 use Rattle.symbol_table.specs.declared.symbol.SymKind.{SymKind}
 use Rattle.symbol_table.specs.declared.symbol.SymKind.TheVariants.{TextSym, DataSym, BssSym, AbsSym}
 use Rattle.symbol_table.specs.declared.symbol.Symbol.{Symbol}
-use Rattle.wind_lists.specs.Sorting.{sorted}
+use Rattle.id_table.specs.Sorting.{sorted}
 use Rattle.wind_base.specs.Texts.{hex_places}
 use Rattle.text_show.specs.Columns.{left_in, row}
 

@@ -5,7 +5,7 @@ use Rattle.std.specs.Fmt.{decimal, digits}
 use Rattle.task_block.specs.declared.task.Task.{Task}
 use Rattle.task_block.specs.Standing.{status_word}
 use Rattle.wind_core.specs.State.{KernState}
-use Rattle.wind_lists.specs.Sorting.{sorted}
+use Rattle.id_table.specs.Sorting.{sorted}
 use Rattle.wind_base.specs.Texts.{hex_places}
 use Rattle.text_show.specs.Columns.{left_in, right_in, row}
 

@@ -1,6 +1,6 @@
 //! The format of `printf`.
 
-ghost use Rattle.std.specs.Prelude.{◌≡◌, ◌≤◌, ◌<◌, IfSome, length, drop};
+ghost use Rattle.std.specs.Prelude.{◌≡◌, ◌≤◌, ◌<◌, IfSome, length};
 ghost use Rattle.std.specs.Char.{is_ascii_digit};
 ghost use Rattle.std.specs.List.{list_any};
 ghost use Rattle.text_show.specs.Format.{widest, is_minus, is_zero, is_flag as is_flag_lem, run_of, width_of as width_of_lem, size_of as size_of_lem, letter_of as letter_of_lem, first_letter as first_letter_lem, style_of as style_of_lem, conversion_at as conversion_at_lem};

@@ -1,6 +1,6 @@
 //! Texts in columns. A text is made as a whole before any of it is written.
 
-ghost use Rattle.std.specs.Prelude.{◌≡◌, ◌+◌, ◌-◌, ◌++◌, ◌∷◌, [], map, length, replicate, OnOk, OnErr};
+ghost use Rattle.std.specs.Prelude.{◌≡◌, ◌+◌, ◌-◌, ◌++◌, ◌∷◌, map, OnOk, OnErr};
 ghost use Rattle.text_show.specs.Columns.{blanks, cell_text, row, row_rest, with_text};
 
 use std::alloc::Global;

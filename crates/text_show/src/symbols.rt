@@ -2,7 +2,7 @@
 
 ghost use Rattle.std.specs.Prelude.{◌≡◌, ◌++◌, ◌∷◌, [], map, OnOk, OnErr, IfOk};
 ghost use Rattle.std.specs.List.{filter, flat_map};
-ghost use Rattle.wind_lists.specs.Sorting.{sorted};
+ghost use Rattle.id_table.specs.Sorting.{sorted};
 ghost use Rattle.text_show.specs.Columns.{with_text};
 ghost use Rattle.text_show.specs.Symbols.{has_part as has_part_lem, is_shown, name_before, kind_word as kind_word_lem, symbol_row, symbol_rows_of};
 

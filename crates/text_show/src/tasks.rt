@@ -2,7 +2,7 @@
 
 ghost use Rattle.std.specs.Prelude.{◌≡◌, ◌<◌, ◌++◌, ◌∷◌, [], OnOk, OnErr, IfOk};
 ghost use Rattle.std.specs.List.{filter, flat_map};
-ghost use Rattle.wind_lists.specs.Sorting.{sorted};
+ghost use Rattle.id_table.specs.Sorting.{sorted};
 ghost use Rattle.text_show.specs.Columns.{with_text};
 ghost use Rattle.text_show.specs.Tasks.{ticks_to as ticks_to_lem, task_row, task_header, has_priority, stands_before, AreLow, task_table_of};
 

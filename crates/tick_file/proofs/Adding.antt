@@ -7,8 +7,8 @@ use Rattle.std.specs.declared.cmp.Reverse.{Reverse}
 use Rattle.std.proofs.lemmas.Bool.Decides.{nat_tests}
 use Rattle.std.proofs.lemmas.List.Sorted.{All-permutation, IsPermutation-sym}
 use Rattle.std.proofs.lemmas.List.Elements.{All-cons, All-head, All-tail, All-from_recursion, recursion_from_All}
-use Rattle.wind_lists.specs.Sorting.{insert_sorted}
-use Rattle.wind_lists.proofs.Orders.{IsPermutation-sorted}
+use Rattle.id_table.specs.Sorting.{insert_sorted}
+use Rattle.id_table.proofs.Orders.{IsPermutation-sorted}
 use Rattle.tick_file.specs.declared.event.Event.{Event}
 use Rattle.tick_file.specs.declared.event.Rule.TheVariants.{At}
 use Rattle.tick_file.specs.declared.pending.Pending.{Pending}

@@ -104,10 +104,6 @@ module _ {X : Type 0} (p : X → Bool) where
 abbrev other : ℕ → Bool
 other b = not (is_blank b)
 
-not_true : (b : Bool) → not b ≡ true → b ≡ false
-not_true true e = absurd (cc)
-not_true false e = refl
-
 not_false : (b : Bool) → not b ≡ false → b ≡ true
 not_false true e = refl
 not_false false e = absurd (cc)

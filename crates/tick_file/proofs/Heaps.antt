@@ -9,7 +9,7 @@ use Rattle.std.specs.declared.cmp.Ordering.TheVariants.{Less, Equal, Greater}
 use Rattle.std.specs.declared.cmp.Reverse.{Reverse}
 use Rattle.std.proofs.lemmas.List.Sorted.{All-permutation, IsPermutation-remove}
 use Rattle.std.proofs.lemmas.List.Elements.{All-cons, All-head, All-tail, All-from_recursion, recursion_from_All}
-use Rattle.wind_lists.specs.Sorting.{sorted, first}
+use Rattle.id_table.specs.Sorting.{sorted, first}
 use Rattle.tick_file.specs.declared.pending.Pending.{Pending}
 use Rattle.tick_file.specs.Schedule.{Timed, before}
 use Rattle.tick_file.specs.Inside.{coming, next_of, upcoming, moved_on, IsSound, Agree, by_next, IsKept, events_in, waiting}

@@ -1,13 +1,12 @@
 -- The lines of a text, taken from its beginning one after another.
-use Rattle.std.proofs.Common.{◌≡◌, ◌≢◌, ℕ, suc, ◌+◌, ◌<◌, ◌≤◌, true, false, cond, List, [], ◌∷◌, ◌++◌, length, take, drop, map, Option, None, refl, sym, ap, ◌∙◌, subst, arith, nat_lt}
-use Rattle.std.specs.Prelude.{◌==◌}
+use Rattle.std.proofs.Common.{◌≡◌, ℕ, ◌+◌, ◌<◌, ◌≤◌, true, false, cond, List, [], ◌∷◌, ◌++◌, length, take, map, Option, None, refl, sym, ap, ◌∙◌, subst, arith, nat_lt}
 use Rattle.std.proofs.lemmas.List.{append_assoc, map-append, drop_all}
-use Rattle.std.proofs.lemmas.Bool.{cases_eq, cases_lt}
+use Rattle.std.proofs.lemmas.Bool.{cases_lt}
 use Rattle.std.proofs.lemmas.Bool.Decides.{nat_tests}
 use mathlib.Core.Logic.{⊎_elim}
 use Rattle.wind_base.specs.Lines.{line_length}
-use Rattle.text_lines.specs.Lines.{pieces, after_line}
-use Rattle.text_lines.proofs.Cutting.{first_piece, one_piece, more_pieces}
+use Rattle.source_text.specs.Lines.{pieces, after_line}
+use Rattle.source_text.proofs.Cutting.{first_piece, one_piece, more_pieces}
 use Rattle.tick_file.specs.Grammar.{said}
 use Rattle.std.specs.declared.cmp.Reverse.{Reverse}
 use Rattle.tick_file.specs.declared.event.Said.{Said}

@@ -6,9 +6,9 @@ use Rattle.std.specs.List.Sorted.{ties}
 use Rattle.std.proofs.lemmas.List.Sorted.{All-permutation, sum_by-IsPermutation}
 use Rattle.std.proofs.lemmas.List.Elements.{All-from_recursion, recursion_from_All}
 use Rattle.std.proofs.lemmas.List.Sums.{sum_by-cons, sum_by-append}
-use Rattle.wind_lists.specs.Sorting.{insert_sorted, sorted}
-use Rattle.wind_lists.proofs.Sorting.{InOrder, in_order_sorted}
-use Rattle.wind_lists.proofs.Orders.{IsPermutation-sorted, not_before_itself}
+use Rattle.id_table.specs.Sorting.{insert_sorted, sorted}
+use Rattle.id_table.proofs.Sorting.{InOrder, in_order_sorted}
+use Rattle.id_table.proofs.Orders.{IsPermutation-sorted, not_before_itself}
 
 module _ {X : Type 0} where
   pub all_both : (P : X → Type 0) (xs ys : List X) → AllByRecursion P xs → AllByRecursion P ys → AllByRecursion P (xs ++ ys)

@@ -11,9 +11,9 @@ use Rattle.std.proofs.lemmas.List.Elements.{All-from_recursion, Contains-append_
 use Rattle.std.proofs.lemmas.List.Kept.{AllPairs-cons}
 use Rattle.std.proofs.lemmas.List.Sums.{sum_by-cons, sum_by-append}
 use Rattle.std.proofs.lemmas.Grind.{flat_map-append}
-use Rattle.wind_lists.specs.Sorting.{sorted}
-use Rattle.wind_lists.proofs.Sorting.{InOrder, in_order_sorted}
-use Rattle.wind_lists.proofs.Orders.{IsPermutation-sorted, not_before_itself}
+use Rattle.id_table.specs.Sorting.{sorted}
+use Rattle.id_table.proofs.Sorting.{InOrder, in_order_sorted}
+use Rattle.id_table.proofs.Orders.{IsPermutation-sorted, not_before_itself}
 use Rattle.tick_file.specs.declared.event.Event.{Event}
 use Rattle.tick_file.specs.declared.event.Rule.{Rule}
 use Rattle.tick_file.specs.declared.event.Rule.TheVariants.{At, Every}
@@ -23,8 +23,8 @@ use Rattle.tick_file.specs.Grammar.{said}
 use Rattle.tick_file.specs.Lines.{rule_at, rules_from, tick_lines, rules_of}
 use Rattle.tick_file.specs.Schedule.{Timed, events_from, events_at, events_of, place_of, before, timetable_of}
 use Rattle.tick_file.specs.Laws.{joined, HasNoEnd, PiecesLaw, AsksAt, TimetableLaw}
-use Rattle.text_lines.specs.Lines.{pieces, onto_first}
-use Rattle.text_lines.proofs.Cutting.{first_piece, pieces_end, pieces_on}
+use Rattle.source_text.specs.Lines.{pieces, onto_first}
+use Rattle.source_text.proofs.Cutting.{first_piece, pieces_end, pieces_on}
 use Rattle.tick_file.proofs.Events.{order, one_place}
 
 -- ---- the pieces of a text

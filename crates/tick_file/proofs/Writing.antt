@@ -10,7 +10,7 @@ use Rattle.std.proofs.lemmas.Bool.Decides.{nat_tests}
 use Rattle.std.proofs.lemmas.List.{append_assoc}
 use Rattle.std.proofs.lemmas.Fmt.{digits_decimal, decimal_is_IsNumeral, decimal_nonempty, length-decimal-le}
 use Rattle.std.proofs.lemmas.Str.Parse.{IsNumeralModel, numerals_by_value, tells_all_ascii_digits}
-use Rattle.wind_lists.specs.Sorting.{sorted}
+use Rattle.id_table.specs.Sorting.{sorted}
 use Rattle.wind_base.specs.Limits.{greatest_word}
 use Rattle.tick_file.specs.declared.event.Event.{Event}
 use Rattle.tick_file.specs.declared.event.Event.TheVariants.{Tick, Rx, Irq}
@@ -22,8 +22,8 @@ use Rattle.tick_file.specs.Lines.{lines_of, tick_lines, Numbered, rule_at, rules
 use Rattle.tick_file.specs.Schedule.{Timed, Timetable, events_of, before, brings_bytes, event_of, in_order, timetable_of}
 use Rattle.tick_file.specs.Writing.{event_line, recorded, numbered, IsInRange, AreRecordable, bring_no_bytes, WritingLaw, MoreLaw, LongerLaw}
 use Rattle.tick_file.proofs.FormLemmas.{grammar}
-use Rattle.text_lines.specs.Lines.{pieces, onto_first}
-use Rattle.text_lines.proofs.Cutting.{pieces_on}
+use Rattle.source_text.specs.Lines.{pieces, onto_first}
+use Rattle.source_text.proofs.Cutting.{pieces_on}
 use Rattle.tick_file.proofs.LineLemmas.{lines_more, rules_done, bad_done}
 use Rattle.tick_file.proofs.Merging.{all_both, sorted_head}
 

@@ -4,8 +4,8 @@ use Rattle.std.specs.List.{list_all, position_or_len, prefix_len}
 use Rattle.std.specs.Str.{bytes_eq}
 use Rattle.wind_base.specs.Decimal.{decimal_value}
 use Rattle.wind_base.specs.Limits.{greatest_word, longest_chunk, most_slots}
-use Rattle.text_lines.specs.Words.{is_blank as parts_words}
-use Rattle.text_lines.specs.declared.words.Blanks.TheVariants.{SpacesAndTabs}
+use Rattle.source_text.specs.Blanks.{is_blank as parts_words}
+use Rattle.source_text.specs.declared.words.Blanks.TheVariants.{SpacesAndTabs}
 use Rattle.tick_file.specs.declared.event.Event.TheVariants.{Tick, Rx, Irq}
 use Rattle.tick_file.specs.declared.event.Rule.{Rule}
 use Rattle.tick_file.specs.declared.event.Rule.TheVariants.{At, Every}

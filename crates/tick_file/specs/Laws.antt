@@ -6,7 +6,7 @@ use Rattle.tick_file.specs.declared.event.Rule.TheVariants.{At, Every}
 use Rattle.tick_file.specs.declared.event.Said.{Said}
 use Rattle.tick_file.specs.declared.event.Said.TheVariants.{Says, Outside}
 use Rattle.tick_file.specs.Grammar.{said}
-use Rattle.text_lines.specs.Lines.{pieces}
+use Rattle.source_text.specs.Lines.{pieces}
 use Rattle.tick_file.specs.Lines.{tick_lines, Numbered, rules_of, first_bad_line}
 use Rattle.tick_file.specs.Schedule.{Timed, before, timetable_of}
 

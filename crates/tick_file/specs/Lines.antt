@@ -1,7 +1,7 @@
 -- The lines of a tick file.
 use Rattle.std.specs.Prelude.{ℕ, ◌+◌, ◌-◌, ◌==◌, ◌≡◌, nat_lt, if◌then◌else◌, List, [], ◌∷◌, ◌++◌, length, take, slice_index, Option, None, Some}
 use Rattle.wind_base.specs.Lines.{line_length}
-use Rattle.text_lines.specs.Lines.{pieces}
+use Rattle.source_text.specs.Lines.{pieces}
 use Rattle.tick_file.specs.declared.event.Rule.{Rule}
 use Rattle.tick_file.specs.declared.event.Said.{Said}
 use Rattle.tick_file.specs.declared.event.Said.TheVariants.{Nothing, Says, Outside}

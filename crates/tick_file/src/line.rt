@@ -5,7 +5,7 @@ ghost use Rattle.std.specs.List.{list_all};
 ghost use Rattle.tick_file.specs.Grammar.{is_blank as is_blank_lem, first_word, after_word, word_number, tick_rule as tick_rule_lem, rx_rule as rx_rule_lem, every_rule as every_rule_lem, irq_rule as irq_rule_lem, irqs_rule as irqs_rule_lem, rule_of as rule_of_lem, is_comment as is_comment_lem, said as said_lem};
 
 use crate::event::{Event, Rule, Said};
-use text_lines::Blanks;
+use source_text::Blanks;
 use wind_base::decimal;
 use wind_base::limits::SLOTS;
 

@@ -11,9 +11,9 @@ use crate::line::said;
 use crate::lines::first_line;
 use crate::pending::{Pending, at_start};
 use crate::schedule::Schedule;
+use source_text::after_line;
 use std::alloc::Global;
 use std::cmp::Reverse;
-use text_lines::after_line;
 use thiserror::Error;
 use wind_base::NoMemory;
 

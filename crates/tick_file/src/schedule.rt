@@ -4,7 +4,7 @@ ghost use Rattle.std.specs.Prelude.{◌≡◌, ◌<◌, ◌≤◌, ◌-◌, ◌^
 ghost use Rattle.std.specs.List.{All};
 ghost use Rattle.std.specs.Option.{option_map};
 ghost use Rattle.std.specs.BinaryHeap.{heap_items};
-ghost use Rattle.wind_lists.specs.Sorting.{first};
+ghost use Rattle.id_table.specs.Sorting.{first};
 ghost use Rattle.tick_file.specs.Schedule.{at, brings_bytes as brings_bytes_lem};
 ghost use Rattle.tick_file.specs.Inside.{IsKept, IsSound, Agree, waiting};
 

@@ -8,9 +8,9 @@ use crate::palette::{STANDINGS, STYLE, place, word};
 use crate::rows::{ROW, RowName, add_row, add_task, bar};
 use crate::scale::{LEFT, Scale, WIDTH};
 use crate::svg::{Area, add_area, add_attribute, add_text, add_times};
+use board_changes::Span;
 use id_table::Ident;
 use kernel_world::Actor;
-use task_spans::Span;
 use trace_text::add;
 use wind_base::NoMemory;
 

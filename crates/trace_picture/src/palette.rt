@@ -3,7 +3,7 @@
 
 ghost use Rattle.std.specs.Prelude.{◌≤◌};
 
-use task_spans::Standing;
+use board_changes::Standing;
 
 /// The style of the picture: each class of shapes, with its colour.
 pub(crate) const STYLE: &[u8] = b"<style>

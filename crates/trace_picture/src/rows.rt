@@ -6,8 +6,8 @@ ghost use Rattle.std.specs.Prelude.{◌≡◌, ◌<◌, ◌≤◌, ◌^◌, IfOk
 use crate::palette::{STANDINGS, place, word};
 use crate::scale::Scale;
 use crate::svg::{Area, add_area, add_object, add_times, add_xml};
+use board_changes::{Span, Standing};
 use id_table::Ident;
-use task_spans::{Span, Standing};
 use trace_text::{add, add_decimal, add_wide};
 use wind_base::{NoMemory, ShortName};
 

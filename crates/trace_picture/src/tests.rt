@@ -3,11 +3,10 @@
 use crate::rows::add_row;
 use crate::scale::Scale;
 use crate::{Kind, Mark, Picture, RowName, add_picture};
-use board_changes::Awaited;
+use board_changes::{Awaited, Look, Span, Standing};
 use id_table::Ident;
 use kernel_world::Actor;
 use std::test::Fail;
-use task_spans::{Look, Span, Standing};
 use wind_base::ShortName;
 
 // A row of the tests.

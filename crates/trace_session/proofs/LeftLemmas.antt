@@ -3,10 +3,11 @@ use Rattle.std.proofs.Common.{◌≡◌, ◌≢◌, ℕ, List, ◌++◌, Option,
 use Rattle.std.specs.Option.{option_map}
 use Rattle.wind_outside.specs.Files.{Files}
 use Rattle.wind_outside.specs.Requests.{GrowsBy, Request}
-use Rattle.wind_session.specs.MachineState.{State}
-use Rattle.wind_session.specs.Run.{Answers}
+use Rattle.wind_session.specs.WindMachineState.{State}
+use Rattle.wind_session.specs.WindMachineRun.{Answers}
 use Rattle.wind_session.specs.Command.{CommandState}
 use Rattle.wind_session.specs.Headline.{IsComplete, IsPlayed, status_of}
+use Rattle.wind_session.specs.Keeping.{Around, FolderFailed, SinkFailed}
 use Rattle.wind_session.specs.Modules.{Shelf}
 use Rattle.wind_session.specs.Outside.{Outside}
 use Rattle.wind_session.specs.declared.run.RunEnd.{RunEnd}
@@ -14,10 +15,10 @@ use Rattle.wind_session.specs.declared.run.RunEnd.TheVariants as ends
 use Rattle.wind_session.specs.declared.ending.Status.{Status}
 use Rattle.wind_session.specs.declared.ending.Status.TheVariants as status
 use Rattle.wind_session.proofs.InputLemmas.{made_there}
-use Rattle.task_spans.specs.Spans.{SpanState}
-use Rattle.trace_run.specs.Forms.{TellsForm, TellsLess}
-use Rattle.trace_run.specs.Traced.{Traced}
-use Rattle.trace_run.specs.declared.forms.Form.{Form}
+use Rattle.board_changes.specs.Spans.{SpanState}
+use Rattle.trace_session.specs.Forms.{TellsForm, TellsLess}
+use Rattle.trace_session.specs.Traced.{Traced}
+use Rattle.trace_session.specs.declared.forms.Form.{Form}
 use Rattle.trace_session.specs.Headline.{IsLeft}
 
 -- ---- the status
@@ -38,11 +39,11 @@ status_known ends.NoMemory = λ e. cc
 
 module _ (form : Form) (spans : Option SpanState) (s : Status) (shelf : Shelf) (start : State) (limit : ℕ) (board : State) (old new : Outside) where
   -- without a fault, the session was played
-  pub complete_left : (c : CommandState) (files : Option Files) (rose out_rose : Type 0) → (s ≡ status.ReadFault → rose) → (s ≡ status.WriteFault → out_rose)
-      → IsLeft form spans s shelf start limit board old new → IsComplete s (Some c) files rose out_rose
-  complete_left c files rose out_rose read write (inl (end, is, traced)) =
-      λ there fine out_fine. subst IsPlayed (sym is) (status_played end rose out_rose (λ e. read (is ∙ e)) (λ e. write (is ∙ e)) fine out_fine)
-  complete_left c files rose out_rose read write (inr (is, traced)) = λ there fine out_fine. subst IsPlayed (sym is) tt
+  pub complete_left : (c : CommandState) (before after : Around) → (s ≡ status.ReadFault → FolderFailed before after) → (s ≡ status.WriteFault → SinkFailed before after)
+      → IsLeft form spans s shelf start limit board old new → IsComplete s (Some c) before after
+  complete_left c before after read write (inl (end, is, traced)) =
+      λ there fine out_fine. subst IsPlayed (sym is) (status_played end (FolderFailed before after) (SinkFailed before after) (λ e. read (is ∙ e)) (λ e. write (is ∙ e)) fine out_fine)
+  complete_left c before after read write (inr (is, traced)) = λ there fine out_fine. subst IsPlayed (sym is) tt
 
   -- the arguments were a command
   pub known_left : IsLeft form spans s shelf start limit board old new → s ≢ status.Usage

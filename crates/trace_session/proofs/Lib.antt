@@ -1,3 +1,11 @@
+pub mod Bursts
+pub mod Counts
+pub mod LineLaws
+pub mod Lines
+pub mod Puts
+pub mod Seeing
+pub mod SilentLines
+pub mod Telling
 mod CommandLemmas
 mod LeftLemmas
 mod ProgramLemmas

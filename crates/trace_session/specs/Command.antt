@@ -4,8 +4,8 @@ use Rattle.std.specs.Option.{option_map}
 use Rattle.std.specs.Str.{bytes_eq}
 use Rattle.clap.specs.Words.{App, Row, Text, new_app}
 use Rattle.wind_session.specs.Command.{CommandState, command_of_rows as session_of_rows, if_valid, rows_given, value_of, with_option, with_session_options}
-use Rattle.trace_run.specs.declared.forms.Form.{Form}
-use Rattle.trace_run.specs.declared.forms.Form.TheVariants.{Events, Timeline, State}
+use Rattle.trace_session.specs.declared.forms.Form.{Form}
+use Rattle.trace_session.specs.declared.forms.Form.TheVariants.{Events, Timeline, State}
 
 -- a command: the form in which a session is told, and the session
 pub record TraceState : Type 0 where

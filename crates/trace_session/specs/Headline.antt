@@ -3,12 +3,12 @@ use Rattle.std.specs.Prelude.{◌≡◌, ◌⊎◌, ℕ, List, Option, Vec, Some
 use Rattle.std.specs.declared.dyn_box.DynBox.{DynBox}
 use Rattle.std.specs.declared.alloc.Global.{Global}
 use Rattle.wind_outside.specs.Devices.{DeviceState}
-use Rattle.wind_outside.specs.Files.{Files}
 use Rattle.tick_file.specs.Schedule.{Timetable}
-use Rattle.wind_session.specs.MachineState.{State}
-use Rattle.wind_session.specs.Machine.{opening}
-use Rattle.wind_session.specs.Board.{Board}
-use Rattle.wind_session.specs.Headline.{NotPlayed, fetch_fault, rounds_of, shelf_of, status_of}
+use Rattle.wind_session.specs.WindMachineState.{State}
+use Rattle.wind_session.specs.WindMachineMachine.{opening}
+use Rattle.wind_session.specs.BoardPlayerBoard.{Board}
+use Rattle.wind_session.specs.Headline.{IsNotPlayed, shelf_of, status_of}
+use Rattle.wind_session.specs.Keeping.{Around}
 use Rattle.wind_session.specs.Modules.{Shelf}
 use Rattle.wind_session.specs.Outside.{Outside, with_inputs}
 use Rattle.wind_session.specs.Plan.{Plan, Start, IsPlan}
@@ -17,10 +17,10 @@ use Rattle.wind_session.specs.declared.ending.Status.{Status}
 use Rattle.wind_session.specs.declared.ending.Status.TheVariants as status
 use Rattle.wind_session.specs.declared.ending.Stand.{Stand}
 use Rattle.wind_session.specs.declared.ending.Stand.TheVariants as stands
-use Rattle.task_spans.specs.Spans.{SpanState}
-use Rattle.trace_run.specs.Forms.{TellsForm, TellsLess}
-use Rattle.trace_run.specs.Traced.{Traced}
-use Rattle.trace_run.specs.declared.forms.Form.{Form}
+use Rattle.board_changes.specs.Spans.{SpanState}
+use Rattle.trace_session.specs.Forms.{TellsForm, TellsLess}
+use Rattle.trace_session.specs.Traced.{Traced}
+use Rattle.trace_session.specs.declared.forms.Form.{Form}
 use Rattle.trace_session.specs.Command.{TraceState, session_of}
 
 -- the status is that of the run, or of a failed put; or memory ran out for the trace
@@ -29,27 +29,26 @@ IsLeft form spans s shelf start limit board old new =
     ((result : RunEnd) × (s ≡ status_of result) × Traced (TellsForm form spans result start old.bytes new.bytes) shelf start limit board old.requests new.requests)
     ⊎ ((s ≡ status.NoMemory) × Traced (TellsLess form start old.bytes new.bytes) shelf start limit board old.requests new.requests)
 
--- a board was played for a trace: the wind machine's, started with the console, the events of the tick file and these
--- devices, and given the files of modules that it needed
-pub record TracedBoard (s : Status) (plan : Plan) (command : TraceState) (spans : Option SpanState) (shelf : Shelf) (devices : List (Option DeviceState)) (board : State) (old new : Outside) : Type 0 where
+-- a command was played for a trace on this board: the wind machine's, started with the console, the events of the tick
+-- file, these devices, and the rule and kind of the command, and given the files of modules that it needed
+pub record TracedBoard (s : Status) (plan : Plan) (command : TraceState) (spans : Option SpanState) (devices : List (Option DeviceState)) (board : State) (before after : Around) : Type 0 where
   pub console : List ℕ
   pub schedule : Timetable
   pub planned : plan ≡ Start console schedule
-  pub left : IsLeft command.form spans s shelf (opening console schedule devices command.session.profile command.session.board) command.session.limit board old new
+  pub left : IsLeft command.form spans s (shelf_of before.files command.session) (opening console schedule devices command.session.profile command.session.board) command.session.limit board (with_inputs command.session before.logged) after.logged
 
 -- a command is there, and its board was played
-abbrev pub IsTraced : Status → Plan → Option TraceState → Option SpanState → Option Files → List (Option DeviceState) → State → Outside → Outside → Type 0
-IsTraced s plan None spans files devices board old new = ⊥
-IsTraced s plan (Some command) spans files devices board old new =
-    TracedBoard s plan command spans (shelf_of files (Some command.session)) devices board (with_inputs (Some command.session) old) new
+abbrev pub IsTraced : Status → Plan → Option TraceState → Option SpanState → List (Option DeviceState) → State → Around → Around → Type 0
+IsTraced s plan None spans devices board before after = ⊥
+IsTraced s plan (Some command) spans devices board before after = TracedBoard s plan command spans devices board before after
 
 -- what is left: the slots as they were, or the board of a run
-abbrev pub Leaves : {I : Type 0} {X : I → Type 0} → (Board I X → State) → Status → Stand I X → Option SpanState → Plan → Option TraceState → Option Files → Type 0 → Vec (Option (DynBox I Global X)) Global → List (Option DeviceState) → Outside → Outside → Type 0
-Leaves state s (stands.NotBooted back) spans plan command files fault slots devices old new = (back ≡ slots) × NotPlayed s plan (session_of command) fault old new
-Leaves state s (stands.Booted board) spans plan command files fault slots devices old new = IsTraced s plan command spans files devices (state board) old new
+abbrev pub Leaves : {I : Type 0} {X : I → Type 0} → (Board I X → State) → Status → Stand I X → Option SpanState → Plan → Option TraceState → Vec (Option (DynBox I Global X)) Global → List (Option DeviceState) → Around → Around → Type 0
+Leaves state s (stands.NotBooted back) spans plan command slots devices before after = (back ≡ slots) × IsNotPlayed s plan (session_of command) before after
+Leaves state s (stands.Booted board) spans plan command slots devices before after = IsTraced s plan command spans devices (state board) before after
 
--- tracing a command leaves what the wind machine leaves; `rose` says that the folder's count of faults rose
-pub record Traces {I : Type 0} {X : I → Type 0} (state : Board I X → State) (s : Status) (stand : Stand I X) (spans : Option SpanState) (command : Option TraceState) (files : Option Files) (rose : Type 0) (slots : Vec (Option (DynBox I Global X)) Global) (devices : List (Option DeviceState)) (old new : Outside) : Type 0 where
+-- tracing a command leaves what the wind machine leaves
+pub record Traces {I : Type 0} {X : I → Type 0} (state : Board I X → State) (s : Status) (stand : Stand I X) (spans : Option SpanState) (command : Option TraceState) (slots : Vec (Option (DynBox I Global X)) Global) (devices : List (Option DeviceState)) (before after : Around) : Type 0 where
   pub plan : Plan
-  pub planned : IsPlan files (session_of command) plan
-  pub leaves : Leaves state s stand spans plan command files (fetch_fault (rounds_of (session_of command)) rose) slots devices old new
+  pub planned : IsPlan before.files (session_of command) plan
+  pub leaves : Leaves state s stand spans plan command slots devices before after

@@ -1,3 +1,10 @@
+pub mod Bursts
+pub mod Forms
+pub mod Laws
+pub mod Spans
+pub mod Steps
+pub mod Telling
+pub mod Traced
 pub mod Command
 pub mod Headline
 pub mod Program

@@ -2,14 +2,14 @@
 
 ghost use Rattle.std.specs.Prelude.{◌≡◌, ◌≢◌, ◌≤◌, IfOk, IfErr, Some, None, map};
 ghost use Rattle.clap.specs.Words.{app_of};
-ghost use Rattle.generated_session.specs.Session.{most_rounds};
+ghost use Rattle.wind_session.specs.Command.{HasFewRounds};
 ghost use Rattle.trace_session.specs.Command.{app as app_lem, command_of as command_of_lem, form_named as form_named_lem};
 ghost use Rattle.trace_session.specs.Words.{trace_state};
 ghost use Rattle.wind_base.specs.Limits.{most_steps};
 ghost use Rattle.wind_session.specs.declared.command.CommandErr.TheVariants as errors;
 
+use crate::Form;
 use std::alloc::{AllocError, Global};
-use trace_run::Form;
 use wind_session::{
     Command, CommandErr, command_line, command_of_matches, matches_of, option, valid, value_of,
     with_session_options,
@@ -67,7 +67,7 @@ pub fn trace_command_of<'a>(
 ) -> Result<TraceCommand<'a>, CommandErr>
     ensures value { IfOk result (λ c. command_of_lem (map (λ w. w.now) words.now) ≡ Some (trace_state c)) }
     ensures usage { IfErr result (λ e. e ≢ errors.NoMemory → command_of_lem (map (λ w. w.now) words.now) ≡ None) }
-    ensures within { IfOk result (λ c. (c.session.limit ≤ most_steps) × (c.session.generate ≤ most_rounds)) }
+    ensures within { IfOk result (λ c. (c.session.limit ≤ most_steps) × HasFewRounds c.session.source) }
 {
     let mut app = app(alloc)?;
     let matches = matches_of(alloc, &mut app, words)?;

@@ -1,6 +1,6 @@
 //! How a traced session ended.
 
-use task_spans::Spans;
+use board_changes::Spans;
 use wind_session::{Stand, Status};
 
 /// How a traced session ended, and what it left.

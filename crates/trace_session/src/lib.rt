@@ -1,14 +1,23 @@
-//! A traced session: what the arguments ask for, the run of a board and what is told of it, and how
-//! the run ended.
+//! A traced session: what the arguments ask for, the run of a board and what is told of it, as lines,
+//! as a picture or as the board that it leaves, and how the run ended.
 #![tactic(auto)]
 
 mod command;
 mod ending;
+mod events;
+mod forms;
+mod laws;
+mod observer;
 mod playing;
 mod program;
+mod reader;
+mod run;
+mod timeline;
+mod tracer;
 
 pub use command::{TraceCommand, trace_command_of};
 pub use ending::TraceEnding;
+pub use forms::{Form, TracedRun, trace_board};
+pub use laws::lines_law;
 pub use playing::trace;
 pub use program::trace_program;
-pub use trace_run::Form;

@@ -2,18 +2,17 @@
 
 ghost use Rattle.std.specs.Prelude.{◌≡◌, ◌≢◌, ◌≤◌, ◌↔◌, None, Some, codes, length, map};
 ghost use Rattle.wind_base.specs.Limits.{most_slots, most_steps};
-ghost use Rattle.generated_session.specs.Session.{most_rounds};
 ghost use Rattle.wind_outside.specs.{Counts.Rose, Devices.slots_of};
-ghost use Rattle.wind_session.specs.{Keeping.KeepsFiles, BoardSeen.seen, Headline.{IsComplete, IsKept}, Outside.outside, Texts.Tells};
+ghost use Rattle.wind_session.specs.{Command.HasFewRounds, Keeping.{KeepsFiles, around, messages}, BoardPlayerSeen.seen, Headline.{IsComplete, IsKept}, Outside.outside, Texts.Tells};
 ghost use Rattle.wind_session.specs.declared.ending.Stand.TheVariants as stands;
 ghost use Rattle.wind_session.specs.declared.ending.Status.TheVariants as status;
 ghost use Rattle.trace_session.specs.{Command.{command_of, session_of}, Headline.{IsLeft, Traces}, Words.{trace_state as trace_state_lem}};
 
 use crate::command::{PROGRAM, TraceCommand, trace_command_of};
 use crate::ending::TraceEnding;
+use crate::trace_board;
+use board_changes::Spans;
 use std::alloc::Global;
-use task_spans::Spans;
-use trace_run::trace_board;
 use wind_base::NoMemory;
 use wind_outside::{Device, Folder, Sink, Slots};
 use wind_session::{
@@ -81,14 +80,14 @@ fn session<F: Folder, O: Sink>(
 ) -> TraceEnding
     requires devices { length devices.items ≤ most_slots }
     requires limit { command.now.session.limit ≤ most_steps }
-    requires rounds { command.now.session.generate ≤ most_rounds }
+    requires rounds { HasFewRounds command.now.session.source }
     ensures machine { Traces (seen ⟦<dyn Device as Device>⟧) result.status result.stand result.spans
-        (Some (trace_state_lem command.now)) (F.files folder.old)
-        (Rose (F.faults folder.old) (F.faults folder.new)) devices (slots_of kind_of words_of devices.items)
-        (outside (F.requests folder.old) (O.bytes out.old) (O.pieces out.old))
-        (outside (F.requests folder.new) (O.bytes out.new) (O.pieces out.new)) }
-    ensures complete { IsComplete result.status (session_of (Some (trace_state_lem command.now))) (F.files folder.old)
-        (Rose (F.faults folder.old) (F.faults folder.new)) (Rose (O.faults out.old) (O.faults out.new)) }
+        (Some (trace_state_lem command.now)) devices (slots_of kind_of words_of devices.items)
+        (around ⟦<F as Folder>⟧ ⟦<O as Sink>⟧ folder.old out.old)
+        (around ⟦<F as Folder>⟧ ⟦<O as Sink>⟧ folder.new out.new) }
+    ensures complete { IsComplete result.status (session_of (Some (trace_state_lem command.now)))
+        (around ⟦<F as Folder>⟧ ⟦<O as Sink>⟧ folder.old out.old)
+        (around ⟦<F as Folder>⟧ ⟦<O as Sink>⟧ folder.new out.new) }
     ensures known { result.status ≢ status.Usage }
     ensures kept { IsKept (seen ⟦<dyn Device as Device>⟧) result.stand }
     ensures read_fault { result.status ≡ status.ReadFault → Rose (F.faults folder.old) (F.faults folder.new) }
@@ -128,22 +127,21 @@ pub fn trace<'a, F: Folder, O: Sink, E: Sink>(
 ) -> TraceEnding
     requires { length devices.items ≤ most_slots }
     ensures machine { Traces (seen ⟦<dyn Device as Device>⟧) result.status result.stand result.spans
-        (command_of (map (λ w. w.now) words.now)) (F.files folder.old)
-        (Rose (F.faults folder.old) (F.faults folder.new)) devices (slots_of kind_of words_of devices.items)
-        (outside (F.requests folder.old) (O.bytes out.old) (O.pieces out.old))
-        (outside (F.requests folder.new) (O.bytes out.new) (O.pieces out.new)) }
+        (command_of (map (λ w. w.now) words.now)) devices (slots_of kind_of words_of devices.items)
+        (around ⟦<F as Folder>⟧ ⟦<O as Sink>⟧ folder.old out.old)
+        (around ⟦<F as Folder>⟧ ⟦<O as Sink>⟧ folder.new out.new) }
     ensures usage { result.status ≢ status.NoMemory →
         ((result.status ≡ status.Usage) ↔ (command_of (map (λ w. w.now) words.now) ≡ None)) }
     ensures complete { IsComplete result.status (session_of (command_of (map (λ w. w.now) words.now)))
-        (F.files folder.old) (Rose (F.faults folder.old) (F.faults folder.new))
-        (Rose (O.faults out.old) (O.faults out.new)) }
+        (around ⟦<F as Folder>⟧ ⟦<O as Sink>⟧ folder.old out.old)
+        (around ⟦<F as Folder>⟧ ⟦<O as Sink>⟧ folder.new out.new) }
     ensures kept { IsKept (seen ⟦<dyn Device as Device>⟧) result.stand }
     ensures read_fault { result.status ≡ status.ReadFault → Rose (F.faults folder.old) (F.faults folder.new) }
     ensures write_fault { result.status ≡ status.WriteFault → Rose (O.faults out.old) (O.faults out.new) }
     ensures keeps { KeepsFiles ⟦<F as Folder>⟧ ⟦<O as Sink>⟧ folder.old out.old folder.new out.new }
     ensures err_faults { E.faults err.old ≤ E.faults err.new }
     ensures err { Tells (codes "windtrace") result.status (session_of (command_of (map (λ w. w.now) words.now)))
-        (E.bytes err.old) (E.bytes err.new) (Rose (E.faults err.old) (E.faults err.new)) }
+        (messages ⟦<E as Sink>⟧ err.old) (messages ⟦<E as Sink>⟧ err.new) }
 {
     let command = match trace_command_of(alloc, words) {
         Ok(command) => command,

@@ -2,11 +2,11 @@
 use Rattle.std.proofs.Common.{◌≡◌, ℕ, ◌+◌, Bool, true, false, if◌then◌else◌, List, [], ◌∷◌, ◌++◌, Option, None, Some, refl, sym, ap, subst, ◌∙◌, append_assoc}
 use Rattle.std.specs.Prelude.{is_some}
 use Rattle.std.proofs.lemmas.List.{append-nil}
-use Rattle.board_trace.specs.Runs.{Line, joined, joined_or, same_actor, with_line}
+use Rattle.board_trace.specs.Runs.{Line, joined, joined_or, with_line}
 use Rattle.board_trace.specs.declared.happening.Happening.{Happening}
 use Rattle.board_trace.specs.declared.happening.Happening.TheVariants as told
 use Rattle.trace_text.specs.Lines.{line_text, lines_text}
-use Rattle.trace_text.specs.Pages.{EndsBy, Waits, growing_text, grown, is_instructions, joined_line, may_grow}
+use Rattle.trace_text.specs.Pages.{EndsBy, growing_text, grown, is_instructions, joined_line, may_grow}
 
 -- ---- only instructions are joined, and only with instructions
 joined_first : (h g : Happening) → is_instructions h ≡ false → joined h g ≡ None
@@ -21,12 +21,6 @@ joined_second h g e = refl
 if_some : (b : Bool) (h k : Happening) → (if b then Some h else None) ≡ Some k → h ≡ k
 if_some true h k e = cc
 if_some false h k e = absurd (cc)
-
-joined_is : (h g k : Happening) → joined h g ≡ Some k → is_instructions k ≡ true
-joined_is (told.Instructions who n) (told.Instructions other m) k e =
-    ap is_instructions (sym (if_some (same_actor who other) (told.Instructions who (n + m)) k e))
-joined_is (told.Instructions who n) g k e = absurd (cc)
-joined_is h g k e = absurd (cc)
 
 -- ---- lines of their own
 alone_after : (l : Line) (made : List Line) → may_grow made ≡ false → with_line l made ≡ l ∷ made
@@ -49,23 +43,6 @@ apart text (Some newest) l made ends e =
     subst P (sym ends.lines_are) (not_joined (joined newest.what l.what) l newest ends.older e)
 
 -- ---- the page after instructions that were joined with those that wait
-joined_waits : (text : List ℕ) (j : Option Happening) (l newest w : Line) (older : List Line) → ((h : Happening) → j ≡ Some h → is_instructions h ≡ true) → text ≡ lines_text older
-    → joined_line j newest ≡ Some w → Waits w (joined_or j l newest older) text
-joined_waits text None l newest w older are e g = absurd (cc)
-joined_waits text (Some h) l newest w older are e g =
-    let same : record newest { what = h } ≡ w = cc in
-    let P : Line → Type 0 = λ v. Waits v (record newest { what = h } ∷ older) text in
-    subst P same (record { older = older; lines_are = refl; grows = are h refl; text_is = e })
-
-ends_grown : (text : List ℕ) (growing : Option Line) (l w : Line) (made : List Line) → EndsBy text growing made → grown growing l.what ≡ Some w → Waits w (with_line l made) text
-ends_grown text None l w made ends g = absurd (cc)
-ends_grown text (Some newest) l w made ends g =
-    let P : List Line → Type 0 = λ lines. Waits w (with_line l lines) text in
-    subst P (sym ends.lines_are) (joined_waits text (joined newest.what l.what) l newest w ends.older (joined_is newest.what l.what) ends.text_is g)
-
-pub ends_joined : (text : List ℕ) (growing new : Option Line) (l : Line) (made : List Line) → EndsBy text growing made → grown growing l.what ≡ new → is_some new ≡ true → EndsBy text new (with_line l made)
-ends_joined text growing None l made ends g some = absurd (cc)
-ends_joined text growing (Some w) l made ends g some = ends_grown text growing l w made ends g
 
 -- ---- the page after its line that waits got its text
 pub finished : (given text : List ℕ) (growing : Option Line) (made : List Line) → EndsBy (given ++ text) growing made → given ++ (text ++ growing_text growing) ≡ lines_text made

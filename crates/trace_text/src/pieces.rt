@@ -1,11 +1,12 @@
 //! Pieces of text, added to a text that grows.
 
-ghost use Rattle.std.specs.Prelude.{◌≡◌, ◌<◌, ◌++◌, OnOk, false};
-ghost use Rattle.std.specs.Fmt.{decimal, digit_glyph};
+ghost use Rattle.std.specs.Prelude.{◌≡◌, ◌++◌, OnOk};
+ghost use Rattle.std.specs.Fmt.{decimal};
 ghost use Rattle.trace_text.specs.Pieces.{escaped, escaped_byte as escaped_byte_lem, is_plain as is_plain_lem, signed, word_hex};
 
 use itoa::Buffer;
 use wind_base::NoMemory;
+use wind_base::text::glyph;
 
 /// Adds bytes.
 pub fn add(text: &mut Vec<u8>, bytes: &[u8]) -> Result<(), NoMemory>
@@ -49,18 +50,6 @@ pub(crate) fn add_signed(text: &mut Vec<u8>, n: u32) -> Result<(), NoMemory>
     add(text, digits.format(n.cast_signed()).as_bytes())
 }
 
-// The hexadecimal digit of a number below 16.
-fn glyph(digit: u32) -> u8
-    requires { digit < 16 }
-    ensures { result ≡ digit_glyph false digit }
-{
-    if digit < 10 {
-        b'0' + digit as u8
-    } else {
-        b'a' + (digit - 10) as u8
-    }
-}
-
 /// Adds a word as `0x` and its hexadecimal digits.
 pub(crate) fn add_hex(text: &mut Vec<u8>, n: u32) -> Result<(), NoMemory>
     ensures { OnOk result (text.new.items ≡ text.old.items ++ word_hex n) }
@@ -88,7 +77,7 @@ fn add_byte(text: &mut Vec<u8>, byte: u8) -> Result<(), NoMemory>
         return add(text, &[byte]);
     }
     let (high, low) = (u32::from(byte) / 16, u32::from(byte) % 16);
-    add(text, &[b'\\', b'x', glyph(high), glyph(low)])
+    add(text, &[b'\\', b'x', glyph(false, high), glyph(false, low)])
 }
 
 /// Adds bytes, those that aren't plain as `\xNN`.

@@ -7,11 +7,11 @@ use Rattle.std.proofs.lemmas.Bool.{eqb-true, eq-eqb, true≢false}
 use Rattle.std.proofs.lemmas.List.{append-nil}
 use Rattle.std.proofs.lemmas.List.Elements.{All-from_recursion, All-contains, Contains-append_left, Contains-get_or, recursion_from_All}
 use Rattle.std.proofs.lemmas.Option.{same_Some}
-use Rattle.linked_lists.specs.Place.{Place}
-use Rattle.wind_lists.specs.Sorting.{insert_sorted, sorted, first}
-use Rattle.wind_lists.specs.Records.{without}
-use Rattle.wind_lists.proofs.Sorting.{InOrder, in_order_sorted}
-use Rattle.wind_lists.proofs.Places.{none_without}
+use Rattle.linked_lists.specs.IdTablePlace.{Place}
+use Rattle.linked_lists.specs.IdTableSorting.{insert_sorted, sorted, first}
+use Rattle.linked_lists.specs.IdTableRecords.{without}
+use Rattle.linked_lists.proofs.IdTableSorting.{InOrder, in_order_sorted}
+use Rattle.linked_lists.proofs.IdTablePlaces.{none_without}
 use Rattle.linked_lists.specs.Chains.{Chains, cell_key, chain_at, put_before, value_in, value_of, with_cell, without_cell, NextIs, Apart}
 use Rattle.wait_order.specs.declared.waits.Waiter.{Waiter}
 use Rattle.wait_order.specs.declared.fronts.Front.{Front}

@@ -5,9 +5,9 @@ use Rattle.std.specs.Option.{option_map}
 use Rattle.std.specs.List.{AllByRecursion}
 use Rattle.std.proofs.lemmas.Bool.{eqb-false, true≢false}
 use Rattle.std.proofs.lemmas.Option.{same_Some}
-use Rattle.linked_lists.specs.Place.{Place}
-use Rattle.wind_lists.specs.Sorting.{insert_sorted, sorted, first}
-use Rattle.wind_lists.proofs.Sorting.{InOrder, in_order_sorted}
+use Rattle.linked_lists.specs.IdTablePlace.{Place}
+use Rattle.linked_lists.specs.IdTableSorting.{insert_sorted, sorted, first}
+use Rattle.linked_lists.proofs.IdTableSorting.{InOrder, in_order_sorted}
 use Rattle.linked_lists.specs.Chains.{chain_at, value_of, Apart}
 use Rattle.linked_lists.proofs.Links.{apart_remove}
 use Rattle.wait_order.specs.declared.waits.Waiter.{Waiter}

@@ -6,11 +6,11 @@ use Rattle.std.specs.Cmp.{IsStrictWeakOrder}
 use Rattle.std.specs.Cmp.Lexicographic.{nat_list_cmp_total}
 use Rattle.std.proofs.lemmas.List.MinMax.{ranks_by}
 use Rattle.std.proofs.lemmas.List.Elements.{All-contains, All-contains_itself, All-filter}
-use Rattle.linked_lists.specs.Place.{Place}
-use Rattle.wind_lists.specs.Sorting.{first}
-use Rattle.wind_lists.proofs.Orders.{first_least}
-use Rattle.wind_lists.proofs.Passing.{contains_filter, front_passes, none_passes}
-use Rattle.wind_lists.proofs.Places.{gone, of_id-with_record, of_id-without}
+use Rattle.linked_lists.specs.IdTablePlace.{Place}
+use Rattle.linked_lists.specs.IdTableSorting.{first}
+use Rattle.linked_lists.proofs.IdTableOrders.{first_least}
+use Rattle.linked_lists.proofs.IdTablePassing.{contains_filter, front_passes, none_passes}
+use Rattle.linked_lists.proofs.IdTablePlaces.{gone, of_id-with_record, of_id-without}
 use Rattle.wait_order.specs.declared.waits.Waiter.{Waiter}
 use Rattle.wait_order.specs.Line.{Line, waiter_id, waiter_of, without_waiter, key, stands_before, stands_at, line_at}
 use Rattle.wait_order.specs.Laws.{FirstLaw, NobodyLaw, PutLaw, TakeLaw}

@@ -8,7 +8,7 @@ use Rattle.std.specs.Cmp.Lexicographic.{nat_list_cmp_total}
 use Rattle.std.proofs.lemmas.Bool.{eqb-true, eq-eqb, true≢false}
 use Rattle.std.proofs.lemmas.List.Elements.{All-from_recursion}
 use Rattle.std.proofs.lemmas.List.MinMax.{ranks_by}
-use Rattle.linked_lists.specs.Place.{Place}
+use Rattle.linked_lists.specs.IdTablePlace.{Place}
 use Rattle.wait_order.specs.declared.fronts.Front.{Front}
 use Rattle.wait_order.specs.Fronts.{same_place, place_key, place_before, Rises, first_id, front_of, first_from, IsRank, StandsHere, GoesHere, IsPut}
 
@@ -98,11 +98,6 @@ goes_here (f ∷ fs) p zero up at other =
     (before, all_are (λ g. place_before f.place g.place ≡ true) (λ g. place_before p g.place ≡ true) (λ g q. before_chain place_before place_order p f.place g.place before q) fs up.0)
 goes_here [] p (suc i) up at other = at
 goes_here (f ∷ fs) p (suc i) up at other = (at.0, goes_here fs p i up.1 at.1 (λ d h. other d (omega (arith, h))))
-
-pub stands_within : (fs : List Front) (p : Place) (i : ℕ) → StandsHere fs p i → i < length fs
-stands_within [] p i at = absurd at
-stands_within (f ∷ fs) p zero at = omega arith
-stands_within (f ∷ fs) p (suc i) at = omega (arith, stands_within fs p i at.1)
 
 pub goes_within : (fs : List Front) (p : Place) (i : ℕ) → GoesHere fs p i → i ≤ length fs
 goes_within fs p zero at = omega arith

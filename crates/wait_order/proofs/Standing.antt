@@ -9,12 +9,12 @@ use Rattle.std.proofs.lemmas.Bool.{true≢false}
 use Rattle.std.proofs.lemmas.List.{append-nil, length-map}
 use Rattle.std.proofs.lemmas.List.MinMax.{ranks_by}
 use Rattle.std.proofs.lemmas.List.Sorted.{IsStrictWeakOrder-by_number}
-use Rattle.linked_lists.specs.Place.{Place}
-use Rattle.wind_lists.specs.Sorting.{insert_sorted, sorted}
-use Rattle.wind_lists.specs.Records.{of_id, with_record, without, Rising}
-use Rattle.wind_lists.proofs.Sorting.{InOrder, in_order_sorted, filter-sorted, all_insert}
-use Rattle.wind_lists.proofs.Orders.{sorted_same, IsPermutation-sorted}
-use Rattle.wind_lists.proofs.Places.{Rising-with_record}
+use Rattle.linked_lists.specs.IdTablePlace.{Place}
+use Rattle.linked_lists.specs.IdTableSorting.{insert_sorted, sorted}
+use Rattle.linked_lists.specs.IdTableRecords.{of_id, with_record, without, Rising}
+use Rattle.linked_lists.proofs.IdTableSorting.{InOrder, in_order_sorted, filter-sorted, all_insert}
+use Rattle.linked_lists.proofs.IdTableOrders.{sorted_same, IsPermutation-sorted}
+use Rattle.linked_lists.proofs.IdTablePlaces.{Rising-with_record}
 use Rattle.linked_lists.specs.Chains.{cell_key, cell_value, all_cells, chain_at, value_in, value_of, Apart}
 use Rattle.linked_lists.proofs.Links.{Absent}
 use Rattle.wait_order.specs.declared.waits.Waiter.{Waiter}

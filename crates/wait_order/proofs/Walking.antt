@@ -5,7 +5,7 @@ use Rattle.std.proofs.lemmas.Bool.{eq-eqb}
 use Rattle.std.proofs.lemmas.List.{length-append}
 use Rattle.std.proofs.lemmas.List.Elements.{All-append, All-cons, All-nil}
 use Rattle.std.proofs.lemmas.Option.{same_Some}
-use Rattle.wind_lists.specs.Sorting.{insert_sorted, first}
+use Rattle.linked_lists.specs.IdTableSorting.{insert_sorted, first}
 use Rattle.linked_lists.specs.Chains.{chain_at, first_key, is_key, put_before, value_of, NextIs, Apart}
 use Rattle.linked_lists.proofs.Links.{Absent, absent_cons, absent_append, apart_middle, apart_back}
 use Rattle.wait_order.specs.declared.waits.Waiter.{Waiter}

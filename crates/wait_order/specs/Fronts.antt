@@ -6,7 +6,7 @@ use Rattle.std.specs.Ordering.{is_lt, nat_cmp}
 use Rattle.std.specs.Option.{option_map}
 use Rattle.std.specs.List.{AllByRecursion, find}
 use Rattle.std.specs.List.Sorted.{IsPartitionPoint}
-use Rattle.linked_lists.specs.Place.{Place}
+use Rattle.linked_lists.specs.IdTablePlace.{Place}
 use Rattle.wait_order.specs.declared.fronts.Front.{Front}
 
 -- two places are the same

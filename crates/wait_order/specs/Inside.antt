@@ -4,8 +4,8 @@ use Rattle.std.specs.Cmp.Lexicographic.{slice_cmp}
 use Rattle.std.specs.Ordering.{is_lt, nat_cmp}
 use Rattle.std.specs.Option.{option_map}
 use Rattle.std.specs.List.{All, filter}
-use Rattle.linked_lists.specs.Place.{Place}
-use Rattle.wind_lists.specs.Sorting.{first, insert_sorted, sorted}
+use Rattle.linked_lists.specs.IdTablePlace.{Place}
+use Rattle.linked_lists.specs.IdTableSorting.{first, insert_sorted, sorted}
 use Rattle.linked_lists.specs.Chains.{cell_value, chain_at, Apart}
 use Rattle.wait_order.specs.declared.waits.Waiter.{Waiter}
 use Rattle.wait_order.specs.declared.fronts.Front.{Front}

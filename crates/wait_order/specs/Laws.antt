@@ -1,7 +1,7 @@
 -- What follows from the order of waiters alone.
 use Rattle.std.specs.Prelude.{◌≡◌, ℕ, true, false, ◌==◌, if◌then◌else◌, List, None, Some}
 use Rattle.std.specs.List.{All, Contains}
-use Rattle.linked_lists.specs.Place.{Place}
+use Rattle.linked_lists.specs.IdTablePlace.{Place}
 use Rattle.wait_order.specs.declared.waits.Waiter.{Waiter}
 use Rattle.wait_order.specs.Line.{Line, waiter_of, with_waiter, without_waiter, stands_before, stands_at, first_at}
 

@@ -3,9 +3,9 @@ use Rattle.std.specs.Prelude.{ℕ, ◌≤◌, Bool, ◌&&◌, ◌==◌, List, []
 use Rattle.std.specs.Cmp.Lexicographic.{slice_cmp}
 use Rattle.std.specs.Ordering.{is_lt, nat_cmp}
 use Rattle.std.specs.Option.{option_map}
-use Rattle.linked_lists.specs.Place.{Place}
-use Rattle.wind_lists.specs.Records.{of_id, with_record, without, Rising}
-use Rattle.wind_lists.specs.Sorting.{first, in_line}
+use Rattle.linked_lists.specs.IdTablePlace.{Place}
+use Rattle.linked_lists.specs.IdTableRecords.{of_id, with_record, without, Rising}
+use Rattle.linked_lists.specs.IdTableSorting.{first, in_line}
 use Rattle.wait_order.specs.declared.waits.Waiter.{Waiter}
 
 -- the waiters by rising id, and the greatest number of them

@@ -1,8 +1,9 @@
 //! The gates of the kernel's calls.
 
-ghost use Rattle.std.specs.Prelude.{◌≡◌, ◌+◌, ◌*◌, ◌≤◌, ◌<◌, ◌^◌, map, option_map, slice_get, option_copied};
+ghost use Rattle.std.specs.Prelude.{◌≡◌, ◌+◌, ◌*◌, ◌<◌, ◌^◌, slice_get};
 ghost use Rattle.wind_base.specs.Gates.{gate_number, gate_of, gate_at, gate_address, gates};
 
+use crate::gate_table;
 use crate::limits::GATE_BYTES;
 
 /// A gate: the address of a kernel call, or of a return. The numbers are this project's own table;
@@ -128,67 +129,19 @@ pub enum Gate {
     DevRemove,
 }
 
+// A list of all gates.
+macro_rules! gates {
+    (()
+        $($back:literal $return:ident;)* =>
+        $($number:literal $call:ident $name:literal $arguments:tt
+            $callers:ident $refusal:ident $memory:literal;)*
+    ) => {
+        [$(Gate::$return,)* $(Gate::$call,)*]
+    };
+}
+
 // All gates, by rising number.
-const GATES: [Gate; 58] = [
-    Gate::TaskReturn,
-    Gate::ShellReturn,
-    Gate::InterruptReturn,
-    Gate::TaskSpawn,
-    Gate::Sp,
-    Gate::TaskDelete,
-    Gate::TaskSuspend,
-    Gate::TaskResume,
-    Gate::TaskPrioritySet,
-    Gate::TaskPriorityGet,
-    Gate::TaskDelay,
-    Gate::TaskLock,
-    Gate::TaskUnlock,
-    Gate::TaskSafe,
-    Gate::TaskUnsafe,
-    Gate::TaskIdSelf,
-    Gate::TaskIdVerify,
-    Gate::TaskNameToId,
-    Gate::KernelTimeSlice,
-    Gate::TickGet,
-    Gate::SemBCreate,
-    Gate::SemCCreate,
-    Gate::SemMCreate,
-    Gate::SemTake,
-    Gate::SemGive,
-    Gate::SemFlush,
-    Gate::SemDelete,
-    Gate::MsgQCreate,
-    Gate::MsgQSend,
-    Gate::MsgQReceive,
-    Gate::MsgQDelete,
-    Gate::MsgQNumMsgs,
-    Gate::WdCreate,
-    Gate::WdStart,
-    Gate::WdCancel,
-    Gate::WdDelete,
-    Gate::IntLock,
-    Gate::IntUnlock,
-    Gate::IntContext,
-    Gate::Malloc,
-    Gate::Free,
-    Gate::Memalign,
-    Gate::SymAdd,
-    Gate::Printf,
-    Gate::ErrnoGet,
-    Gate::ErrnoSet,
-    Gate::Ld,
-    Gate::Unld,
-    Gate::I,
-    Gate::Lkup,
-    Gate::ModuleShow,
-    Gate::D,
-    Gate::IntConnect,
-    Gate::IntDisconnect,
-    Gate::IntEnable,
-    Gate::IntDisable,
-    Gate::IntPending,
-    Gate::DevRemove,
-];
+const GATES: [Gate; 58] = gate_table!(gates);
 
 // The gate at an index of a list. None if the index is beyond its end.
 fn gate_in(list: &[Gate], place: usize) -> Option<Gate>

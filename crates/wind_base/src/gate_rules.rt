@@ -6,6 +6,7 @@ ghost use Rattle.wind_base.specs.Limits.{error_word};
 ghost use Rattle.wind_base.specs.declared.gate_rules.Callers.TheVariants.{Tasks};
 
 use crate::gate::Gate;
+use crate::gate_table;
 use crate::words::{ERROR, OK};
 
 /// Who may make a kernel call.
@@ -77,6 +78,20 @@ const fn back(number: u32) -> GateRules
     }
 }
 
+// The entry of a gate.
+macro_rules! rules {
+    (($gate:expr)
+        $($back:literal $return:ident;)* =>
+        $($number:literal $call:ident $name:literal $arguments:tt
+            $callers:ident $refusal:ident $memory:literal;)*
+    ) => {
+        match $gate {
+            $(Gate::$return => back($back),)*
+            $(Gate::$call => call($number, $name, $callers, $refusal, $memory),)*
+        }
+    };
+}
+
 impl Gate {
     /// The table's entry for this gate.
     #[inline(always)]
@@ -88,66 +103,7 @@ impl Gate {
         ensures memory { result.memory ≡ (rules_of self).memory }
     {
         use Callers::{All, Shell, Tasks};
-        match self {
-            Gate::TaskReturn => back(0),
-            Gate::ShellReturn => back(1),
-            Gate::InterruptReturn => back(2),
-            Gate::TaskSpawn => call(3, "taskSpawn", Tasks, ERROR, false),
-            Gate::Sp => call(4, "sp", Tasks, ERROR, false),
-            Gate::TaskDelete => call(5, "taskDelete", Tasks, ERROR, false),
-            Gate::TaskSuspend => call(6, "taskSuspend", All, ERROR, false),
-            Gate::TaskResume => call(7, "taskResume", All, ERROR, false),
-            Gate::TaskPrioritySet => call(8, "taskPrioritySet", All, ERROR, false),
-            Gate::TaskPriorityGet => call(9, "taskPriorityGet", All, ERROR, false),
-            Gate::TaskDelay => call(10, "taskDelay", Tasks, ERROR, false),
-            Gate::TaskLock => call(11, "taskLock", Tasks, ERROR, false),
-            Gate::TaskUnlock => call(12, "taskUnlock", Tasks, ERROR, false),
-            Gate::TaskSafe => call(13, "taskSafe", Tasks, ERROR, false),
-            Gate::TaskUnsafe => call(14, "taskUnsafe", Tasks, ERROR, false),
-            Gate::TaskIdSelf => call(15, "taskIdSelf", Tasks, ERROR, false),
-            Gate::TaskIdVerify => call(16, "taskIdVerify", All, ERROR, false),
-            Gate::TaskNameToId => call(17, "taskNameToId", Tasks, ERROR, false),
-            Gate::KernelTimeSlice => call(18, "kernelTimeSlice", Tasks, ERROR, false),
-            Gate::TickGet => call(19, "tickGet", All, ERROR, false),
-            Gate::SemBCreate => call(20, "semBCreate", Tasks, OK, false),
-            Gate::SemCCreate => call(21, "semCCreate", Tasks, OK, false),
-            Gate::SemMCreate => call(22, "semMCreate", Tasks, OK, false),
-            Gate::SemTake => call(23, "semTake", Tasks, ERROR, false),
-            Gate::SemGive => call(24, "semGive", All, ERROR, false),
-            Gate::SemFlush => call(25, "semFlush", All, ERROR, false),
-            Gate::SemDelete => call(26, "semDelete", Tasks, ERROR, false),
-            Gate::MsgQCreate => call(27, "msgQCreate", Tasks, OK, true),
-            Gate::MsgQSend => call(28, "msgQSend", All, ERROR, false),
-            Gate::MsgQReceive => call(29, "msgQReceive", Tasks, ERROR, false),
-            Gate::MsgQDelete => call(30, "msgQDelete", Tasks, ERROR, false),
-            Gate::MsgQNumMsgs => call(31, "msgQNumMsgs", All, ERROR, false),
-            Gate::WdCreate => call(32, "wdCreate", Tasks, OK, false),
-            Gate::WdStart => call(33, "wdStart", All, ERROR, false),
-            Gate::WdCancel => call(34, "wdCancel", All, ERROR, false),
-            Gate::WdDelete => call(35, "wdDelete", Tasks, ERROR, false),
-            Gate::IntLock => call(36, "intLock", All, ERROR, false),
-            Gate::IntUnlock => call(37, "intUnlock", All, ERROR, false),
-            Gate::IntContext => call(38, "intContext", All, ERROR, false),
-            Gate::Malloc => call(39, "malloc", Tasks, OK, false),
-            Gate::Free => call(40, "free", Tasks, ERROR, false),
-            Gate::Memalign => call(41, "memalign", Tasks, OK, false),
-            Gate::SymAdd => call(42, "symAdd", Tasks, ERROR, true),
-            Gate::Printf => call(43, "printf", Tasks, ERROR, false),
-            Gate::ErrnoGet => call(44, "errnoGet", All, ERROR, false),
-            Gate::ErrnoSet => call(45, "errnoSet", All, ERROR, false),
-            Gate::Ld => call(46, "ld", Shell, ERROR, true),
-            Gate::Unld => call(47, "unld", Shell, ERROR, false),
-            Gate::I => call(48, "i", Shell, ERROR, true),
-            Gate::Lkup => call(49, "lkup", Shell, ERROR, true),
-            Gate::ModuleShow => call(50, "moduleShow", Shell, ERROR, true),
-            Gate::D => call(51, "d", Shell, ERROR, true),
-            Gate::IntConnect => call(52, "intConnect", Tasks, ERROR, false),
-            Gate::IntDisconnect => call(53, "intDisconnect", Tasks, ERROR, false),
-            Gate::IntEnable => call(54, "intEnable", All, ERROR, false),
-            Gate::IntDisable => call(55, "intDisable", All, ERROR, false),
-            Gate::IntPending => call(56, "intPending", All, ERROR, false),
-            Gate::DevRemove => call(57, "devRemove", Tasks, ERROR, false),
-        }
+        gate_table!(rules self)
     }
 
     /// The name of its call. None if the gate is a return.

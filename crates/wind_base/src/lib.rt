@@ -8,6 +8,7 @@ mod board_kind;
 mod errno;
 mod gate;
 mod gate_rules;
+mod gate_table;
 mod laws;
 pub mod limits;
 mod line;

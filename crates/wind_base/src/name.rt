@@ -7,7 +7,7 @@ ghost use Rattle.wind_base.specs.declared.name.NameErr.TheVariants as errors;
 use crate::limits::{NAME_BYTES, SHORT_NAME_BYTES};
 use crate::{NoMemory, first_bytes};
 use arrayvec::ArrayVec;
-use std::alloc::Global;
+use std::alloc::{AllocError, Global};
 use std::marker::Model;
 use thiserror::Error;
 
@@ -46,6 +46,15 @@ impl ShortName {
     {
         ShortName {
             kept: copied(first_bytes(bytes, SHORT_NAME_BYTES)),
+        }
+    }
+
+    /// A copy of this name.
+    pub fn copied(&self) -> ShortName
+        ensures { result ≡ self.now }
+    {
+        ShortName {
+            kept: copied(&self.kept),
         }
     }
 
@@ -98,6 +107,14 @@ impl Name {
         let Ok(kept) = bytes.to_vec(alloc) else {
             return Err(NameErr::NoMemory);
         };
+        Ok(Name { kept })
+    }
+
+    /// A copy of this name.
+    pub fn copied(&self, alloc: Global) -> Result<Name, AllocError>
+        ensures { IfOk result (λ copy. copy ≡ self.now) }
+    {
+        let kept = self.kept.to_vec(alloc)?;
         Ok(Name { kept })
     }
 

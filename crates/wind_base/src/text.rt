@@ -5,7 +5,7 @@ ghost use Rattle.std.specs.Prelude.{◌≡◌, ◌^◌, ◌<◌, ◌≤◌, fals
 ghost use Rattle.std.specs.Fmt.{decimal, signed_decimal, digit_glyph, digits};
 ghost use Rattle.std.specs.Int.{cast_signed, w32};
 ghost use Rattle.wind_base.specs.OutBuf.{Added};
-ghost use Rattle.wind_base.specs.Texts.{hex_within};
+ghost use Rattle.wind_base.specs.Texts.{hex_places, hex_within};
 
 use crate::OutBuf;
 use itoa::Buffer;
@@ -53,6 +53,17 @@ pub fn add_hex(out: &mut OutBuf, v: u32)
     ensures { Added 8 out.old out.new (digits 16 false v) }
 {
     add_digits(out, v, 8);
+}
+
+/// Adds the lowest `places` hexadecimal digits of a number, with leading zeros.
+pub fn add_places(out: &mut OutBuf, places: u32, n: u64)
+    requires { places ≤ out.old.room }
+    ensures { Added places out.old out.new (hex_places places n) }
+{
+    if places > 0 {
+        add_places(out, places - 1, n / 16);
+        add(out, &[glyph(false, (n % 16) as u32)]);
+    }
 }
 
 /// Adds a word in decimal digits, as a signed 32-bit number: at most 11 bytes.

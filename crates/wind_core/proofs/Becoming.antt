@@ -7,8 +7,8 @@ use Rattle.std.proofs.lemmas.List.{get_or-map, length-map}
 use Rattle.std.proofs.lemmas.List.Elements.{All-contains, Contains-get_or}
 use Rattle.task_block.specs.declared.task.Task.{Task}
 use Rattle.task_block.specs.Standing.{is_ready}
-use Rattle.wind_lists.specs.Records.{change, Rising}
-use Rattle.wind_lists.proofs.Records.{found_at, found_in}
+use Rattle.id_table.specs.Records.{change, Rising}
+use Rattle.id_table.proofs.Records.{found_at, found_in}
 use Rattle.wind_core.specs.State.{KernState, task_id, task_of}
 use Rattle.wind_core.specs.Moves.{renewed, settled, move_found, with_pri, has_pri, change_pri}
 

@@ -13,8 +13,8 @@ use Rattle.id_table.proofs.Owning.{objects-without}
 use Rattle.task_block.specs.declared.task.Task.{Task}
 use Rattle.task_block.specs.declared.task.NewTask.{NewTask}
 use Rattle.task_block.specs.Standing.{is_ready}
-use Rattle.wind_lists.specs.Records.{without}
-use Rattle.wind_lists.proofs.Passing.{length-filter}
+use Rattle.id_table.specs.Records.{without}
+use Rattle.id_table.proofs.Passing.{length-filter}
 use Rattle.wait_order.specs.Line.{Line, waiter_id, without_waiter}
 use Rattle.wait_order.proofs.LineOrder.{line_alike}
 use Rattle.ready_queue.specs.Order as urgent

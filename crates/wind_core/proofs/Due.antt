@@ -9,8 +9,8 @@ use Rattle.std.specs.declared.cmp.Ordering.TheVariants.{Less, Equal, Greater}
 use Rattle.std.proofs.lemmas.Bool.{le-ltb, ltb-false, leb-true, leb-false, eq-eqb}
 use Rattle.std.proofs.lemmas.List.Elements.{All-head, All-tail}
 use Rattle.task_block.specs.declared.task.Task.{Task}
-use Rattle.wind_lists.specs.Sorting.{insert_sorted, sorted, in_line, first}
-use Rattle.wind_lists.proofs.Sorting.{InOrder, in_order_sorted, filter-sorted, all_insert}
+use Rattle.id_table.specs.Sorting.{insert_sorted, sorted, in_line, first}
+use Rattle.id_table.proofs.Sorting.{InOrder, in_order_sorted, filter-sorted, all_insert}
 use Rattle.delay_queue.specs.Wakes as timed
 use Rattle.wind_core.specs.State.{WakesAhead, task_id}
 use Rattle.wind_core.specs.Orders.{is_less, arrival, arrives_before, has_come, is_due, due, first_due, sleeps, waking_tick, wakes_before}
@@ -49,10 +49,6 @@ same_first a xs ys =
     ∙ ap (λ t. is_lt (ordering_then (cond t Equal Greater) (slice_cmp nat_cmp xs ys))) (eq-eqb a a refl)
 
 -- ---- the tasks that are due at the next tick
--- a task that is due wakes at a tick
-due_sleeps : (m : ℕ) (o : Option ℕ) → has_come m o ≡ true → is_some o ≡ true
-due_sleeps m None e = absurd (cc)
-due_sleeps m (Some w) e = refl
 
 due_asleep : (m : ℕ) (ts : List Task) → filter (is_due m) (filter sleeps ts) ≡ filter (is_due m) ts
 due_asleep m [] = refl

@@ -7,9 +7,9 @@ use Rattle.wind_base.specs.declared.errno.Errno.TheVariants as errors
 use Rattle.task_block.specs.declared.task.Task.{Task}
 use Rattle.task_block.specs.declared.task.NewTask.{NewTask}
 use Rattle.task_block.specs.Standing.{is_ready}
-use Rattle.wind_lists.specs.Records.{change}
-use Rattle.wind_lists.proofs.Records.{replace-change}
-use Rattle.wind_lists.proofs.Places.{not_there}
+use Rattle.id_table.specs.Records.{change}
+use Rattle.id_table.proofs.Records.{replace-change}
+use Rattle.id_table.proofs.Places.{not_there}
 use Rattle.wind_core.specs.State.{KernState, IsKern, WakesAhead, task_id, task_of}
 use Rattle.wind_core.specs.Moves.{renewed, settled, change_task, renew_task, move_found, move_task, new_task, spawn, spawn_refusal, released, release, answered, end_wait, end_waits, resumed, resume, is_suspended, with_pri, has_pri, change_pri}
 use Rattle.wind_core.proofs.Writes.{MayFollow, IsKern-replace, counters_rise, settled_follows}

@@ -8,9 +8,9 @@ use Rattle.wind_base.specs.declared.errno.Errno.{Errno}
 use Rattle.id_table.specs.declared.ident.Place.{Place}
 use Rattle.task_block.specs.declared.task.Task.{Task}
 use Rattle.task_block.specs.Standing.{is_ready}
-use Rattle.wind_lists.proofs.Records.{found_id, found_at, found_in}
-use Rattle.wind_lists.proofs.Orders.{first_least}
-use Rattle.wind_lists.proofs.Passing.{contains_filter, front_found, front_passes, none_passes}
+use Rattle.id_table.proofs.Records.{found_id, found_at, found_in}
+use Rattle.id_table.proofs.Orders.{first_least}
+use Rattle.id_table.proofs.Passing.{contains_filter, front_found, front_passes, none_passes}
 use Rattle.wind_core.specs.State.{KernState, IsKern, task_id, task_of}
 use Rattle.wind_core.specs.Orders.{urgency, arrival, wait_key, is_before, waiters, keeps_running, keeper, last_task, or_else, most_urgent}
 use Rattle.wind_core.specs.Moves.{end_wait, end_waits}

@@ -6,13 +6,13 @@ use Rattle.std.proofs.lemmas.Bool.{eqb-true, eq-eqb}
 use Rattle.std.proofs.lemmas.Option.{same_Some}
 use Rattle.std.proofs.lemmas.List.{append-nil, length-map, length-append, map-append}
 use Rattle.std.proofs.lemmas.List.Elements.{All-head, All-tail, All-cons, All-filter, All-append, recursion_from_All, filter-append}
-use Rattle.wind_lists.specs.Records.{of_id, replace, without, Rising}
-use Rattle.wind_lists.specs.Sorting.{insert_sorted, sorted, in_line}
-use Rattle.wind_lists.specs.Arrivals.{put_after}
-use Rattle.wind_lists.proofs.Records.{rising_head, rising_tail, found_id}
-use Rattle.wind_lists.proofs.Places.{above_none, none_without, not_there, gone, fewer_without}
-use Rattle.wind_lists.proofs.Passing.{length-in_line}
-use Rattle.wind_lists.proofs.Sorting.{filter-sorted, seen_sorted, all_insert}
+use Rattle.id_table.specs.Records.{of_id, replace, without, Rising}
+use Rattle.id_table.specs.Sorting.{insert_sorted, sorted, in_line}
+use Rattle.id_table.specs.Arrivals.{put_after}
+use Rattle.id_table.proofs.Records.{rising_head, rising_tail, found_id}
+use Rattle.id_table.proofs.Places.{above_none, none_without, not_there, gone, fewer_without}
+use Rattle.id_table.proofs.Passing.{length-in_line}
+use Rattle.id_table.proofs.Sorting.{filter-sorted, seen_sorted, all_insert}
 
 get_or_middle : {X : Type 0} (us : List X) (x : X) (vs : List X) (d : X) → get_or (us ++ x ∷ vs) (length us) d ≡ x
 get_or_middle [] x vs d = refl

@@ -9,8 +9,8 @@ use Rattle.id_table.specs.Rows.{object_of, objects}
 use Rattle.id_table.specs.declared.ident.Place.{Place}
 use Rattle.task_block.specs.declared.task.Task.{Task}
 use Rattle.task_block.specs.Standing.{is_ready}
-use Rattle.wind_lists.specs.Records.{replace, without}
-use Rattle.wind_lists.proofs.Records.{found_id}
+use Rattle.id_table.specs.Records.{replace, without}
+use Rattle.id_table.proofs.Records.{found_id}
 use Rattle.wait_order.specs.declared.waits.Waiter.{Waiter}
 use Rattle.wait_order.specs.Line.{Line, waiter_id, without_waiter, first_at}
 use Rattle.wait_order.proofs.LineOrder.{line_alike}

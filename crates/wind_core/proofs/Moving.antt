@@ -1,12 +1,13 @@
 -- Every move of the kernel keeps its invariant, and so does every list of moves.
-use Rattle.std.proofs.Common.{List, [], ◌∷◌, refl, arith}
+use Rattle.std.proofs.Common.{List, [], ◌∷◌, refl, ap, arith}
 use Rattle.wind_core.specs.State.{KernState, IsKern}
-use Rattle.wind_core.specs.Moves.{wake_at, pended, delayed, suspended, unmarked, past_gate, with_answer, with_refusal, unreserved}
+use Rattle.wind_core.specs.Moves.{wake_at, pended, delayed, suspended, unmarked, with_change}
 use Rattle.wind_core.specs.Orders.{waiters}
-use Rattle.wind_core.specs.Move.{Move, Spawn, Remove, Pend, Delay, Release, ReleaseAll, EndWait, WakeAll, Tick, Suspend, Resume, ChangePri, Reset, SetLocks, SetNormal, SetSafe, SetHeld, SetErrno, SetIntLocked, SetAgain, SetRegs, Unreserve, LeaveGate, Answer, Refuse, SetLast, SetSlice, DrawIds, Lend, apply, IsAllowed, after, EachMove}
+use Rattle.wind_core.specs.Move.{Move, Spawn, Remove, Pend, Delay, Release, ReleaseAll, EndWait, WakeAll, Tick, Suspend, Resume, ChangePri, Reset, Set, SetRegs, SetLast, SetSlice, DrawIds, Lend, apply, IsAllowed, after, EachMove}
 use Rattle.wind_core.specs.Laws.{KeptLaw, SeriesLaw}
 use Rattle.wind_core.proofs.Writes.{wake_ahead, delayed_id, delayed_ahead}
 use Rattle.wind_core.proofs.Comings.{without_keeps}
+use Rattle.wind_core.proofs.Mending.{change_stays}
 use Rattle.wind_core.proofs.Keeping.{renew_task_keeps, end_wait_keeps, release_keeps, end_waits_keep, resume_keeps, change_pri_keeps, spawn_keeps, writes, counters_keep}
 use Rattle.wind_core.proofs.Releasing.{releases_keep}
 use Rattle.wind_core.proofs.Ticking.{tick_keeps}
@@ -25,18 +26,10 @@ move_keeps k (Suspend who) is may = writes k who suspended is (λ t. refl) (λ t
 move_keeps k (Resume who) is may = resume_keeps k who is
 move_keeps k (ChangePri who pri) is may = change_pri_keeps k who pri is
 move_keeps k (Reset who) is may = renew_task_keeps k who unmarked is (λ t. refl) (λ t h. h)
-move_keeps k (SetLocks who n) is may = writes k who (λ t. record t { locks = n }) is (λ t. refl) (λ t. refl) (λ t. refl)
-move_keeps k (SetNormal who pri) is may = writes k who (λ t. record t { normal = pri }) is (λ t. refl) (λ t. refl) (λ t. refl)
-move_keeps k (SetSafe who n) is may = writes k who (λ t. record t { safe = n }) is (λ t. refl) (λ t. refl) (λ t. refl)
-move_keeps k (SetHeld who n) is may = writes k who (λ t. record t { held = n }) is (λ t. refl) (λ t. refl) (λ t. refl)
-move_keeps k (SetErrno who n) is may = writes k who (λ t. record t { errno = n }) is (λ t. refl) (λ t. refl) (λ t. refl)
-move_keeps k (SetIntLocked who on) is may = writes k who (λ t. record t { int_locked = on }) is (λ t. refl) (λ t. refl) (λ t. refl)
-move_keeps k (SetAgain who on) is may = writes k who (λ t. record t { again = on }) is (λ t. refl) (λ t. refl) (λ t. refl)
+move_keeps k (Set who change) is may =
+    let stays = change_stays change in
+    writes k who (with_change change) is (λ t. ap (λ s. s.0) (stays t)) (λ t. ap (λ s. s.2) (stays t)) (λ t. ap (λ s. s.5) (stays t))
 move_keeps k (SetRegs who regs) is may = writes k who (λ t. record t { regs = regs }) is (λ t. refl) (λ t. refl) (λ t. refl)
-move_keeps k (Unreserve who) is may = writes k who unreserved is (λ t. refl) (λ t. refl) (λ t. refl)
-move_keeps k (LeaveGate who) is may = writes k who past_gate is (λ t. refl) (λ t. refl) (λ t. refl)
-move_keeps k (Answer who value) is may = writes k who (with_answer value) is (λ t. refl) (λ t. refl) (λ t. refl)
-move_keeps k (Refuse who e) is may = writes k who (with_refusal e) is (λ t. refl) (λ t. refl) (λ t. refl)
 move_keeps k (SetLast last) is may = counters_keep k k.next_id k.slice k.lent last is (omega arith) is.last_id
 move_keeps k (SetSlice n) is may = counters_keep k k.next_id n k.lent k.last is (omega arith) is.last_id
 move_keeps k (DrawIds next) is may = counters_keep k next k.slice k.lent k.last is may.0 may.1

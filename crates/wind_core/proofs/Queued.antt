@@ -11,8 +11,8 @@ use Rattle.std.proofs.lemmas.List.Elements.{All-weaker}
 use Rattle.wind_base.specs.Limits.{most_tasks}
 use Rattle.task_block.specs.declared.task.Task.{Task}
 use Rattle.task_block.specs.Standing.{is_ready}
-use Rattle.wind_lists.specs.Records.{replace, without, Rising}
-use Rattle.wind_lists.specs.Sorting.{in_line, first}
+use Rattle.id_table.specs.Records.{replace, without, Rising}
+use Rattle.id_table.specs.Sorting.{in_line, first}
 use Rattle.ready_queue.specs.Order as urgent
 use Rattle.delay_queue.specs.Wakes as timed
 use Rattle.wind_core.specs.State.{task_id, task_of}

@@ -3,16 +3,16 @@ use Rattle.std.proofs.Common.{◌≡◌, ℕ, ◌+◌, ◌≤◌, true, false, c
 use Rattle.std.specs.Option.{option_map}
 use Rattle.id_table.specs.declared.ident.Place.{Place}
 use Rattle.task_block.specs.declared.task.Task.{Task}
-use Rattle.wind_lists.specs.Records.{Rising}
-use Rattle.wind_lists.proofs.Sorting.{first_is, no_first}
-use Rattle.wind_lists.proofs.Passing.{front_found}
+use Rattle.id_table.specs.Records.{Rising}
+use Rattle.id_table.proofs.Sorting.{first_is}
+use Rattle.id_table.proofs.Passing.{front_found}
 use Rattle.wind_core.specs.State.{KernState, IsKern, Lives, task_id, task_of}
 use Rattle.wind_core.specs.Orders.{waits_before, waits_at, waiters, first_waiter}
 use Rattle.wind_core.specs.Moves.{released, settled, renewed, move_found, release}
 use Rattle.wind_core.specs.Releases.{releases, release_all}
 use Rattle.wind_core.proofs.Passes.{waits_before-order}
 use Rattle.wind_core.proofs.Keeping.{release_keeps}
-use Rattle.wind_core.proofs.Waking.{in_line-move, id_found, no_id}
+use Rattle.wind_core.proofs.Waking.{in_line-move, id_found}
 
 settled_waits : (place : Place) (since : ℕ) (t : Task) → waits_at place (settled since (released t)) ≡ false
 settled_waits place since t = elim t.suspended as (λ b. waits_at place (cond (not b) (renewed since (released t)) (released t)) ≡ false) [ true ↦ refl | false ↦ refl ]
@@ -50,9 +50,6 @@ pub freed_first : (s : KernState) (place : Place) (who : ℕ) → Rising task_id
 freed_first s place who up e =
     let x = id_found (first_waiter s.tasks place) who e in
     subst (Freed s place) (sym x.2) (front_freed s place x.0 up x.1)
-
-pub all_free : (s : KernState) (place : Place) → None ≡ option_map task_id (first_waiter s.tasks place) → release_all s place ≡ s
-all_free s place e = ap (λ ws. releases s ws) (no_first waits_before (waiters s.tasks place) (no_id (first_waiter s.tasks place) e))
 
 -- the invariant holds again
 pub releases_keep : (s : KernState) (ts : List Task) → IsKern s → IsKern (releases s ts)

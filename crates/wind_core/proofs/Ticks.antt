@@ -10,9 +10,9 @@ use Rattle.wind_base.specs.declared.errno.Errno.{Errno}
 use Rattle.id_table.specs.Rows.{object_of, objects}
 use Rattle.task_block.specs.declared.task.Task.{Task}
 use Rattle.task_block.specs.Standing.{is_ready}
-use Rattle.wind_lists.specs.Records.{Rising, change}
-use Rattle.wind_lists.proofs.Records.{found_id}
-use Rattle.wind_lists.proofs.Passing.{front_found, front_passes, none_passes}
+use Rattle.id_table.specs.Records.{Rising, change}
+use Rattle.id_table.proofs.Records.{found_id}
+use Rattle.id_table.proofs.Passing.{front_found, front_passes, none_passes}
 use Rattle.ready_queue.specs.Order as urgent
 use Rattle.delay_queue.specs.Wakes as timed
 use Rattle.wind_core.specs.Queues.{delayed_of}
@@ -118,9 +118,6 @@ pub nobody_runs : (s : KernState) → None ≡ option_map task_id (running s) �
 nobody_runs s e = ap (count_slice_of s) (none_named (running s) e)
 
 -- ---- a time slice
-pub locked_slice : (s : KernState) (o : Option Task) → false ≡ is_free o → s ≡ count_slice_of s o
-locked_slice s None e = refl
-locked_slice s (Some t) e = ap (λ b. cond b (count_found_slice s t) s) e
 
 freed_first : (s : KernState) (x : Task) → true ≡ eqb x.locks 0 → count_found_slice s x ≡ count_slice_of s (Some x)
 freed_first s x e = ap (λ b. cond b (count_found_slice s x) s) e

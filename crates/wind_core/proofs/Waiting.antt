@@ -8,11 +8,11 @@ use Rattle.std.proofs.lemmas.List.Elements.{All-contains, All-cons, All-head, Al
 use Rattle.std.proofs.lemmas.Option.{same_Some}
 use Rattle.id_table.specs.declared.ident.Place.{Place}
 use Rattle.task_block.specs.declared.task.Task.{Task}
-use Rattle.wind_lists.specs.Records.{replace, without, with_record, Rising}
-use Rattle.wind_lists.specs.Sorting.{sorted, first}
-use Rattle.wind_lists.proofs.Records.{rising_tail, rising_head, found_id, found_at}
-use Rattle.wind_lists.proofs.Places.{gone, above_none, none_without, not_there, fewer_without}
-use Rattle.wind_lists.proofs.Sorting.{seen_sorted}
+use Rattle.id_table.specs.Records.{replace, without, with_record, Rising}
+use Rattle.id_table.specs.Sorting.{sorted, first}
+use Rattle.id_table.proofs.Records.{rising_tail, rising_head, found_id, found_at}
+use Rattle.id_table.proofs.Places.{gone, above_none, none_without, not_there, fewer_without}
+use Rattle.id_table.proofs.Sorting.{seen_sorted}
 use Rattle.wait_order.specs.declared.waits.Waiter.{Waiter}
 use Rattle.wait_order.specs.Line.{Line, waiter_id, waiter_of, without_waiter, stands_before, stands_at, first_at}
 use Rattle.wait_order.proofs.LineOrder.{line_alike}

@@ -6,10 +6,10 @@ use Rattle.std.specs.Cmp.{IsStrictWeakOrder}
 use Rattle.wind_base.specs.declared.errno.Errno.{Errno}
 use Rattle.id_table.specs.declared.ident.Place.{Place}
 use Rattle.task_block.specs.declared.task.Task.{Task}
-use Rattle.wind_lists.specs.Records.{Rising}
-use Rattle.wind_lists.specs.Sorting.{in_line, first}
-use Rattle.wind_lists.proofs.Sorting.{first_is, no_first}
-use Rattle.wind_lists.proofs.Passing.{in_line-change, length-in_line, front_found}
+use Rattle.id_table.specs.Records.{Rising}
+use Rattle.id_table.specs.Sorting.{in_line, first}
+use Rattle.id_table.proofs.Sorting.{first_is}
+use Rattle.id_table.proofs.Passing.{in_line-change, length-in_line, front_found}
 use Rattle.wind_core.specs.State.{KernState, Lives, task_id, task_of}
 use Rattle.wind_core.specs.Orders.{waits_before, waits_at, waiters, first_waiter, arrives_before, is_due, due, first_due}
 use Rattle.wind_core.specs.Moves.{answered, settled, renewed, move_found, move_task, end_wait, end_waits, wake_all}
@@ -83,10 +83,6 @@ woken_first s place answer errno who up e =
     let x = id_found (first_waiter s.tasks place) who e in
     subst (Woken s place answer errno) (sym x.2) (wake_front s place answer errno x.0 up x.1)
 
-pub wake_all-done : (s : KernState) (place : Place) (answer : ℕ) (errno : Option Errno) → None ≡ option_map task_id (first_waiter s.tasks place) → wake_all s place answer errno ≡ s
-wake_all-done s place answer errno e =
-    ap (λ ws. end_waits s ws answer errno) (no_first waits_before (waiters s.tasks place) (no_id (first_waiter s.tasks place) e))
-
 -- ---- all tasks whose wake has come
 pub length-due : (ts : List Task) (tick : ℕ) → length (due ts tick) ≤ length ts
 length-due ts tick = length-in_line task_id arrives_before arrives_before-order (is_due tick) ts
@@ -113,6 +109,3 @@ timed_out_first s tick x up e =
       fewer = ap (λ ws. length ws + 1) left ∙ sym (ap length split.1 ∙ omega arith);
       sinces = since-end_wait s x.id (late_answer (is_some x.wait)) (late_errno (is_some x.wait));
     }
-
-pub wake_due-done : (s : KernState) (tick : ℕ) → first_due s.tasks tick ≡ None → wake_due s tick ≡ s
-wake_due-done s tick e = ap (fold time_out s) (no_first arrives_before (due s.tasks tick) e)

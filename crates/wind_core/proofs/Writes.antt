@@ -9,11 +9,11 @@ use Rattle.id_table.specs.Rows.{object_of, objects, rewritten}
 use Rattle.id_table.proofs.Owning.{object-record, objects-replace, OwnIds-write}
 use Rattle.task_block.specs.declared.task.Task.{Task}
 use Rattle.task_block.specs.Standing.{is_ready}
-use Rattle.wind_lists.specs.Records.{replace, change}
+use Rattle.id_table.specs.Records.{replace, change}
 use Rattle.wait_order.specs.Line.{Line}
 use Rattle.ready_queue.specs.Order as urgent
 use Rattle.delay_queue.specs.Wakes as timed
-use Rattle.wind_lists.proofs.Records.{replace-change, All-replace, AllPairs-replace, found_at, found_id}
+use Rattle.id_table.proofs.Records.{replace-change, All-replace, AllPairs-replace, found_at, found_id}
 use Rattle.wind_core.specs.State.{KernState, IsKern, Lives, WakesAhead, task_id, task_of}
 use Rattle.wind_core.specs.Inside.{SameIds}
 use Rattle.wind_core.specs.Queues.{AreQueued}

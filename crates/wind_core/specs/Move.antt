@@ -7,7 +7,8 @@ use Rattle.wind_base.specs.declared.regs.Regs.{Regs}
 use Rattle.id_table.specs.declared.ident.Place.{Place}
 use Rattle.task_block.specs.declared.task.NewTask.{NewTask}
 use Rattle.wind_core.specs.State.{KernState}
-use Rattle.wind_core.specs.Moves.{spawn, spawn_refusal, remove, pend, delay, release, end_wait, wake_all, suspend, resume, change_pri, reset, set_locks, set_normal, set_safe, set_held, set_errno, set_int_locked, set_again, set_regs, unreserve, leave_gate, answer, refuse}
+use Rattle.wind_core.specs.declared.changes.Change.{Change}
+use Rattle.wind_core.specs.Moves.{spawn, spawn_refusal, remove, pend, delay, release, end_wait, wake_all, suspend, resume, change_pri, reset, change_task, with_change, set_regs}
 use Rattle.wind_core.specs.Releases.{release_all}
 use Rattle.wind_core.specs.Tick.{tick}
 
@@ -39,30 +40,10 @@ pub data Move : Type 0 where
   ChangePri : (who : ℕ) → (pri : ℕ) → Move
   -- a task's suspension, scheduler locks, interrupt lock and mark of a repeated call are cleared
   Reset : (who : ℕ) → Move
-  -- a task holds n scheduler locks
-  SetLocks : (who : ℕ) → (n : ℕ) → Move
-  -- a task's normal priority changes
-  SetNormal : (who : ℕ) → (pri : ℕ) → Move
-  -- a task is in n safe sections
-  SetSafe : (who : ℕ) → (n : ℕ) → Move
-  -- a task owns n inversion-safe mutexes
-  SetHeld : (who : ℕ) → (n : ℕ) → Move
-  -- a task's error number changes
-  SetErrno : (who : ℕ) → (n : ℕ) → Move
-  -- a task locks out interrupts, or no longer
-  SetIntLocked : (who : ℕ) → (on : Bool) → Move
-  -- a task's next call is a repetition, or no longer
-  SetAgain : (who : ℕ) → (on : Bool) → Move
+  -- a task is changed, and stays where it is in every queue
+  Set : (who : ℕ) → (change : Change) → Move
   -- a task's registers change
   SetRegs : (who : ℕ) → (regs : Regs) → Move
-  -- a task loses its reservation
-  Unreserve : (who : ℕ) → Move
-  -- a task returns from its call
-  LeaveGate : (who : ℕ) → Move
-  -- a task's call gets its result
-  Answer : (who : ℕ) → (value : ℕ) → Move
-  -- a task's call is refused
-  Refuse : (who : ℕ) → (e : Errno) → Move
   -- the task that ran last is recorded
   SetLast : (last : Option ℕ) → Move
   -- a time slice lasts n ticks
@@ -87,18 +68,8 @@ apply k (Suspend who) = suspend k who
 apply k (Resume who) = resume k who
 apply k (ChangePri who pri) = change_pri k who pri
 apply k (Reset who) = reset k who
-apply k (SetLocks who n) = set_locks k who n
-apply k (SetNormal who pri) = set_normal k who pri
-apply k (SetSafe who n) = set_safe k who n
-apply k (SetHeld who n) = set_held k who n
-apply k (SetErrno who n) = set_errno k who n
-apply k (SetIntLocked who on) = set_int_locked k who on
-apply k (SetAgain who on) = set_again k who on
+apply k (Set who change) = change_task k who (with_change change)
 apply k (SetRegs who regs) = set_regs k who regs
-apply k (Unreserve who) = unreserve k who
-apply k (LeaveGate who) = leave_gate k who
-apply k (Answer who value) = answer k who value
-apply k (Refuse who e) = refuse k who e
 apply k (SetLast last) = record k { last = last }
 apply k (SetSlice n) = record k { slice = n }
 apply k (DrawIds next) = record k { next_id = next }

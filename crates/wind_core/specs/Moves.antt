@@ -13,7 +13,7 @@ use Rattle.id_table.specs.declared.ident.Place.{Place}
 use Rattle.task_block.specs.declared.task.Task.{Task}
 use Rattle.task_block.specs.declared.task.NewTask.{NewTask}
 use Rattle.task_block.specs.Standing.{is_ready}
-use Rattle.wind_lists.specs.Records.{change, without}
+use Rattle.id_table.specs.Records.{change, without}
 use Rattle.wind_core.specs.State.{KernState, task_id, task_of}
 use Rattle.wind_core.specs.declared.changes.Change.{Change}
 use Rattle.wind_core.specs.declared.changes.Change.TheVariants as changes

@@ -6,7 +6,7 @@ use Rattle.std.specs.Option.{option_map}
 use Rattle.id_table.specs.declared.ident.Place.{Place}
 use Rattle.task_block.specs.declared.task.Task.{Task}
 use Rattle.task_block.specs.Standing.{is_ready}
-use Rattle.wind_lists.specs.Sorting.{first, in_line}
+use Rattle.id_table.specs.Sorting.{first, in_line}
 use Rattle.wind_core.specs.State.{KernState, task_id, task_of}
 
 -- one list of numbers is before another: the first differing number decides

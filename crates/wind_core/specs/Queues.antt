@@ -3,7 +3,7 @@ use Rattle.std.specs.Prelude.{◌≡◌, ◌<◌, ℕ, length, if◌then◌else�
 use Rattle.wind_base.specs.Limits.{most_tasks}
 use Rattle.task_block.specs.declared.task.Task.{Task}
 use Rattle.task_block.specs.Standing.{is_ready}
-use Rattle.wind_lists.specs.Sorting.{in_line}
+use Rattle.id_table.specs.Sorting.{in_line}
 use Rattle.wait_order.specs.Line.{Line, without_waiter}
 use Rattle.ready_queue.specs.Order as urgent
 use Rattle.delay_queue.specs.Wakes as timed

@@ -5,7 +5,7 @@ use Rattle.std.specs.Option.{option_map}
 use Rattle.std.specs.Str.{bytes_eq}
 use Rattle.wind_base.specs.Limits.{most_tasks, greatest_id}
 use Rattle.task_block.specs.declared.task.Task.{Task}
-use Rattle.wind_lists.specs.Records.{of_id, Rising}
+use Rattle.id_table.specs.Records.{of_id, Rising}
 
 -- the kernel's tasks and counters
 pub record KernState : Type 0 where

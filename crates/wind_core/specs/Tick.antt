@@ -5,7 +5,7 @@ use Rattle.wind_base.specs.Limits.{error_word, ok_word}
 use Rattle.wind_base.specs.declared.errno.Errno.{Errno}
 use Rattle.wind_base.specs.declared.errno.Errno.TheVariants as errors
 use Rattle.task_block.specs.declared.task.Task.{Task}
-use Rattle.wind_lists.specs.Records.{change}
+use Rattle.id_table.specs.Records.{change}
 use Rattle.wind_core.specs.declared.clock.Late.{Late}
 use Rattle.wind_core.specs.State.{KernState, task_id}
 use Rattle.wind_core.specs.Orders.{running, due}

@@ -11,13 +11,20 @@ use wind_base::words::ERROR;
 use wind_base::{Errno, Pri, Regs};
 
 /// A change of one task that leaves it where it is in every queue.
-pub(crate) enum Change {
+pub enum Change {
+    /// The number of the task's scheduler locks.
     Locks(u64),
+    /// The task's normal priority.
     Normal(Pri),
+    /// The number of safe sections that the task is in.
     Safe(u64),
+    /// The number of inversion-safe mutexes that the task owns.
     Held(u64),
+    /// The task's error number.
     Errno(u32),
+    /// Whether the task locks out interrupts.
     IntLocked(bool),
+    /// Whether the task's next call is a repetition of a call that pended.
     Again(bool),
     /// The result of the task's call, in r3.
     Answer(u32),

@@ -12,6 +12,7 @@ mod tasks;
 mod took;
 mod waits;
 
+pub use changes::Change;
 pub use kern::Kern;
 pub use laws::{kept_law, runner_law, tick_law, waiters_law, wake_all_law};
 pub use took::Took;

@@ -6,7 +6,7 @@ use Rattle.std.proofs.lemmas.Bool.Decides.{nat_tests}
 use mathlib.Core.Logic.{⊎_elim}
 use Rattle.wind_base.specs.Lines.{line_length}
 use Rattle.wind_base.proofs.LineLength.{length_end, length_more}
-use Rattle.text_lines.specs.Lines.{onto_first, after_line}
+use Rattle.source_text.specs.Lines.{onto_first, after_line}
 use Rattle.wind_link.specs.Lists.{Row, lines_of, row_of, most_lines, or_bad, rows_after}
 use Rattle.wind_link.specs.Rows.{first_line}
 

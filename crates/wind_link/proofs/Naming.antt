@@ -18,10 +18,3 @@ small_value v i n h k e =
     let seven : i ≤ 7 = omega arith in
     let p = pow-le-pow_right {n = 16} (omega arith) seven in
     omega (arith, p)
-
--- 8 digits
-pub word_value : (v i n : ℕ) → v < 16 ^ i → i ≤ n → n ≡ 8 → v < 4294967296
-word_value v i n h k e =
-    let eight : i ≤ 8 = omega arith in
-    let p = pow-le-pow_right {n = 16} (omega arith) eight in
-    omega (arith, p)

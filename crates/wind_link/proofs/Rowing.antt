@@ -1,5 +1,5 @@
 -- The modules of rows, one after the other.
-use Rattle.std.proofs.Common.{◌≡◌, ℕ, suc, ◌+◌, ◌<◌, ◌≤◌, ◌⊎◌, inl, inr, List, [], ◌∷◌, ◌++◌, Option, None, Result, Ok, Err, length, map, get_or, take, drop, drop-cons, refl, sym, ap, ◌∙◌, subst, arith}
+use Rattle.std.proofs.Common.{◌≡◌, ℕ, suc, ◌+◌, ◌<◌, ◌≤◌, inl, inr, List, [], ◌∷◌, ◌++◌, Option, None, Result, Ok, Err, length, map, get_or, take, drop, drop-cons, refl, sym, ap, ◌∙◌, subst, arith}
 use Rattle.std.specs.List.{All}
 use Rattle.std.proofs.lemmas.List.{length-append, length-map, length-take, take-append-drop}
 use Rattle.std.proofs.lemmas.List.Elements.{All-nil, All-cons, All-append}
@@ -19,7 +19,7 @@ use Rattle.wind_outside.specs.Files.{Files}
 use Rattle.module_image.specs.Link.{Load}
 use Rattle.module_image.specs.Needs.{needs_of}
 use Rattle.wind_link.specs.declared.linking.Placed.{Placed}
-use Rattle.wind_link.specs.Command.{Faults, HasBytes, Unread, path_of, NoModule, IsRowLoad, AreRowLoads, RefusesRow, FirstRefused, NoModules, LinksText, LinksList}
+use Rattle.wind_link.specs.Command.{Faults, HasBytes, path_of, NoModule, IsRowLoad, AreRowLoads, RefusesRow, FirstRefused, NoModules, LinksText, LinksList}
 use Rattle.wind_link.specs.Linking.{load_of}
 use Rattle.wind_link.specs.Lists.{Row, rows_of}
 use Rattle.wind_link.specs.Placing.{with_module, segment_or, wrong_place, taken_by}
@@ -62,12 +62,6 @@ taken_row f xs i d h = ap (map f) (take-suc xs i d h) ∙ map-append f (take i x
 rose_more : (old mid new : ℕ) → old ≤ mid → mid ≤ new → Rose mid new → Rose old new
 rose_more old mid new a b (inl h) = inl (omega arith)
 rose_more old mid new a b (inr e) = elim (below_or old 18446744073709551615) [ inl h ↦ inl (omega arith) | inr h ↦ inr (omega arith) ]
-
--- a refusal of a call is one of a longer call, which began with fewer faults
-unread_more : (most : ℕ) (files : Option Files) (name : List ℕ) (n old mid new : ℕ) (end : LinkStatus) → old ≤ mid → mid ≤ new
-    → Unread most files name n (record { before = mid; after = new }) end → Unread most files name n (record { before = old; after = new }) end
-unread_more most files name n old mid new status.ReadFault a b h = rose_more old mid new a b h
-unread_more most files name n old mid new end a b h = h
 
 no_module_more : (files : Option Files) (name : List ℕ) (n old mid new : ℕ) (end : LinkStatus) → old ≤ mid → mid ≤ new
     → NoModule files name n (record { before = mid; after = new }) end → NoModule files name n (record { before = old; after = new }) end

@@ -4,9 +4,9 @@ use Rattle.std.specs.List.{list_all, position_or_len, prefix_len}
 use Rattle.std.specs.Str.Lossy.{utf8_valid_len}
 use Rattle.std.specs.Str.Parse.{digits_value}
 use Prim.Native.Char.{code}
-use Rattle.text_lines.specs.Lines.{onto_first}
-use Rattle.text_lines.specs.Words.{is_blank as parts_words}
-use Rattle.text_lines.specs.declared.words.Blanks.TheVariants.{Spaces}
+use Rattle.source_text.specs.Lines.{onto_first}
+use Rattle.source_text.specs.Blanks.{is_blank as parts_words}
+use Rattle.source_text.specs.declared.words.Blanks.TheVariants.{Spaces}
 use Rattle.module_image.specs.declared.segments.Places.{Places}
 use Rattle.module_image.specs.Exports.{no_symbols}
 

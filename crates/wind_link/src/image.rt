@@ -1,6 +1,6 @@
 //! The bytes of the image.
 
-ghost use Rattle.std.specs.Prelude.{◌≡◌, ◌+◌, ◌-◌, ◌^◌, ◌≤◌, ◌<◌, IfOk, length, replicate};
+ghost use Rattle.std.specs.Prelude.{◌≡◌, ◌+◌, ◌-◌, ◌^◌, ◌<◌, IfOk, length, replicate};
 ghost use Rattle.wind_link.specs.Steps.{low_after, high_after, with_one, with_all, IsInside, AreInside, cut_segments};
 
 use mem_partition::Block;

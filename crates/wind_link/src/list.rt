@@ -1,16 +1,16 @@
 //! Reads a list.
 
-ghost use Rattle.std.specs.Prelude.{◌≡◌, ◌<◌, ◌≤◌, ◌^◌, length, map, option_map, Ok, Err, IfOk, IfErr, true};
+ghost use Rattle.std.specs.Prelude.{◌≡◌, ◌<◌, ◌≤◌, length, map, option_map, Ok, Err, IfOk, IfErr, true};
 ghost use Rattle.std.specs.List.{list_all};
 ghost use Rattle.std.specs.Char.{digit_value};
 ghost use Rattle.std.specs.Str.Parse.{digits_value};
-ghost use Rattle.wind_link.specs.Lists.{first_word as first_word_lem, after_word as after_word_lem, is_name, mode_of, is_hex as is_hex_lem, address_of, places_said, most_lines, row_of, rows_of};
+ghost use Rattle.wind_link.specs.Lists.{first_word as first_word_lem, after_word as after_word_lem, mode_of, is_hex as is_hex_lem, address_of, places_said, most_lines, row_of, rows_of};
 ghost use Rattle.wind_link.specs.Rows.{row as row_lem, name_of, first_line as first_line_lem, TellsLine};
 
 use module_image::Places;
+use source_text::{Blanks, after_line};
 use std::alloc::Global;
 use std::str;
-use text_lines::{Blanks, after_line};
 use wind_base::line_len;
 
 /// The most lines of a list.

@@ -1,6 +1,6 @@
 //! Tests where the segments of modules are placed.
 
-ghost use Rattle.std.specs.Prelude.{◌≡◌, ◌^◌, ◌≤◌, ◌<◌, None, true, OnOk, IfOk, IfErr, length};
+ghost use Rattle.std.specs.Prelude.{◌≡◌, ◌≤◌, ◌<◌, None, true, OnOk, IfOk, IfErr};
 ghost use Rattle.mem_partition.specs.Place.{is_apart as is_apart_lem, meets_none as meets_none_lem, fits as fits_lem};
 ghost use Rattle.module_image.specs.Opening.{stack_block, opening_blocks as opening_blocks_lem};
 ghost use Rattle.wind_base.specs.Limits.{ram_bytes};

@@ -1,17 +1,17 @@
 -- Who makes the step that needs a file.
-use Rattle.std.proofs.Common.{◌≡◌, ℕ, true, List, Option, None, Some, IsSome, refl, ap, ◌∙◌, subst}
+use Rattle.std.proofs.Common.{◌≡◌, ℕ, true, List, Option, None, Some, refl, ap, ◌∙◌, subst}
 use Rattle.std.specs.Prelude.{unwrap_or}
 use Rattle.std.specs.Option.{option_map}
 use Rattle.wind_base.specs.declared.gate.Gate.{Gate}
 use Rattle.wind_base.specs.declared.gate.Gate.TheVariants as gates
-use Rattle.kernel_world.specs.State.{WorldState}
+use Rattle.live_loading.specs.KernelWorldState.{WorldState}
 use Rattle.wind_base.specs.Boards.{board_rules}
 use Rattle.wind_base.specs.Gates.{gate_at}
-use Rattle.kernel_world.specs.Starting.{no_regs}
+use Rattle.live_loading.specs.KernelWorldStarting.{no_regs}
 use Rattle.id_table.specs.Idents.{shell_id}
-use Rattle.live_loading.specs.KernelCalls.{file_wanted}
-use Rattle.kernel_world.specs.Objects.{IsReady}
-use Rattle.kernel_world.specs.declared.actor.Actor.{Actor}
+use Rattle.live_loading.specs.KernelCallsCalls.{file_wanted}
+use Rattle.live_loading.specs.KernelWorldObjects.{IsReady}
+use Rattle.live_loading.specs.KernelWorldActor.{Actor}
 use Rattle.live_loading.specs.Loading.{shell}
 use Rattle.wind_machine.specs.State.{State}
 use Rattle.wind_machine.specs.Good.{Good}
@@ -88,10 +88,3 @@ asked_may s name e = may (next s) e where
   may : (n : Next) → file_of n ≡ Some name → next_may s n ≡ true
   may (Load given) q = refl
   may n q = absurd (cc)
-
-pub asked_exhausts : (s : State) → IsSome (file_asked s) → may_exhaust_memory s ≡ true
-asked_exhausts s some =
-    elim (file_asked s) as (λ o. file_asked s ≡ o → IsSome o → may_exhaust_memory s ≡ true) [
-      | None ↦ λ e h. absurd (cc)
-      | Some name ↦ λ e h. asked_may s name e
-    ] refl some

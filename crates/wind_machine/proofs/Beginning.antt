@@ -7,11 +7,11 @@ use Rattle.wind_base.specs.declared.profile.Profile.{Profile}
 use Rattle.wind_base.specs.declared.profile.Profile.TheVariants.{One, Two}
 use Rattle.inheritance.specs.Mutexes.{both as with_mutexes}
 use Rattle.inheritance.specs.Reach.{lifted, IsExact}
-use Rattle.kernel_world.specs.Objects.{no_objects}
+use Rattle.live_loading.specs.KernelWorldObjects.{no_objects}
 use Rattle.con_line.proofs.Kept.{start_keeps}
-use Rattle.kernel_world.specs.Opening.{shell_record, opening_kern, opening_world}
-use Rattle.kernel_world.specs.Kept.{HasCounts}
-use Rattle.kernel_world.proofs.Opened.{opens}
+use Rattle.live_loading.specs.KernelWorldOpening.{shell_record, opening_kern, opening_world}
+use Rattle.live_loading.specs.KernelWorldKept.{HasCounts}
+use Rattle.live_loading.proofs.KernelWorldOpened.{opens}
 use Rattle.wind_machine.specs.Laws.{StartLaw}
 use Rattle.wind_machine.specs.Machine.{opening}
 

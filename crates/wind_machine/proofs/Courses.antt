@@ -5,9 +5,9 @@ use Rattle.std.specs.List.{All}
 use Rattle.std.proofs.lemmas.List.Elements.{All-head, All-drop}
 use Rattle.wind_base.specs.declared.board_kind.BoardKind.{BoardKind}
 use Rattle.wind_outside.specs.Devices.{DeviceState}
-use Rattle.wind_lists.specs.Sorting.{first}
+use Rattle.id_table.specs.Sorting.{first}
 use Rattle.tick_file.specs.Schedule.{Timed, Timetable, timetable_of}
-use Rattle.kernel_world.specs.State.{Choice, choice_of}
+use Rattle.live_loading.specs.KernelWorldState.{Choice, choice_of}
 use Rattle.live_loading.specs.Said.{FileSaid}
 use Rattle.wind_machine.specs.State.{State}
 use Rattle.wind_machine.specs.Good.{Good}
@@ -16,7 +16,7 @@ use Rattle.wind_machine.specs.Laws.{ChoiceLaw, StartLaw, StepLaw, InstantLaw, Sa
 use Rattle.wind_machine.specs.Run.{Answers, after}
 use Rattle.wind_base.specs.declared.profile.Profile.{Profile}
 use Rattle.wind_machine.specs.Machine.{opening, machine_step}
-use Rattle.kernel_world.specs.Opening.{opening_world}
+use Rattle.live_loading.specs.KernelWorldOpening.{opening_world}
 use Rattle.wind_machine.proofs.Timetables.{step_left}
 
 next_early : (es : List Timed) → All IsEarly es → IfSome (first es) IsEarly

@@ -2,12 +2,12 @@
 use Rattle.std.proofs.Common.{◌≡◌, ℕ, true, false, cond, eqb, List, [], ◌∷◌, map, Option, Some, IfSome, refl, sym, ap, ◌∙◌, subst}
 use Rattle.task_block.specs.declared.task.Task.{Task}
 use Rattle.task_block.specs.Standing.{is_ready}
-use Rattle.wind_lists.proofs.Records.{found_in}
+use Rattle.id_table.proofs.Records.{found_in}
 use Rattle.wind_core.specs.State.{KernState, IsKern, task_id, task_of}
 use Rattle.wind_core.specs.Orders.{running}
 use Rattle.wind_core.specs.Moves.{unreserved}
 use Rattle.wind_core.proofs.Lawful.{runner_may}
-use Rattle.kernel_world.specs.Objects.{IsReady}
+use Rattle.live_loading.specs.KernelWorldObjects.{IsReady}
 use Rattle.wind_machine.specs.Reserving.{unless_own, drop_others}
 
 abbrev ReadyIf : Option Task → Type 0

@@ -9,14 +9,14 @@ use Rattle.wind_core.specs.State.{KernState, Lives, task_of}
 use Rattle.wind_core.specs.Moves.{unreserved}
 use Rattle.wind_core.specs.Tick.{tick}
 use Rattle.wind_core.proofs.Ids.{ids-tick, lives_by}
-use Rattle.kernel_world.specs.Safety.{safe_of}
+use Rattle.live_loading.specs.TaskSafetySafety.{safe_of}
 use Rattle.shell_parse.specs.Reading.{read_line}
 use Rattle.con_line.specs.Lines.{has_line, first_line, line_dropped}
-use Rattle.kernel_world.specs.State.{choice_of}
+use Rattle.live_loading.specs.KernelWorldState.{choice_of}
 use Rattle.id_table.specs.Idents.{shell_id}
-use Rattle.kernel_world.specs.Objects.{IsReady}
-use Rattle.kernel_world.specs.declared.actor.Actor.{Actor}
-use Rattle.kernel_world.specs.declared.actor.Actor.TheVariants.{Task as by_task, Interrupt}
+use Rattle.live_loading.specs.KernelWorldObjects.{IsReady}
+use Rattle.live_loading.specs.KernelWorldActor.{Actor}
+use Rattle.live_loading.specs.KernelWorldActor.TheVariants.{Task as by_task, Interrupt}
 use Rattle.live_loading.specs.Said.{FileSaid}
 use Rattle.live_loading.specs.Loading.{shell, load_call}
 use Rattle.live_loading.specs.Laws.{LoadLaw}
@@ -27,14 +27,14 @@ use Rattle.wind_machine.specs.Part.{Part, part_of}
 use Rattle.wind_machine.specs.Reserving.{unless_own, drop_all}
 use Rattle.wind_machine.specs.Shell.{prompt_part, read_part, eval_part}
 use Rattle.wind_machine.specs.Processor.{without_own, actor_part}
-use Rattle.wind_machine.proofs.Steps.{if_settled}
+use Rattle.wind_machine.proofs.Steps.{if_settled, step_start_advances, routine_acts, prompts, reads, evaluates, loads, acts, unreserved_keeps}
 use Rattle.wind_machine.specs.Laws.{ChoiceLaw, OnlyUnsafeGo, SafetyLaw}
 use Rattle.wind_machine.specs.Events.{Heard, heard_by, arrived, event_comes, event_step, unreserved_world, without_next}
 use Rattle.wind_machine.specs.ActorSteps.{at_step_start, shell_world, task_step, shell_step, step_of, routine_step, load_step}
 use Rattle.wind_machine.specs.Next.{is_active, next}
 use Rattle.std.specs.Option.{option_map}
 use Rattle.inheritance.proofs.Raising.{raised_to}
-use Rattle.kernel_world.specs.Settling.{settled_kern}
+use Rattle.live_loading.specs.KernelWorldSettling.{settled_kern}
 use Rattle.wind_machine.specs.Machine.{machine_step, settled_state, state_after, actor_of}
 use Rattle.wind_machine.specs.declared.phase.Phase.{Phase}
 use Rattle.wind_machine.specs.declared.phase.Phase.TheVariants as phases
@@ -43,7 +43,6 @@ use Rattle.wind_machine.proofs.Free.{runner_ready}
 use Rattle.wind_machine.proofs.Hearing.{heard_keeps}
 use Rattle.wind_machine.proofs.Dropping.{all_advance}
 use Rattle.wind_machine.proofs.Parts.{PartKeeps}
-use Rattle.wind_machine.proofs.Steps.{step_start_advances, routine_acts, prompts, reads, evaluates, loads, acts, unreserved_keeps}
 
 -- a task is as safe at the beginning of a step as before it
 same_safe : (ts : List Task) (who id : ℕ) → safe_of (task_of (map (unless_own who) ts) id) ≡ safe_of (task_of ts id)

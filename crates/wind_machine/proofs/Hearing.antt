@@ -7,7 +7,7 @@ use Rattle.std.proofs.lemmas.List.Quantifiers.{position-Some}
 use Rattle.wind_base.specs.declared.board_kind.BoardKind.{BoardKind}
 use Rattle.task_block.specs.declared.task.Task.{Task}
 use Rattle.task_block.specs.Standing.{is_ready}
-use Rattle.wind_lists.specs.Records.{change}
+use Rattle.id_table.specs.Records.{change}
 use Rattle.wind_core.specs.State.{KernState, IsKern, task_id, task_of}
 use Rattle.wind_core.specs.Moves.{renewed, settled, move_found, released, release, unmarked}
 use Rattle.wind_core.specs.Move.{Release, Reset}
@@ -22,14 +22,14 @@ use Rattle.wind_machine.specs.State.{ShellState}
 use Rattle.wind_machine.specs.Good.{HasItsLine}
 use Rattle.wind_machine.specs.Feed.{is_end, first_end, taken_by, is_unended, supplied, chunk}
 use Rattle.id_table.specs.Idents.{shell_id}
-use Rattle.wind_machine.specs.Task.{shell_task, is_at_console, waits_for_console, is_held, let_go, aborted}
+use Rattle.wind_machine.specs.Task.{shell_task, waits_for_console, is_held, let_go, aborted}
 use Rattle.wind_machine.specs.Events.{Heard, hear, heard_all, heard_from, kern_after}
 use Rattle.wind_machine.proofs.TaskLemmas.{since-move}
-use Rattle.kernel_world.specs.Kept.{CountsWithin}
-use Rattle.kernel_world.specs.Objects.{KeepsObjects}
-use Rattle.kernel_world.specs.declared.objects.Objects.{Objects}
-use Rattle.kernel_world.proofs.ObjectMoves.{objects-move}
-use Rattle.kernel_world.proofs.Goes.{Goes, goes_nowhere, goes_on, goes_further, goes-move}
+use Rattle.live_loading.specs.KernelWorldKept.{CountsWithin}
+use Rattle.live_loading.specs.KernelWorldObjects.{KeepsObjects}
+use Rattle.live_loading.specs.KernelWorldObjectsType.{Objects}
+use Rattle.live_loading.proofs.KernelWorldObjectMoves.{objects-move}
+use Rattle.live_loading.proofs.KernelWorldGoes.{Goes, goes_nowhere, goes_on, goes_further, goes-move}
 use Rattle.wind_machine.proofs.Moves.{goes-aborted}
 use Rattle.wind_machine.proofs.Kept.{byte_has_line}
 
@@ -76,11 +76,6 @@ free_after_abort k =
     ap is_held (found_changed (let_go k).tasks shell_id (λ t. renewed (let_go k).next_since (unmarked t)) (λ t. refl))
     ∙ same_held (let_go k).next_since (shell_task (let_go k))
     ∙ free_after_let_go k
-
--- a task that waits for the console waits for something
-listener_held : (o : Option Task) → is_at_console o ≡ true → is_held o ≡ true
-listener_held None e = absurd (cc)
-listener_held (Some t) e = elim t.wait as (λ w. is_at_console (Some (record t { wait = w })) ≡ true → (is_some w || is_some t.wake) ≡ true) [ None ↦ λ q. absurd (cc) | Some p ↦ λ q. refl ] e
 
 -- ---- order numbers: one for each byte, and one more if the task waits or is delayed before
 abbrev pub owed : KernState → ℕ

@@ -7,8 +7,8 @@ use Rattle.inheritance.specs.Mutexes.{MutexState, both}
 use Rattle.inheritance.specs.Reach.{boss, path, is_on, pri_of, lifted}
 use Rattle.inheritance.proofs.Walk.{path_cases}
 use Rattle.inheritance.proofs.Same.{urgent_at, exact_same}
-use Rattle.kernel_world.specs.MutexesKept.{IsSettled}
-use Rattle.kernel_world.proofs.AtOnce.{settled_law}
+use Rattle.live_loading.specs.SemMutexKept.{IsSettled}
+use Rattle.live_loading.proofs.SemMutexAtOnce.{settled_law}
 use Rattle.wind_machine.specs.State.{State}
 use Rattle.wind_machine.specs.Good.{Good}
 use Rattle.wind_machine.specs.Instants.{OwnersInherit, OthersAreNormal, InheritsExactly}

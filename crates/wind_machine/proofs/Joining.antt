@@ -7,7 +7,7 @@ use Rattle.std.proofs.lemmas.List.{length-append, length-drop}
 use Rattle.std.proofs.lemmas.List.Elements.{All-drop}
 use Rattle.std.proofs.lemmas.List.Sums.{sum_by-cons, sum_by-append}
 use Rattle.std.proofs.lemmas.Option.{same_Some}
-use Rattle.wind_lists.specs.Sorting.{first}
+use Rattle.id_table.specs.Sorting.{first}
 use Rattle.tick_file.specs.Schedule.{Timed, Timetable}
 use Rattle.tick_file.specs.declared.event.Event.{Event}
 use Rattle.tick_file.specs.declared.event.Event.TheVariants.{Tick, Rx, Irq}
@@ -21,7 +21,7 @@ use Rattle.wind_machine.specs.Events.{event_comes, event_step, unreserved_world,
 use Rattle.wind_machine.specs.ActorSteps.{shell_step, task_step, step_of}
 use Rattle.wind_machine.specs.Next.{holds_back, is_active, is_open, due_at, next, IsLeftToTasks}
 use Rattle.wind_machine.specs.Machine.{state_after, file_asked, machine_step, opening}
-use Rattle.wind_machine.specs.Extending.{RoomStays, DemandStays, TimeGrows, More, extended, longer, bytes_asked, bytes_at, IsLater, MayExtend, AreSteps, RunExtends, Joins, ExtendLaw, Setup, booted, RecordLaw, IsFed, GrowsLaw}
+use Rattle.wind_machine.specs.Extending.{RoomStays, DemandStays, TimeGrows, More, extended, longer, bytes_asked, bytes_at, IsLater, MayExtend, Begins, RunExtends, Joins, ExtendLaw, Setup, booted, RecordLaw, IsFed, GrowsLaw}
 use Rattle.wind_machine.specs.declared.phase.Phase.{Phase}
 use Rattle.wind_machine.specs.declared.phase.Phase.TheVariants as phases
 use Rattle.wind_machine.proofs.Order.{by_next}
@@ -214,21 +214,14 @@ module _ (said : Answers) (setup : Setup) (console : List ℕ) (schedule : Timet
   unfolding opening
   start_joins h = h
 
--- the run from this state begins with that of the record
-abbrev IsBegun : Answers → Setup → List ℕ → Timetable → More → ℕ → State → Type 0
-IsBegun said setup console schedule m k t =
-    ((j : ℕ) → j < suc k → after said t j ≡ extended m (after said (booted setup console schedule) j))
-    × (text said t k ≡ text said (booted setup console schedule) k) × AreSteps said t k
-    × ((j : ℕ) → j < k → file_asked (after said t j) ≡ file_asked (after said (booted setup console schedule) j))
-
 pub grows : GrowsLaw
 grows said setup console schedule m k fed demand few made late =
     let joins : Joins m console schedule = record { shorter = fed.demand; longer = demand; bytes = fed.bytes } in
-    let begun = extends said m (booted setup console schedule) k (start_joins said setup console schedule m k joins) made late in
+    let start = booted setup console schedule in
+    let begun = extends said m start k (start_joins said setup console schedule m k joins) made late in
     let total : sum_by bytes_at (longer m schedule).events ≤ length (console ++ m.bytes) = omega (arith, sum_by-append bytes_at schedule.events m.events, length-append console m.bytes, fed.bytes, few) in
     let more : IsFed (console ++ m.bytes) (longer m schedule) = record { demand = demand; bytes = total } in
-    let all = subst (IsBegun said setup console schedule m k) (records_extend setup console schedule m) (begun.states, begun.wrote, begun.made, begun.files) in
-    record { fed = more; states = all.0; wrote = all.1; made = all.2; files = all.3 }
+    record { fed = more; begins = subst (λ u. Begins said m start u k) (records_extend setup console schedule m) begun }
 
 pub room_stays : RoomStays
 room_stays time line said s t h e =

@@ -26,4 +26,4 @@ pub mod Evaluating
 pub mod Slotted
 pub mod SlotSteps
 pub mod SlotRuns
-pub use Rattle.live_loading.proofs.CallsReading
+pub use Rattle.live_loading.proofs.KernelCallsReading

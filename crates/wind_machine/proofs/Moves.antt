@@ -12,8 +12,8 @@ use Rattle.wind_core.proofs.Moving.{move_keeps}
 use Rattle.wind_core.proofs.Stable.{renew_task-stable, tick-stable}
 use Rattle.wind_core.proofs.Unwritten.{map-renew, map-tick}
 use Rattle.id_table.specs.Idents.{shell_id}
-use Rattle.kernel_world.specs.Kept.{stack_of, HasCounts, CountsWithin, ReservedBy, task_stacks}
-use Rattle.kernel_world.proofs.Goes.{Goes, goes_nowhere, goes_on, goes_further, goes-move, reserved_by}
+use Rattle.live_loading.specs.KernelWorldKept.{stack_of, HasCounts, CountsWithin, ReservedBy, task_stacks}
+use Rattle.live_loading.proofs.KernelWorldGoes.{Goes, goes_nowhere, goes_on, goes_further, goes-move, reserved_by}
 use Rattle.wind_machine.specs.Task.{shell_task, console_place, is_held, listening, let_go, aborted}
 
 -- ---- the shell's task

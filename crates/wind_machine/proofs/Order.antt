@@ -13,7 +13,6 @@ use Rattle.wind_machine.specs.State.{State}
 use Rattle.wind_machine.specs.Events.{next_event}
 use Rattle.wind_machine.specs.ActorSteps.{file_in, file_for}
 use Rattle.wind_machine.specs.Next.{is_active, event_of, time_of, due_delivery, due_event, console_is_due, first_or_over, when, act_or_load, task_next, next, NothingIsDue, IsLeftToTasks, ComesNext}
-use Rattle.std.specs.Option.{option_map}
 use Rattle.wind_machine.specs.Machine.{state_after, settled_state, machine_step}
 use Rattle.wind_machine.specs.Laws.{OrderLaw, OverLaw}
 use Rattle.wind_machine.specs.declared.next.Next.{Next}

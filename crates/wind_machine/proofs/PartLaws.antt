@@ -15,30 +15,30 @@ use Rattle.mem_partition.specs.declared.block.Block.{Block}
 use Rattle.mem_partition.specs.declared.block.Class.TheVariants.{Kernel}
 use Rattle.mem_partition.proofs.Owners.{is_own, only_block}
 use Rattle.wind_core.specs.State.{Lives, task_of}
-use Rattle.kernel_world.specs.Safety.{safe_of}
+use Rattle.live_loading.specs.TaskSafetySafety.{safe_of}
 use Rattle.wind_core.specs.Moves.{set_regs}
 use Rattle.wind_core.specs.Move.{SetRegs}
 use Rattle.wind_core.proofs.Ids.{ids-change, lives_by}
 use Rattle.wind_core.proofs.Moving.{move_keeps}
 use Rattle.wind_core.proofs.Stable.{All-change}
 use Rattle.wind_core.proofs.Unwritten.{map-change}
-use Rattle.kernel_world.specs.State.{WorldState, choice_of}
+use Rattle.live_loading.specs.KernelWorldState.{WorldState, choice_of}
 use Rattle.id_table.specs.Idents.{shell_id}
-use Rattle.kernel_world.specs.Starting.{cleared, framed}
-use Rattle.live_loading.specs.TaskEnding.{ended}
-use Rattle.kernel_world.specs.Kept.{stack_of, routine_stack, IsStack, AreStacks, task_stacks, IsWorld, HasCounts, Within, ReservedBy, call_sinces}
-use Rattle.live_loading.specs.KernelCallLaws.{OnlyUnsafeGo, Passes}
-use Rattle.kernel_world.specs.Objects.{IsFree}
-use Rattle.kernel_world.specs.declared.actor.Actor.{Actor}
-use Rattle.kernel_world.specs.declared.actor.Actor.TheVariants.{Task as by_task, Interrupt}
-use Rattle.kernel_world.proofs.WorldIds.{ids_kern}
-use Rattle.kernel_world.proofs.Holding.{loaded_on, loaded_with}
-use Rattle.kernel_world.proofs.Stacks.{is_there}
-use Rattle.kernel_world.proofs.Boards.{pool_in_ram}
-use Rattle.kernel_world.proofs.Advancing.{Advances, within_more, stays}
-use Rattle.kernel_world.proofs.ObjectMoves.{objects-move}
-use Rattle.live_loading.proofs.Departing.{ends}
-use Rattle.live_loading.proofs.Serves.{passes_by}
+use Rattle.live_loading.specs.KernelWorldStarting.{cleared, framed}
+use Rattle.live_loading.specs.CallRowsEnding.{ended}
+use Rattle.live_loading.specs.KernelWorldKept.{stack_of, routine_stack, IsStack, AreStacks, task_stacks, IsWorld, HasCounts, Within, ReservedBy, call_sinces}
+use Rattle.live_loading.specs.KernelCallsLaws.{OnlyUnsafeGo, Passes}
+use Rattle.live_loading.specs.KernelWorldObjects.{IsFree}
+use Rattle.live_loading.specs.KernelWorldActor.{Actor}
+use Rattle.live_loading.specs.KernelWorldActor.TheVariants.{Task as by_task, Interrupt}
+use Rattle.live_loading.proofs.KernelWorldWorldIds.{ids_kern}
+use Rattle.live_loading.proofs.KernelWorldHolding.{loaded_on, loaded_with}
+use Rattle.live_loading.proofs.KernelWorldStacks.{is_there}
+use Rattle.live_loading.proofs.KernelWorldBoards.{pool_in_ram}
+use Rattle.live_loading.proofs.KernelWorldAdvancing.{Advances, within_more, stays}
+use Rattle.live_loading.proofs.KernelWorldObjectMoves.{objects-move}
+use Rattle.live_loading.proofs.KernelCallsDeparting.{ends}
+use Rattle.live_loading.proofs.KernelCallsServes.{passes_by}
 use Rattle.shell_eval.specs.State.{State as EvalState}
 use Rattle.shell_eval.specs.Kept.{IsPoolInRam, Keeps}
 use Rattle.wind_machine.specs.Shell.{eval_state, with_eval}

@@ -12,25 +12,25 @@ use Rattle.board_bus.specs.Access.{board_meaning, fetched}
 use Rattle.wind_core.specs.State.{Lives, task_of}
 use Rattle.wind_core.specs.Moves.{suspend}
 use Rattle.wind_core.specs.Move.{Suspend}
-use Rattle.kernel_world.specs.State.{WorldState}
+use Rattle.live_loading.specs.KernelWorldState.{WorldState}
 use Rattle.id_table.specs.Idents.{shell_id}
-use Rattle.kernel_world.specs.Actors.{MayCall}
-use Rattle.live_loading.specs.KernelCalls.{call}
-use Rattle.kernel_world.specs.Allowed.{is_call}
-use Rattle.live_loading.specs.TaskEnding.{ended}
-use Rattle.kernel_world.specs.Kept.{IsWorld, Within, call_sinces}
-use Rattle.kernel_world.specs.declared.actor.Actor.{Actor}
-use Rattle.kernel_world.specs.declared.actor.Actor.TheVariants.{Task as by_task, Interrupt}
-use Rattle.kernel_world.proofs.Goes.{goes-move}
-use Rattle.kernel_world.proofs.ObjectMoves.{objects-listen, objects-move}
+use Rattle.live_loading.specs.KernelWorldActors.{MayCall}
+use Rattle.live_loading.specs.KernelCallsCalls.{call}
+use Rattle.live_loading.specs.KernelWorldAllowed.{is_call}
+use Rattle.live_loading.specs.CallRowsEnding.{ended}
+use Rattle.live_loading.specs.KernelWorldKept.{IsWorld, Within, call_sinces}
+use Rattle.live_loading.specs.KernelWorldActor.{Actor}
+use Rattle.live_loading.specs.KernelWorldActor.TheVariants.{Task as by_task, Interrupt}
+use Rattle.live_loading.proofs.KernelWorldGoes.{goes-move}
+use Rattle.live_loading.proofs.KernelWorldObjectMoves.{objects-listen, objects-move}
 use Rattle.wind_machine.proofs.Hearing.{objects-aborted}
 use Rattle.live_loading.specs.Said.{FileSaid}
 use Rattle.live_loading.specs.Loading.{shell as by_shell, load_call}
 use Rattle.live_loading.specs.Laws.{LoadLaw}
-use Rattle.kernel_world.specs.Objects.{IsFree, IsReady}
-use Rattle.kernel_world.proofs.Living.{ready_free}
-use Rattle.kernel_world.proofs.Advancing.{Advances, advances_on, by_kern, beside, at_routine}
-use Rattle.live_loading.proofs.CallsPassing.{call_passes}
+use Rattle.live_loading.specs.KernelWorldObjects.{IsFree, IsReady}
+use Rattle.live_loading.proofs.KernelWorldLiving.{ready_free}
+use Rattle.live_loading.proofs.KernelWorldAdvancing.{Advances, advances_on, by_kern, beside, at_routine}
+use Rattle.live_loading.proofs.KernelCallsPassing.{call_passes}
 use Rattle.shell_eval.specs.Pending.{Pending}
 use Rattle.shell_eval.specs.Evaluate.{Ending, Value, Call, Fault, Waiting, evaluate}
 use Rattle.shell_eval.proofs.KeptSteps.{keeps}
@@ -39,7 +39,7 @@ use Rattle.wind_machine.specs.State.{ShellState}
 use Rattle.wind_machine.specs.Good.{HasItsLine}
 use Rattle.wind_machine.specs.Part.{Part, part_of, with_kern, writing}
 use Rattle.wind_machine.specs.Task.{aborted, listening, stack_pointer, call_regs}
-use Rattle.live_loading.specs.Value.{value_text}
+use Rattle.live_loading.specs.TextShowValue.{value_text}
 use Rattle.wind_machine.specs.Text.{prompt_text, fault_text, routine_text}
 use Rattle.wind_machine.specs.Shell.{at_prompt, shell_with, returned, prompt_part, read_part, read_text, eval_state, with_eval, calling, came_to, eval_part}
 use Rattle.wind_machine.specs.Routine.{without_reserve, next_routine}

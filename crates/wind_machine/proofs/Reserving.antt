@@ -4,8 +4,8 @@ use Rattle.std.specs.List.{All}
 use Rattle.std.proofs.lemmas.List.Elements.{All-head, All-tail}
 use Rattle.std.proofs.lemmas.Bool.Decides.{nat_tests}
 use Rattle.task_block.specs.declared.task.Task.{Task}
-use Rattle.wind_lists.specs.Records.{change}
-use Rattle.wind_lists.proofs.Records.{change_alike}
+use Rattle.id_table.specs.Records.{change}
+use Rattle.id_table.proofs.Records.{change_alike}
 use Rattle.wind_core.specs.State.{KernState, IsKern, task_id, task_of}
 use Rattle.wind_core.specs.Moves.{unreserved, unreserve, set_regs}
 use Rattle.wind_machine.specs.Reserving.{unless_own}

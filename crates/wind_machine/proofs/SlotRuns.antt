@@ -22,10 +22,10 @@ use Rattle.dev_irq.specs.Calls.{with_one_more, with_one_less, raised}
 use Rattle.dev_irq.proofs.Lines.{lines_stay, first_is}
 use Rattle.dev_irq.proofs.Counting.{counts}
 use Rattle.dev_irq.proofs.Nexts.{nexts}
-use Rattle.live_loading.specs.IrqRows.{is_device}
-use Rattle.kernel_world.specs.Actors.{caller_words}
-use Rattle.kernel_world.specs.Opening.{no_irqs, opening_world}
-use Rattle.kernel_world.specs.declared.actor.Actor.TheVariants.{Task as by_task, Interrupt}
+use Rattle.live_loading.specs.CallRowsIrqRows.{is_device}
+use Rattle.live_loading.specs.KernelWorldActors.{caller_words}
+use Rattle.live_loading.specs.KernelWorldOpening.{no_irqs, opening_world}
+use Rattle.live_loading.specs.KernelWorldActor.TheVariants.{Task as by_task, Interrupt}
 use Rattle.live_loading.specs.Said.{FileSaid}
 use Rattle.wind_machine.specs.State.{State}
 use Rattle.wind_machine.specs.Processor.{bus_of, gate_under}

@@ -14,8 +14,8 @@ use Rattle.ppc_core.specs.declared.trap.Trap.TheVariants as traps
 use Rattle.elf_read.specs.declared.module.Module.{Module}
 use Rattle.elf_read.specs.Contents.{module_at}
 use Rattle.module_image.specs.declared.segments.Places.{Places}
-use Rattle.kernel_world.specs.LoadErr.{LoadErr}
-use Rattle.kernel_world.specs.ModuleLoading.{file_verdict}
+use Rattle.live_loading.specs.ModuleLoaderLoadErr.{LoadErr}
+use Rattle.live_loading.specs.ModuleLoaderLoading.{file_verdict}
 use Rattle.board_bus.specs.BusState.{BusState}
 use Rattle.board_bus.specs.Access.{board_meaning, fetched}
 use Rattle.wind_core.specs.State.{task_of}
@@ -23,18 +23,18 @@ use Rattle.wind_core.specs.Moves.{suspend}
 use Rattle.dev_irq.specs.State.{pending_of, IsIrqs}
 use Rattle.shell_eval.specs.Pending.{Pending}
 use Rattle.shell_eval.specs.Evaluate.{Ending, Value, Call, Fault, Waiting, evaluate}
-use Rattle.kernel_world.specs.State.{WorldState}
-use Rattle.kernel_world.specs.Starting.{no_regs}
+use Rattle.live_loading.specs.KernelWorldState.{WorldState}
+use Rattle.live_loading.specs.KernelWorldStarting.{no_regs}
 use Rattle.id_table.specs.Idents.{shell_id}
-use Rattle.kernel_world.specs.Actors.{caller_words}
-use Rattle.kernel_world.specs.Allowed.{is_call}
-use Rattle.kernel_world.specs.Replies.{left_gate}
-use Rattle.kernel_world.specs.declared.actor.Actor.{Actor}
-use Rattle.kernel_world.specs.declared.actor.Actor.TheVariants.{Task as by_task, Interrupt}
-use Rattle.live_loading.specs.KernelCalls.{call}
-use Rattle.live_loading.specs.TaskEnding.{ended}
+use Rattle.live_loading.specs.KernelWorldActors.{caller_words}
+use Rattle.live_loading.specs.KernelWorldAllowed.{is_call}
+use Rattle.live_loading.specs.KernelWorldReplies.{left_gate}
+use Rattle.live_loading.specs.KernelWorldActor.{Actor}
+use Rattle.live_loading.specs.KernelWorldActor.TheVariants.{Task as by_task, Interrupt}
+use Rattle.live_loading.specs.KernelCallsCalls.{call}
+use Rattle.live_loading.specs.CallRowsEnding.{ended}
 use Rattle.live_loading.specs.Said.{FileSaid, Held, Missing, TooLong}
-use Rattle.live_loading.specs.Loading.{shell, loader_state, by_verdict, effect, load_call}
+use Rattle.live_loading.specs.Loading.{shell, loader_state, by_verdict, effect, mode_wanted, load_call}
 use Rattle.wind_machine.specs.State.{ShellState, State}
 use Rattle.wind_machine.specs.Part.{part_of, with_kern, writing}
 use Rattle.wind_machine.specs.Task.{aborted}
@@ -139,7 +139,7 @@ module _ (w : WorldState) (is : IsIrqs w.irqs) where
 
   load_leaves : (name : List ℕ) (said : FileSaid) → Leaves (slotted w) (slotted (load_call w name said))
   unfolding load_call
-  load_leaves name said = effect_leaves (left_gate w shell) name (slice_index (caller_words w shell) 3) said refl
+  load_leaves name said = effect_leaves (left_gate w shell) name (mode_wanted w) said refl
 
 -- ---- the gate and the words of the task that makes the step are the same at the step's beginning
 own_gate : (w : WorldState) (who : ℕ) → gate_under (at_step_start w who) (by_task who) ≡ gate_under w (by_task who)

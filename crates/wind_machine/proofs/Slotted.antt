@@ -15,18 +15,18 @@ use Rattle.board_bus.proofs.Removals.{removals}
 use Rattle.dev_irq.specs.declared.line.Line.{Line}
 use Rattle.dev_irq.specs.State.{pending_of, IsIrqs}
 use Rattle.dev_irq.proofs.Lines.{lines_stay}
-use Rattle.live_loading.specs.IrqRows.{IrqRow, row_of as irq_row, is_device, on_device}
-use Rattle.live_loading.specs.WatchRows.{routine_of}
-use Rattle.kernel_world.specs.State.{WorldState}
-use Rattle.kernel_world.specs.Actors.{caller_words}
-use Rattle.kernel_world.specs.CallWords.{call_of, call_by}
-use Rattle.kernel_world.specs.Replies.{left_gate, replied}
-use Rattle.kernel_world.specs.declared.actor.Actor.{Actor}
-use Rattle.kernel_world.specs.declared.actor.Actor.TheVariants.{Task, Interrupt}
-use Rattle.kernel_world.specs.declared.reply.Reply.{Reply}
-use Rattle.kernel_world.specs.declared.reply.Reply.TheVariants.{Answer, Refusal, Later, Gone}
-use Rattle.live_loading.specs.KernelCalls.{row_of, refusal_before, row_unless, made, call}
-use Rattle.live_loading.proofs.CallsRemoving.{slot_law, none_back}
+use Rattle.live_loading.specs.CallRowsIrqRows.{IrqRow, row_of as irq_row, is_device, on_device}
+use Rattle.live_loading.specs.CallRowsWatchRows.{routine_of}
+use Rattle.live_loading.specs.KernelWorldState.{WorldState}
+use Rattle.live_loading.specs.KernelWorldActors.{caller_words}
+use Rattle.live_loading.specs.KernelWorldCallWords.{call_of, call_by}
+use Rattle.live_loading.specs.KernelWorldReplies.{left_gate, replied}
+use Rattle.live_loading.specs.KernelWorldActor.{Actor}
+use Rattle.live_loading.specs.KernelWorldActor.TheVariants.{Task, Interrupt}
+use Rattle.live_loading.specs.KernelWorldReply.{Reply}
+use Rattle.live_loading.specs.KernelWorldReply.TheVariants.{Answer, Refusal, Later, Gone}
+use Rattle.live_loading.specs.KernelCallsCalls.{row_of, refusal_before, row_unless, made, call}
+use Rattle.live_loading.proofs.KernelCallsRemoving.{slot_law, none_back}
 use Rattle.wind_machine.proofs.Executing.{Lasts}
 
 -- the slots of a world, and their lines

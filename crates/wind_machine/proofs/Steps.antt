@@ -16,8 +16,8 @@ use Rattle.con_line.specs.State.{ConsoleState}
 use Rattle.con_line.specs.Lines.{KeepsLines, has_line, first_line, line_dropped}
 use Rattle.con_line.proofs.Kept.{drop_keeps}
 use Rattle.id_table.specs.Idents.{shell_id}
-use Rattle.kernel_world.specs.declared.actor.Actor.{Actor}
-use Rattle.kernel_world.specs.declared.actor.Actor.TheVariants.{Task as by_task, Interrupt}
+use Rattle.live_loading.specs.KernelWorldActor.{Actor}
+use Rattle.live_loading.specs.KernelWorldActor.TheVariants.{Task as by_task, Interrupt}
 use Rattle.isr_watch.specs.declared.watchdog.Watchdog.{Watchdog}
 use Rattle.isr_watch.specs.State.{watchdog_id, is_due}
 use Rattle.isr_watch.specs.declared.watchdog.Routine.{Routine}
@@ -27,15 +27,15 @@ use Rattle.dev_irq.specs.State.{routines_of}
 use Rattle.dev_irq.specs.Calls.{delivered}
 use Rattle.isr_watch.proofs.Ids.{ids_stay}
 use Rattle.isr_watch.proofs.Keeping.{watch_stays}
-use Rattle.kernel_world.specs.Kept.{routine_stack, AreStacks, KeepsWatch, ReservedBy, Within}
-use Rattle.kernel_world.specs.Objects.{IsReady}
-use Rattle.kernel_world.specs.State.{WorldState}
-use Rattle.kernel_world.proofs.Goes.{goes_nowhere}
-use Rattle.kernel_world.proofs.ObjectMoves.{objects-move}
-use Rattle.kernel_world.proofs.Holding.{loaded_on}
-use Rattle.kernel_world.proofs.LiveIds.{Nothing, fewer_same, given_none, ids_map}
-use Rattle.kernel_world.proofs.WorldIds.{ids_watch}
-use Rattle.kernel_world.proofs.Advancing.{Advances, advances_on, level_is, watch_on, by_kern, of_watches, of_devices, stays, within_more}
+use Rattle.live_loading.specs.KernelWorldKept.{routine_stack, AreStacks, KeepsWatch, ReservedBy, Within}
+use Rattle.live_loading.specs.KernelWorldObjects.{IsReady}
+use Rattle.live_loading.specs.KernelWorldState.{WorldState}
+use Rattle.live_loading.proofs.KernelWorldGoes.{goes_nowhere}
+use Rattle.live_loading.proofs.KernelWorldObjectMoves.{objects-move}
+use Rattle.live_loading.proofs.KernelWorldHolding.{loaded_on}
+use Rattle.live_loading.proofs.KernelWorldLiveIds.{Nothing, fewer_same, given_none, ids_map}
+use Rattle.live_loading.proofs.KernelWorldWorldIds.{ids_watch}
+use Rattle.live_loading.proofs.KernelWorldAdvancing.{Advances, advances_on, watch_on, by_kern, of_watches, of_devices, stays, within_more}
 use Rattle.live_loading.specs.Said.{FileSaid}
 use Rattle.live_loading.specs.Loading.{shell as by_shell, load_call}
 use Rattle.live_loading.specs.Laws.{LoadLaw}
@@ -46,15 +46,15 @@ use Rattle.wind_machine.specs.Part.{Part, part_of, with_kern}
 use Rattle.wind_machine.specs.Shell.{prompt_part, read_part, shell_read, eval_part}
 use Rattle.wind_machine.specs.Processor.{without_own, actor_part}
 use Rattle.wind_machine.specs.Reserving.{drop_others}
-use Rattle.wind_machine.specs.Routine.{interrupt_top, routine_return, with_return}
+use Rattle.wind_machine.specs.Routine.{interrupt_top}
 use Rattle.wind_machine.specs.Events.{Heard, heard_by, arrived, arrival, ticked, received, lines_raised, event_comes, event_step, delivered_world, delivery_step, unreserved_world, without_next, jump, cleared, next_event}
 use Rattle.wind_machine.specs.ActorSteps.{after_part, at_step_start, shell_world, stepped, prompt_step, read_step, eval_step, task_step, shell_step, step_of, routine_step}
 use Rattle.wind_machine.specs.Next.{is_active, next}
 use Rattle.std.specs.Option.{option_map}
 use Rattle.inheritance.specs.Mutexes.{both as with_mutexes}
 use Rattle.inheritance.proofs.Same.{exact_by_owners}
-use Rattle.kernel_world.specs.Settling.{settled_kern}
-use Rattle.kernel_world.proofs.Settling.{objects-settled, goes-settled, exact-settled, settled_same}
+use Rattle.live_loading.specs.KernelWorldSettling.{settled_kern}
+use Rattle.live_loading.proofs.KernelWorldSettling.{objects-settled, goes-settled, exact-settled, settled_same}
 use Rattle.wind_machine.specs.Laws.{StepLaw, EffectLaw, SettleLaw, IdleLaw}
 use Rattle.wind_machine.specs.Machine.{machine_step, settled_state, state_after}
 use Rattle.wind_machine.specs.declared.phase.Phase.{Phase}
@@ -216,12 +216,13 @@ module _ (s : State) (g : Keeps 0 (bare s)) where
       arrived_keeps (drop (brought n) s.left) bytes (heard_by s bytes) (omega (arith, length-take (brought n) s.left)) refl
 
   -- ---- a tick occurs
-  ticks_watch : (n : ℕ) → KeepsWatch s.world.kern.next_id (with_return s.world.board (due s.world.watch n interrupt_top))
+  ticks_watch : (n : ℕ) → KeepsWatch s.world.board s.world.kern.next_id (due s.world.watch n interrupt_top)
   ticks_watch n =
       let w = g.world.watch in
       record {
-        watch = level_is (λ r. record r { lr = routine_return s.world.board }) (due s.world.watch n interrupt_top) ((watch_stays s.world.kern.next_id s.world.watch w.watch w.ids).ticking n interrupt_top);
+        watch = (watch_stays s.world.kern.next_id s.world.watch w.watch w.ids).ticking n interrupt_top;
         ids = (ids_stay s.world.kern.next_id s.world.watch w.ids).ticking n interrupt_top;
+        link = w.link;
       }
 
   stops_alike : (n : ℕ) (v : Watchdog) → (cond (is_due n v) (stopped v) v).id ≡ v.id
@@ -243,8 +244,8 @@ module _ (s : State) (g : Keeps 0 (bare s)) where
           modules = loaded_on k s.world.part s.world.modules.rows g.world.modules (tick k) (omega (arith, next-tick k)) (stacks-tick k);
           ram = g.world.ram;
           symbols = g.world.symbols;
-          watch = watch_on k.next_id (tick k).next_id _ (omega (arith, next-tick k)) (ticks_watch (tick k).tick);
-          ids = ids_watch s.world g.world.ids (tick k) (with_return s.world.board (due s.world.watch (tick k).tick interrupt_top)) (ids-tick k)
+          watch = watch_on s.world.board k.next_id (tick k).next_id _ (omega (arith, next-tick k)) (ticks_watch (tick k).tick);
+          ids = ids_watch s.world g.world.ids (tick k) (due s.world.watch (tick k).tick interrupt_top) (ids-tick k)
               (Nothing (omega (arith, next-tick k)) (fewer_same (map watchdog_id s.world.watch.watchdogs) _ (ids_map watchdog_id (λ v. cond (is_due (tick k).tick v) (stopped v) v) s.world.watch.watchdogs (stops_alike (tick k).tick))));
         };
         shell = lives_by (tick k).tasks k.tasks shell_id (ids-tick k) g.shell;
@@ -282,18 +283,19 @@ module _ (s : State) (g : Keeps 0 (bare s)) where
   jump_keeps e early = calm_keeps s.world e.time (stays s.world g.world s.steps g.within) g.reserved (omega (arith, early))
 
   -- ---- an interrupt is delivered: its routines begin
-  begins_watch : (routines : List Routine) → KeepsWatch s.world.kern.next_id (with_return s.world.board (begun s.world.watch routines interrupt_top))
+  begins_watch : (routines : List Routine) → KeepsWatch s.world.board s.world.kern.next_id (begun s.world.watch routines interrupt_top)
   begins_watch routines =
       let w = g.world.watch in
       record {
-        watch = level_is (λ r. record r { lr = routine_return s.world.board }) (begun s.world.watch routines interrupt_top) ((watch_stays s.world.kern.next_id s.world.watch w.watch w.ids).beginning routines interrupt_top);
+        watch = (watch_stays s.world.kern.next_id s.world.watch w.watch w.ids).beginning routines interrupt_top;
         ids = (ids_stay s.world.kern.next_id s.world.watch w.ids).beginning routines interrupt_top;
+        link = w.link;
       }
 
   delivered_keeps : (i : ℕ) → KeepsEffect (record s { world = cleared (delivered_world s.world i); steps = s.steps + 1 })
   delivered_keeps i =
       let w = s.world in
-      let watch = with_return w.board (begun w.watch (routines_of w.irqs i) interrupt_top) in
+      let watch = begun w.watch (routines_of w.irqs i) interrupt_top in
       let v = record w { watch = watch } in
       let u = record v { irqs = delivered w.irqs i } in
       let begin = of_watches w g.world s.steps g.within w.kern watch 0 (goes_nowhere w.kern s.steps g.world.kern g.within.0) g.world.objects (begins_watch (routines_of w.irqs i)) (omega arith) (given_none w.kern.next_id w.kern.next_id (map watchdog_id w.watch.watchdogs) (omega arith)) in

@@ -3,10 +3,10 @@ use Rattle.std.proofs.Common.{◌≡◌, ℕ, ◌+◌, ◌≤◌, Bool, true, fa
 use Rattle.task_block.specs.declared.task.Task.{Task}
 use Rattle.task_block.specs.Standing.{is_ready}
 use Rattle.wind_core.specs.State.{KernState, Lives, task_of}
-use Rattle.wind_core.specs.Moves.{move_found, move_task, released, release, unmarked, pended, renewed}
+use Rattle.wind_core.specs.Moves.{move_found, move_task, released, release, unmarked, renewed}
 use Rattle.wind_core.proofs.Ids.{ids, ids-change, ids-move, lives_by}
 use Rattle.id_table.specs.Idents.{shell_id}
-use Rattle.wind_machine.specs.Task.{shell_task, console_place, is_held, let_go, aborted, listening}
+use Rattle.wind_machine.specs.Task.{shell_task, is_held, let_go, aborted}
 use Rattle.con_line.specs.declared.console.ByteDone.{ByteDone}
 use Rattle.con_line.specs.declared.console.ByteDone.TheVariants as done
 use Rattle.wind_machine.specs.Events.{kern_after}
@@ -30,9 +30,6 @@ let_go_since k = elim (is_held (shell_task k)) as (λ b. (cond b (release k shel
 
 pub ids-aborted : (k : KernState) → ids (aborted k).tasks ≡ ids k.tasks
 ids-aborted k = ids-change (let_go k).tasks shell_id (λ t. renewed (let_go k).next_since (unmarked t)) (λ t. refl) ∙ ids-let_go k
-
-pub ids-listening : (k : KernState) → ids (listening k).tasks ≡ ids k.tasks
-ids-listening k = ids-change k.tasks shell_id (λ t. renewed k.next_since (pended console_place false None t)) (λ t. refl)
 
 pub ids-after : (d : ByteDone) (waits : Bool) (k : KernState) → ids (kern_after d waits k).tasks ≡ ids k.tasks
 ids-after done.Abort waits k = ids-aborted k

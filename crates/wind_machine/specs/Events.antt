@@ -1,7 +1,7 @@
 -- What comes from outside: interrupts of devices, bytes of the console and events of the tick file. They take no board
 -- time; a jump moves board time to the next event.
 use Rattle.std.specs.Prelude.{ℕ, ◌+◌, List, [], ◌++◌, Option, Bool, if◌then◌else◌, fold, take, drop}
-use Rattle.wind_lists.specs.Sorting.{first}
+use Rattle.id_table.specs.Sorting.{first}
 use Rattle.tick_file.specs.Schedule.{Timed, Timetable}
 use Rattle.tick_file.specs.declared.event.Event.{Event}
 use Rattle.tick_file.specs.declared.event.Event.TheVariants.{Tick, Rx, Irq}
@@ -13,12 +13,12 @@ use Rattle.wind_outside.specs.Devices.{DeviceState}
 use Rattle.dev_irq.specs.declared.line.Line.{Line}
 use Rattle.dev_irq.specs.State.{routines_of}
 use Rattle.dev_irq.specs.Calls.{raised, delivered}
-use Rattle.live_loading.specs.IrqRows.{is_device}
+use Rattle.live_loading.specs.CallRowsIrqRows.{is_device}
 use Rattle.con_line.specs.State.{ConsoleState}
 use Rattle.con_line.specs.Keys.{after_byte, byte_echo, byte_done}
 use Rattle.con_line.specs.declared.console.ByteDone.{ByteDone}
 use Rattle.con_line.specs.declared.console.ByteDone.TheVariants as done
-use Rattle.kernel_world.specs.State.{WorldState}
+use Rattle.live_loading.specs.KernelWorldState.{WorldState}
 use Rattle.id_table.specs.Idents.{shell_id}
 use Rattle.wind_machine.specs.State.{ShellState, State}
 use Rattle.wind_machine.specs.Feed.{chunk, after_chunk, brought}
@@ -26,7 +26,7 @@ use Rattle.wind_machine.specs.Task.{waits_for_console, aborted}
 use Rattle.wind_machine.specs.Reserving.{drop_all}
 use Rattle.wind_machine.specs.Part.{with_kern}
 use Rattle.wind_machine.specs.Shell.{at_prompt}
-use Rattle.wind_machine.specs.Routine.{interrupt_top, with_return}
+use Rattle.wind_machine.specs.Routine.{interrupt_top}
 use Rattle.wind_machine.specs.declared.phase.Phase.TheVariants as phases
 
 -- ---- bytes of the console arrive
@@ -94,9 +94,9 @@ without_next t = record t { events = drop 1 t.events }
 abbrev pub unreserved_world : WorldState → WorldState
 unreserved_world w = with_kern w (drop_all w.kern)
 
--- the kernel's tick, and then the watchdogs due at it; the routine that becomes active returns to the board's gate
+-- the kernel's tick, and then the watchdogs due at it
 abbrev pub tick_world : WorldState → WorldState
-tick_world w = record w { kern = tick w.kern; watch = with_return w.board (due w.watch (tick w.kern).tick interrupt_top) }
+tick_world w = record w { kern = tick w.kern; watch = due w.watch (tick w.kern).tick interrupt_top }
 
 abbrev pub ticked : State → State
 ticked s = record s { world = cleared (tick_world s.world); steps = s.steps + 1 }
@@ -125,10 +125,9 @@ abbrev pub event_step : State → Event → State
 event_step s e = event_comes (record s { schedule = without_next s.schedule; world = unreserved_world s.world }) e
 
 -- ---- a delivery
--- one interrupt of a slot fewer is pending, and the slot's routines begin at the interrupt level; each returns to the
--- board's gate
+-- one interrupt of a slot fewer is pending, and the slot's routines begin at the interrupt level
 abbrev pub delivered_world : WorldState → ℕ → WorldState
-delivered_world w i = record w { irqs = delivered w.irqs i; watch = with_return w.board (begun w.watch (routines_of w.irqs i) interrupt_top) }
+delivered_world w i = record w { irqs = delivered w.irqs i; watch = begun w.watch (routines_of w.irqs i) interrupt_top }
 
 -- an interrupt is delivered, which takes no board time and drops all reservations
 abbrev pub delivery_step : State → ℕ → State

@@ -4,7 +4,7 @@ use Rattle.std.specs.Prelude.{◌≡◌, ◌≢◌, ℕ, suc, ◌<◌, ◌≤◌
 use Rattle.std.specs.List.{All, sum_by}
 use Rattle.wind_base.specs.declared.board_kind.BoardKind.{BoardKind}
 use Rattle.wind_base.specs.declared.profile.Profile.{Profile}
-use Rattle.wind_lists.specs.Sorting.{first}
+use Rattle.id_table.specs.Sorting.{first}
 use Rattle.wind_outside.specs.Devices.{DeviceState}
 use Rattle.tick_file.specs.Schedule.{Timed, Timetable, brings_bytes}
 use Rattle.tick_file.specs.declared.event.Event.{Event}
@@ -99,17 +99,17 @@ TimeGrows = (said : FileSaid) (s t : State) → machine_step said s ≡ Some t �
 abbrev pub AreSteps : Answers → State → ℕ → Type 0
 AreSteps said s k = (j : ℕ) → j < k → IsSome (machine_step (said j) (after said s j))
 
--- the longer run begins with the k steps of the shorter: its states are the same but for what was added, and so is its
--- text; each step needs the same file
-pub record Begins (said : Answers) (m : More) (s : State) (k : ℕ) : Type 0 where
-  pub states : (j : ℕ) → j < suc k → after said (extended m s) j ≡ extended m (after said s j)
-  pub wrote : text said (extended m s) k ≡ text said s k
-  pub made : AreSteps said (extended m s) k
-  pub files : (j : ℕ) → j < k → file_asked (after said (extended m s) j) ≡ file_asked (after said s j)
+-- the longer run, from u, begins with the k steps of the shorter, from s: its states are the same but for what was
+-- added, and its text is the same; each step needs the same file
+pub record Begins (said : Answers) (m : More) (s u : State) (k : ℕ) : Type 0 where
+  pub states : (j : ℕ) → j < suc k → after said u j ≡ extended m (after said s j)
+  pub wrote : text said u k ≡ text said s k
+  pub made : AreSteps said u k
+  pub files : (j : ℕ) → j < k → file_asked (after said u j) ≡ file_asked (after said s j)
 
 -- it does so if each state may be extended
 abbrev pub RunExtends : Type 0
-RunExtends = (said : Answers) (m : More) (s : State) (k : ℕ) → AreSteps said s k → ((j : ℕ) → j < k → MayExtend m (after said s j)) → Begins said m s k
+RunExtends = (said : Answers) (m : More) (s : State) (k : ℕ) → AreSteps said s k → ((j : ℕ) → j < k → MayExtend m (after said s j)) → Begins said m s (extended m s) k
 
 -- what every step keeps: no chunk is due in either, and all future events together ask for no more bytes than are left
 pub record Joins (m : More) (left : List ℕ) (schedule : Timetable) : Type 0 where
@@ -119,7 +119,7 @@ pub record Joins (m : More) (left : List ℕ) (schedule : Timetable) : Type 0 wh
 
 -- so it is enough that this holds at the start, and that the added events come later than the last time reached
 abbrev pub ExtendLaw : Type 0
-ExtendLaw = (said : Answers) (m : More) (s : State) (k : ℕ) → Joins m s.left s.schedule → AreSteps said s k → IsLater (after said s k).time m.events → Begins said m s k
+ExtendLaw = (said : Answers) (m : More) (s : State) (k : ℕ) → Joins m s.left s.schedule → AreSteps said s k → IsLater (after said s k).time m.events → Begins said m s (extended m s) k
 
 -- ---- a record, from which a board starts
 -- what a board has besides its inputs: its devices, the rule of inheritance, and its kind
@@ -145,10 +145,7 @@ pub record IsFed (console : List ℕ) (schedule : Timetable) : Type 0 where
 -- no more than these bytes, make a longer record, whose run begins with it
 pub record Grows (said : Answers) (setup : Setup) (console : List ℕ) (schedule : Timetable) (m : More) (k : ℕ) : Type 0 where
   pub fed : IsFed (console ++ m.bytes) (longer m schedule)
-  pub states : (j : ℕ) → j < suc k → after said (booted setup (console ++ m.bytes) (longer m schedule)) j ≡ extended m (after said (booted setup console schedule) j)
-  pub wrote : text said (booted setup (console ++ m.bytes) (longer m schedule)) k ≡ text said (booted setup console schedule) k
-  pub made : AreSteps said (booted setup (console ++ m.bytes) (longer m schedule)) k
-  pub files : (j : ℕ) → j < k → file_asked (after said (booted setup (console ++ m.bytes) (longer m schedule)) j) ≡ file_asked (after said (booted setup console schedule) j)
+  pub begins : Begins said m (booted setup console schedule) (booted setup (console ++ m.bytes) (longer m schedule)) k
 
 abbrev pub GrowsLaw : Type 0
 GrowsLaw = (said : Answers) (setup : Setup) (console : List ℕ) (schedule : Timetable) (m : More) (k : ℕ)

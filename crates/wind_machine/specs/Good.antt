@@ -3,8 +3,8 @@ use Rattle.std.specs.Prelude.{◌≡◌, ◌≢◌, ℕ, ◌+◌, ◌*◌, ◌^�
 use Rattle.con_line.specs.Lines.{KeepsLines}
 use Rattle.wind_core.specs.State.{Lives}
 use Rattle.id_table.specs.Idents.{shell_id}
-use Rattle.kernel_world.specs.Kept.{IsWorld, ReservedBy, Within}
-use Rattle.kernel_world.specs.Settling.{HasExact}
+use Rattle.live_loading.specs.KernelWorldKept.{IsWorld, ReservedBy, Within}
+use Rattle.live_loading.specs.KernelWorldSettling.{HasExact}
 use Rattle.wind_machine.specs.State.{State}
 use Rattle.wind_machine.specs.declared.phase.Phase.{Phase}
 use Rattle.wind_machine.specs.declared.phase.Phase.TheVariants as phases

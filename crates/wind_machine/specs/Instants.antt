@@ -8,7 +8,7 @@ use Rattle.wind_core.specs.Orders.{running}
 use Rattle.wind_core.specs.Laws.{MayRun}
 use Rattle.inheritance.specs.Mutexes.{both, held_count}
 use Rattle.inheritance.specs.Reach.{boss, reaches, urgency, pri_of, normal_of, raised}
-use Rattle.kernel_world.specs.State.{WorldState}
+use Rattle.live_loading.specs.KernelWorldState.{WorldState}
 
 -- if no interrupt routine is active, whoever runs lives and is ready, and no ready task comes before it, unless it
 -- ran last and holds the lock

@@ -12,9 +12,9 @@ use Rattle.board_mem.specs.Memory.{has}
 use Rattle.board_bus.specs.Slots.{is_occupied, slot_number}
 use Rattle.board_bus.specs.Access.{faults_at}
 use Rattle.dev_irq.specs.State.{pending_of, IsIrqs}
-use Rattle.live_loading.specs.IrqRows.{is_device}
-use Rattle.kernel_world.specs.Actors.{caller_words}
-use Rattle.kernel_world.specs.declared.actor.Actor.TheVariants.{Task as by_task}
+use Rattle.live_loading.specs.CallRowsIrqRows.{is_device}
+use Rattle.live_loading.specs.KernelWorldActors.{caller_words}
+use Rattle.live_loading.specs.KernelWorldActor.TheVariants.{Task as by_task}
 use Rattle.live_loading.specs.Said.{FileSaid}
 use Rattle.wind_machine.specs.State.{State}
 use Rattle.wind_machine.specs.Processor.{bus_of, gate_under}

@@ -1,7 +1,6 @@
 -- What follows from the machine's definitions alone.
 use Rattle.std.specs.Prelude.{◌≡◌, ℕ, ◌+◌, List, Option, Some, None, IfSome, ◌⊎◌, ◌↔◌}
 use Rattle.wind_base.specs.declared.board_kind.BoardKind.{BoardKind}
-use Rattle.wind_base.specs.declared.board_kind.BoardKind.TheVariants as boards
 use Rattle.wind_base.specs.declared.profile.Profile.{Profile}
 use Rattle.wind_base.specs.declared.profile.Profile.TheVariants.{One}
 use Rattle.wind_outside.specs.Devices.{DeviceState}
@@ -9,18 +8,15 @@ use Rattle.live_loading.specs.Said.{FileSaid}
 use Rattle.tick_file.specs.Schedule.{Timetable, timetable_of}
 use Rattle.tick_file.specs.Laws.{IsEarly}
 use Rattle.wind_core.specs.State.{Lives, task_of}
-use Rattle.kernel_world.specs.Safety.{safe_of}
-use Rattle.isr_watch.specs.State.{WatchState}
-use Rattle.isr_watch.specs.Calls.{finish}
-use Rattle.kernel_world.specs.State.{Choice, choice_of}
-use Rattle.kernel_world.specs.Settling.{HasExact}
-use Rattle.kernel_world.specs.declared.actor.Actor.TheVariants.{Task as by_task}
+use Rattle.live_loading.specs.TaskSafetySafety.{safe_of}
+use Rattle.live_loading.specs.KernelWorldState.{Choice, choice_of}
+use Rattle.live_loading.specs.KernelWorldSettling.{HasExact}
+use Rattle.live_loading.specs.KernelWorldActor.TheVariants.{Task as by_task}
 use Rattle.wind_machine.specs.State.{State}
 use Rattle.wind_machine.specs.Good.{Good, KeepsEffect}
 use Rattle.wind_machine.specs.Instants.{IsInstant}
 use Rattle.wind_machine.specs.Run.{Answers, after}
 use Rattle.wind_machine.specs.Events.{next_event}
-use Rattle.wind_machine.specs.Routine.{with_return}
 use Rattle.wind_machine.specs.Next.{next, ComesNext}
 use Rattle.wind_machine.specs.Machine.{state_after, settled_state, machine_step, IsOver, stepping, opening}
 use Rattle.wind_machine.specs.declared.next.Next.{Next}
@@ -58,10 +54,6 @@ IdleLaw = (s : State) → KeepsEffect s → (s.world.objects.mutexes.profile ≡
 -- no step changes what was chosen at the start: the rule of inheritance, and the kind of board
 abbrev pub ChoiceLaw : Type 0
 ChoiceLaw = (said : FileSaid) (s t : State) → Good s → machine_step said s ≡ Some t → choice_of t.world ≡ choice_of s.world
-
--- on board 1 a routine that has become active returns to the board's gate already
-abbrev pub ReturnLaw : Type 0
-ReturnLaw = (s : WatchState) (top : ℕ) → with_return boards.One (finish s top) ≡ finish s top
 
 -- every step is counted
 abbrev pub CountLaw : Type 0

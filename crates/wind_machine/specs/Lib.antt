@@ -18,7 +18,7 @@ pub mod Shell
 pub mod State
 pub mod Task
 pub mod Text
-pub use Rattle.live_loading.specs.KernelCalls
-pub use Rattle.live_loading.specs.Space
-pub use Rattle.live_loading.specs.Said
-pub use Rattle.live_loading.specs.Loading as LiveLoading
+pub use Rattle.live_loading.specs.KernelCallsCalls
+pub use Rattle.live_loading.specs.KernelCallsSpace
+pub use Rattle.live_loading.specs.Said as LiveLoadingSaid
+pub use Rattle.live_loading.specs.Loading as LiveLoadingLoading

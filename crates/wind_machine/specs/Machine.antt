@@ -8,11 +8,11 @@ use Rattle.wind_outside.specs.Devices.{DeviceState}
 use Rattle.tick_file.specs.Schedule.{Timetable}
 use Rattle.con_line.specs.State.{opening_console}
 use Rattle.id_table.specs.Idents.{shell_id}
-use Rattle.kernel_world.specs.Allowed.{may_exhaust_memory as call_may_exhaust_memory}
-use Rattle.kernel_world.specs.Opening.{opening_world}
-use Rattle.kernel_world.specs.Settling.{settled_world}
-use Rattle.kernel_world.specs.declared.actor.Actor.{Actor}
-use Rattle.kernel_world.specs.declared.actor.Actor.TheVariants.{Task as by_task, Interrupt}
+use Rattle.live_loading.specs.KernelWorldAllowed.{may_exhaust_memory as call_may_exhaust_memory}
+use Rattle.live_loading.specs.KernelWorldOpening.{opening_world}
+use Rattle.live_loading.specs.KernelWorldSettling.{settled_world}
+use Rattle.live_loading.specs.KernelWorldActor.{Actor}
+use Rattle.live_loading.specs.KernelWorldActor.TheVariants.{Task as by_task, Interrupt}
 use Rattle.live_loading.specs.Said.{FileSaid}
 use Rattle.live_loading.specs.Loading.{shell}
 use Rattle.wind_machine.specs.State.{State}

@@ -11,7 +11,7 @@ use Rattle.wind_core.specs.Orders.{running, runner}
 use Rattle.con_line.specs.Lines.{has_line}
 use Rattle.board_bus.specs.Slots.{is_occupied}
 use Rattle.dev_irq.specs.State.{next as next_delivery}
-use Rattle.kernel_world.specs.State.{WorldState}
+use Rattle.live_loading.specs.KernelWorldState.{WorldState}
 use Rattle.id_table.specs.Idents.{shell_id}
 use Rattle.wind_machine.specs.State.{State}
 use Rattle.wind_machine.specs.Task.{waits_for_console}

@@ -1,7 +1,7 @@
 -- What a step of a task leaves.
 use Rattle.std.specs.Prelude.{ℕ, List, ◌++◌}
 use Rattle.wind_core.specs.State.{KernState}
-use Rattle.kernel_world.specs.State.{WorldState}
+use Rattle.live_loading.specs.KernelWorldState.{WorldState}
 use Rattle.wind_machine.specs.State.{ShellState}
 
 -- the shell and the world

@@ -15,15 +15,15 @@ use Rattle.ppc_core.specs.declared.trap.Trap.{Trap}
 use Rattle.ppc_core.specs.declared.trap.Trap.TheVariants as traps
 use Rattle.board_bus.specs.BusState.{BusState}
 use Rattle.board_bus.specs.Access.{board_meaning, fetched}
-use Rattle.kernel_world.specs.State.{WorldState}
+use Rattle.live_loading.specs.KernelWorldState.{WorldState}
 use Rattle.id_table.specs.Idents.{shell_id}
-use Rattle.kernel_world.specs.Actors.{caller_regs}
-use Rattle.kernel_world.specs.Replies.{at_level}
-use Rattle.live_loading.specs.KernelCalls.{call}
-use Rattle.kernel_world.specs.Allowed.{is_call}
-use Rattle.live_loading.specs.TaskEnding.{ended}
-use Rattle.kernel_world.specs.declared.actor.Actor.{Actor}
-use Rattle.kernel_world.specs.declared.actor.Actor.TheVariants.{Task as by_task, Interrupt}
+use Rattle.live_loading.specs.KernelWorldActors.{caller_regs}
+use Rattle.live_loading.specs.KernelWorldReplies.{at_level}
+use Rattle.live_loading.specs.KernelCallsCalls.{call}
+use Rattle.live_loading.specs.KernelWorldAllowed.{is_call}
+use Rattle.live_loading.specs.CallRowsEnding.{ended}
+use Rattle.live_loading.specs.KernelWorldActor.{Actor}
+use Rattle.live_loading.specs.KernelWorldActor.TheVariants.{Task as by_task, Interrupt}
 use Rattle.wind_machine.specs.State.{ShellState}
 use Rattle.wind_machine.specs.Part.{Part, part_of, with_kern, writing}
 use Rattle.wind_machine.specs.Task.{aborted}

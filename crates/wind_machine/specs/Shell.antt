@@ -7,13 +7,13 @@ use Rattle.shell_parse.specs.Reading.{Reading, Statements, Refused}
 use Rattle.shell_eval.specs.State.{State as EvalState}
 use Rattle.shell_eval.specs.Pending.{Pending, begun_stmt, filled}
 use Rattle.shell_eval.specs.Evaluate.{Evaluated, Ending, Value, Call, Fault, Waiting, evaluate}
-use Rattle.kernel_world.specs.State.{WorldState}
+use Rattle.live_loading.specs.KernelWorldState.{WorldState}
 use Rattle.id_table.specs.Idents.{shell_id}
-use Rattle.kernel_world.specs.Starting.{framed}
+use Rattle.live_loading.specs.KernelWorldStarting.{framed}
 use Rattle.wind_machine.specs.State.{ShellState}
 use Rattle.wind_machine.specs.Part.{Part, part_of, with_kern, writing}
 use Rattle.wind_machine.specs.Task.{listening, stack_pointer, call_regs}
-use Rattle.live_loading.specs.Value.{value_text}
+use Rattle.live_loading.specs.TextShowValue.{value_text}
 use Rattle.wind_machine.specs.Text.{prompt_text, syntax_text, fault_text}
 use Rattle.wind_machine.specs.declared.phase.Phase.TheVariants as phases
 

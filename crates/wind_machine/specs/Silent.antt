@@ -1,10 +1,10 @@
 -- Steps that need no file and write nothing.
 use Rattle.std.specs.Prelude.{◌≡◌, ℕ, zero, suc, ◌+◌, ◌<◌, ◌≤◌, [], None, Option, Some, IsSome, true, if◌then◌else◌}
 use Rattle.std.specs.Option.{option_map}
-use Rattle.kernel_world.specs.State.{WorldState}
-use Rattle.kernel_world.specs.Actors.{is_shell}
-use Rattle.kernel_world.specs.declared.actor.Actor.{Actor}
-use Rattle.kernel_world.specs.declared.actor.Actor.TheVariants.{Task as by_task, Interrupt}
+use Rattle.live_loading.specs.KernelWorldState.{WorldState}
+use Rattle.live_loading.specs.KernelWorldActors.{is_shell}
+use Rattle.live_loading.specs.KernelWorldActor.{Actor}
+use Rattle.live_loading.specs.KernelWorldActor.TheVariants.{Task as by_task, Interrupt}
 use Rattle.wind_machine.specs.State.{State}
 use Rattle.wind_machine.specs.Next.{is_active}
 use Rattle.wind_machine.specs.Processor.{gate_under}

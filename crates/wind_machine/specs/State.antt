@@ -3,7 +3,7 @@ use Rattle.std.specs.Prelude.{ℕ, List, Option}
 use Rattle.shell_eval.specs.Pending.{Pending}
 use Rattle.tick_file.specs.Schedule.{Timetable}
 use Rattle.con_line.specs.State.{ConsoleState}
-use Rattle.kernel_world.specs.State.{WorldState}
+use Rattle.live_loading.specs.KernelWorldState.{WorldState}
 use Rattle.wind_machine.specs.declared.phase.Phase.{Phase}
 
 -- the shell: its phase, and the trees of the statements left; the first is under evaluation, and a statement

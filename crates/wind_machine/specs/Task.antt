@@ -13,7 +13,7 @@ use Rattle.wind_core.specs.State.{KernState, task_of}
 use Rattle.wind_core.specs.Orders.{waits_at}
 use Rattle.wind_core.specs.Moves.{pend, release, reset}
 use Rattle.id_table.specs.Idents.{shell_id}
-use Rattle.kernel_world.specs.Starting.{starting_regs}
+use Rattle.live_loading.specs.KernelWorldStarting.{starting_regs}
 
 abbrev pub shell_task : KernState → Option Task
 shell_task k = task_of k.tasks shell_id

@@ -1,6 +1,7 @@
 -- The texts that the board writes. All except the prompt are this project's own.
-use Rattle.std.specs.Prelude.{ℕ, zero, suc, ◌/◌, ◌%◌, List, [], ◌++◌, false, codes}
+use Rattle.std.specs.Prelude.{ℕ, List, ◌++◌, false, codes}
 use Rattle.std.specs.Fmt.{decimal, digits}
+use Rattle.wind_base.specs.Texts.{hex_places}
 use Rattle.ppc_core.specs.declared.trap.Trap.{Trap}
 use Rattle.ppc_core.specs.declared.trap.Trap.TheVariants as traps
 use Rattle.shell_eval.specs.declared.fault.EvalFault.{EvalFault}
@@ -14,14 +15,9 @@ prompt_text = codes "-> "
 unfoldable pub syntax_text : ℕ → List ℕ
 syntax_text column = codes "syntax error at column " ++ decimal column ++ codes "\n"
 
--- the lowest n hexadecimal digits of a number
-abbrev pub last_digits : ℕ → ℕ → List ℕ
-last_digits zero v = []
-last_digits (suc n) v = last_digits n (v / 16) ++ digits 16 false (v % 16)
-
 -- a word in eight hexadecimal digits
 unfoldable pub eight_digits : ℕ → List ℕ
-eight_digits v = last_digits 8 v
+eight_digits v = hex_places 8 v
 
 -- the line that reports a fault of evaluation
 unfoldable pub fault_text : EvalFault → List ℕ

@@ -1,6 +1,6 @@
 //! What follows from the machine's definitions alone, whatever the code does.
 
-ghost use Rattle.wind_machine.specs.Laws.{OrderLaw, OverLaw, ReturnLaw, StartLaw, StepLaw, EffectLaw, SettleLaw, IdleLaw, ChoiceLaw, CountLaw, InstantLaw, SafetyLaw, RunLaw};
+ghost use Rattle.wind_machine.specs.Laws.{OrderLaw, OverLaw, StartLaw, StepLaw, EffectLaw, SettleLaw, IdleLaw, ChoiceLaw, CountLaw, InstantLaw, SafetyLaw, RunLaw};
 ghost use Rattle.wind_machine.specs.Interrupts.{SlotLaw, LinesOpenLaw, LinesLaw, InterruptLaw};
 ghost use Rattle.wind_machine.specs.Silent.{SilentLaw};
 
@@ -27,12 +27,6 @@ pub fn step_law()
 {
     loading_law();
 }
-
-/// The law of returns: on board 1 the routine that becomes active returns to the board's gate, before
-/// the board writes that gate's address into its link register.
-pub fn return_law()
-    ensures { ReturnLaw }
-{}
 
 /// The law of settling. After a step's effect, settling priorities gives the invariant. It changes
 /// nothing under profile 1, nor if priorities are exact already.

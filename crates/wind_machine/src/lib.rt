@@ -11,6 +11,5 @@ pub use laws::{
     instant_law, interrupt_law, order_law, run_law, safety_law, settle_law, silent_law, slot_law,
     step_law,
 };
-pub use live_loading::{FileAnswer, end_task, file_wanted, is_device, kernel_load, make_call};
 pub use next::Next;
 pub use phase::Phase;

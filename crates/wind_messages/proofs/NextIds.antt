@@ -16,7 +16,6 @@ use Rattle.inheritance.specs.Reach.{lifted, raised_kern}
 use Rattle.sem_mutex.specs.Calls as mutex
 use Rattle.sem_mutex.proofs.Lifting.{next-change_pri, next-repried}
 use Rattle.sem_mutex.proofs.Giving.{next_hand}
-use Rattle.sem_plain.specs.declared.semaphore.Semaphore.{Semaphore}
 use Rattle.sem_plain.specs.State.{SemState}
 use Rattle.sem_plain.specs.Calls as plain
 use Rattle.wind_core.proofs.NextId.{next-move, next-end_waits}
@@ -50,17 +49,15 @@ pub next-raised : (p : Profile) (k : KernState) (ms : List (ℕ × Mutex)) → N
 next-raised p k ms = next-repried k (lifted p k ms) k.tasks
 
 -- ---- semaphores
-pub next-sem_take : (s : SemState) (who id n : ℕ) (o : Option Semaphore) → NextSame s.kern (plain.take_found s who id n o).kern
-next-sem_take s who id n None = refl
-next-sem_take s who id n (Some v) = elim (eqb v.count 0) as (λ b. NextSame s.kern (cond b (plain.awaited s who id n v) (plain.written s id (plain.counted_down v))).kern) [ true ↦ refl | false ↦ refl ]
+pub next-sem_take : (s : SemState) (who id n : ℕ) (d : plain.TakeDeed) → NextSame s.kern (plain.after_take s who id n d).kern
+next-sem_take s who id n (plain.declined e) = refl
+next-sem_take s who id n (plain.taken v) = refl
+next-sem_take s who id n (plain.starved v) = refl
 
-next-handed : (s : SemState) (id : ℕ) (v : Semaphore) (o : Option Task) → NextSame s.kern (plain.handed s id v o).kern
-next-handed s id v None = refl
-next-handed s id v (Some t) = next-move s.kern t.id (answered 0 None)
-
-pub next-sem_give : (s : SemState) (id : ℕ) (o : Option Semaphore) → NextSame s.kern (plain.give_found s id o).kern
-next-sem_give s id None = refl
-next-sem_give s id (Some v) = next-handed s id v (plain.next_of s id)
+pub next-sem_give : (s : SemState) (id : ℕ) (d : plain.GiveDeed) → NextSame s.kern (plain.after_give s id d).kern
+next-sem_give s id (plain.denied e) = refl
+next-sem_give s id (plain.passed_on t) = next-move s.kern t.id (answered 0 None)
+next-sem_give s id (plain.counted v) = refl
 
 pub next-sem_flush : (s : SemState) (id : ℕ) → NextSame s.kern (plain.flush s id).kern
 next-sem_flush s id = next-end_waits s.kern (waiters s.kern.tasks _) 0 None

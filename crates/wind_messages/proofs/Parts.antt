@@ -21,7 +21,7 @@ use Rattle.kernel_world.specs.Actors.{caller_words}
 use Rattle.kernel_calls.specs.Calls.{scene_of}
 use Rattle.kernel_world.specs.Allowed.{is_call}
 use Rattle.kernel_world.specs.Replies.{left_gate}
-use Rattle.task_calls.specs.Ending.{ended}
+use Rattle.call_rows.specs.Ending.{ended}
 use Rattle.kernel_world.specs.declared.actor.Actor.{Actor}
 use Rattle.kernel_world.specs.declared.actor.Actor.TheVariants.{Task as by_task, Interrupt}
 use Rattle.wind_machine.specs.State.{ShellState}

@@ -34,13 +34,13 @@ use Rattle.msg_queue.proofs.Traffic.{stock, balanced_still, balanced_send, balan
 use Rattle.isr_watch.specs.Calls.{create_refusal as watchdog_refusal}
 use Rattle.kernel_world.specs.State.{WorldState}
 use Rattle.kernel_world.specs.declared.objects.Objects.{Objects}
-use Rattle.task_calls.specs.TaskRows.{done, refused, ram_row, task_at, priority_in, suspend_row, resume_row, verify_row, found_row, name_row}
+use Rattle.call_rows.specs.TaskRows.{done, refused, ram_row, task_at, priority_in, suspend_row, resume_row, verify_row, found_row, name_row}
 use Rattle.kernel_world.specs.Actors.{target}
-use Rattle.task_calls.specs.SafetyRows.{deletes, meant, unsafe_unless}
-use Rattle.object_calls.specs.SemRows as sem
-use Rattle.object_calls.specs.QueueRows as queue
-use Rattle.object_calls.specs.WatchRows as watch
-use Rattle.task_calls.specs.Spawning.{SpawnState, SpawnRow, spawned_at, spawned_unless, spawned_if, stack_bytes, task_wanted, quick_wanted, spawn_state}
+use Rattle.call_rows.specs.SafetyRows.{deletes, meant, unsafe_unless}
+use Rattle.call_rows.specs.SemRows as sem
+use Rattle.call_rows.specs.QueueRows as queue
+use Rattle.call_rows.specs.WatchRows as watch
+use Rattle.call_rows.specs.Spawning.{SpawnState, SpawnRow, spawned_at, spawned_unless, spawned_if, stack_bytes, task_wanted, quick_wanted, spawn_state}
 use Rattle.kernel_calls.specs.Calls.{of_objects, of_queues, of_watch, of_ram, scene_of, row_of}
 use Rattle.kernel_world.specs.CallWords.{ten_arguments, quick_arguments, call_of}
 use Rattle.kernel_world.specs.declared.actor.Actor.{Actor}
@@ -143,7 +143,7 @@ module _ (k : KernState) (o : Objects) where
   by_kind id mutexes plains h g = elim (sem.is_mutex o id) as (λ b. LeavesQueues k o (cond b mutexes plains)) [ true ↦ h | false ↦ g ]
 
   plain_takes : (who id n : ℕ) (r : Option Errno) → LeavesQueues k o (sem.plain_take_unless r k o who id n)
-  plain_takes who id n None = record { queues = refl; ids = omega (arith, next-sem_take (sem.sems k o) who id n (object_of o.semaphores id)) }
+  plain_takes who id n None = record { queues = refl; ids = omega (arith, next-sem_take (sem.sems k o) who id n (plain.take_deed n (object_of o.semaphores id))) }
   plain_takes who id n (Some e) = unchanged e
 
   mutex_takes : (who id n : ℕ) (r : Option Errno) → LeavesQueues k o (sem.mutex_take_unless r k o who id n)
@@ -156,7 +156,7 @@ module _ (k : KernState) (o : Objects) where
       (mutex_takes who id n (mutex.take_refusal who n (object_of o.mutexes.rows id))) (plain_takes who id n (plain.take_refusal (sem.sems k o) id n))
 
   plain_gives : (id : ℕ) (r : Option Errno) → LeavesQueues k o (sem.plain_give_unless r k o id)
-  plain_gives id None = record { queues = refl; ids = omega (arith, next-sem_give (sem.sems k o) id (object_of o.semaphores id)) }
+  plain_gives id None = record { queues = refl; ids = omega (arith, next-sem_give (sem.sems k o) id (plain.give_deed (plain.next_of (sem.sems k o) id) (object_of o.semaphores id))) }
   plain_gives id (Some e) = unchanged e
 
   mutex_gives : (who id : ℕ) (r : Option Errno) → LeavesQueues k o (sem.mutex_give_unless r k o who id)

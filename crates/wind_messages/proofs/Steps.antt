@@ -7,14 +7,15 @@ use Rattle.tick_file.specs.declared.event.Event.{Event}
 use Rattle.tick_file.specs.declared.event.Event.TheVariants.{Tick, Rx, Irq}
 use Rattle.wind_core.specs.State.{KernState}
 use Rattle.wind_core.specs.Moves.{release}
-use Rattle.wind_core.specs.Move.{LeaveGate}
+use Rattle.wind_core.specs.Move.{Set}
+use Rattle.wind_core.specs.declared.changes.Change.TheVariants as changes
 use Rattle.con_line.specs.Keys.{byte_done}
 use Rattle.con_line.specs.Lines.{has_line, first_line}
 use Rattle.con_line.specs.declared.console.ByteDone.{ByteDone}
 use Rattle.con_line.specs.declared.console.ByteDone.TheVariants as done
 use Rattle.shell_parse.specs.Reading.{read_line}
 use Rattle.msg_queue.specs.Kept.{IsKept}
-use Rattle.msg_queue.specs.Machine.{Event as Call}
+use Rattle.msg_queue.specs.Machine.{Event as Call, accepted_next, taken_next}
 use Rattle.msg_queue.proofs.Calm.{next-tick, calms}
 use Rattle.kernel_world.specs.State.{WorldState}
 use Rattle.kernel_world.specs.Objects.{IsReady}
@@ -36,7 +37,6 @@ use Rattle.wind_machine.specs.Processor.{gate_under}
 use Rattle.wind_machine.specs.Events.{Heard, hear, heard_all, heard_from, heard_by, kern_after, arrived, delivery_step, event_comes, event_step, unreserved_world, without_next, jump}
 use Rattle.wind_machine.specs.ActorSteps.{shell_world, task_step, shell_step, step_of, routine_step, load_step, file_in}
 use Rattle.std.specs.Option.{option_map}
-use Rattle.msg_queue.specs.Machine.{accepted_next, taken_next}
 use Rattle.msg_queue.specs.Laws.{IsBalanced}
 use Rattle.kernel_world.specs.Settling.{settled_world}
 use Rattle.wind_machine.specs.Next.{next}
@@ -93,7 +93,7 @@ module _ (s : State) (g : Good s) where
   scene_kept who =
       let w : WorldState = step_start_world s (by_task who) in
       let kept = (step_start_advances s g.kept who).kept in
-      let calm = calms w.objects.queues.queues w.kern (LeaveGate who) kept.kern tt tt in
+      let calm = calms w.objects.queues.queues w.kern (Set who changes.PastGate) kept.kern tt tt in
       queues-calm w.board w.kern (left_gate w (by_task who)).kern w.objects calm kept.objects.queues w.ram kept.ram
 
   -- the call at its gate

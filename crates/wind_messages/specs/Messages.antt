@@ -11,7 +11,7 @@ use Rattle.kernel_world.specs.declared.call.Call.{Call}
 use Rattle.kernel_world.specs.declared.call.Call.TheVariants as calls
 use Rattle.kernel_world.specs.Replies.{left_gate}
 use Rattle.kernel_calls.specs.Calls.{scene_of}
-use Rattle.object_calls.specs.QueueRows.{sending}
+use Rattle.call_rows.specs.QueueRows.{sending}
 use Rattle.kernel_world.specs.declared.actor.Actor.{Actor}
 use Rattle.kernel_world.specs.declared.actor.Actor.TheVariants.{Task as by_task, Interrupt}
 use Rattle.wind_machine.specs.State.{State}

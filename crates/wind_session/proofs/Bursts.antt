@@ -5,10 +5,10 @@ use Rattle.std.proofs.lemmas.Bool.Decides.{nat_tests}
 use Rattle.std.proofs.lemmas.List.{append-nil}
 use Rattle.wind_outside.specs.Requests.{GrowsBy, Request}
 use Rattle.wind_outside.specs.declared.sink.Put.TheVariants as puts
-use Rattle.board_player.specs.MachineState.{State}
-use Rattle.board_player.specs.Machine.{machine_step}
-use Rattle.board_player.specs.Run.{Answers, after, text}
-use Rattle.board_player.specs.Silent.{SilentSteps, SilentLaw}
+use Rattle.board_player.specs.WindMachineState.{State}
+use Rattle.board_player.specs.WindMachineMachine.{machine_step}
+use Rattle.board_player.specs.WindMachineRun.{Answers, after, text}
+use Rattle.board_player.specs.WindMachineSilent.{SilentSteps, SilentLaw}
 use Rattle.wind_session.specs.Modules.{Shelf, IsSaid}
 use Rattle.wind_session.specs.Pieces.{output_piece, pieces_of}
 use Rattle.wind_session.proofs.FetchLemmas.{unasked_requests}

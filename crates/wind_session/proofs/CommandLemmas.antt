@@ -1,5 +1,5 @@
 -- What clap finds in the words, and the command.
-use Rattle.std.proofs.Common.{◌∙◌, ◌≡◌, ap, refl, sym, ⊎_elim, true, List, [], ◌∷◌, Option, Some, None}
+use Rattle.std.proofs.Common.{◌∙◌, ◌≡◌, ap, refl, ⊎_elim, true, List, [], ◌∷◌, Option, Some, None}
 use Rattle.std.specs.Prelude.{◌≢◌, ⊤}
 use Rattle.clap.specs.Kinds.{Kinds, HasKind}
 use Rattle.clap.specs.Words.{App, Row, is_simple_and_free, kind_of}
@@ -27,10 +27,6 @@ command_on_literals = tt
 pub nothing_given : (kinds : Kinds) (rows : List Row) (e : Error) → HasKind kinds e → kind_of e ≢ OutOfMemory → unless_fault kinds rows ≡ None
 nothing_given [] rows e h other = absurd (⊎_elim other (λ x. x) h)
 nothing_given (k ∷ ks) rows e h other = refl
-
--- it succeeds
-pub all_given : (kinds : Kinds) (rows found : List Row) → kinds ≡ [] → found ≡ rows → unless_fault kinds rows ≡ Some found
-all_given kinds rows found none same = ap (λ (ks : Kinds). unless_fault ks rows) none ∙ ap (λ (xs : List Row). Some xs) (sym same)
 
 -- ---- what is made of a value
 module _ {V C : Type 0} (value : Option V) (make : V → Option C) where

@@ -5,11 +5,11 @@ use Rattle.wind_outside.specs.Files.{Files}
 use Rattle.wind_outside.specs.Requests.{GrowsBy, Request, Piece}
 use Rattle.wind_outside.specs.Appending.{Appended, AppendedPrefix}
 use Rattle.wind_outside.specs.declared.sink.Put.TheVariants as puts
-use Rattle.board_player.specs.MachineState.{State}
-use Rattle.board_player.specs.Machine.{file_asked}
-use Rattle.board_player.specs.Run.{Answers, text}
-use Rattle.board_player.specs.Silent.{SilentSteps, SilentLaw}
-use Rattle.board_player.specs.Extending.{IsRoom}
+use Rattle.board_player.specs.WindMachineState.{State}
+use Rattle.board_player.specs.WindMachineMachine.{file_asked}
+use Rattle.board_player.specs.WindMachineRun.{Answers, text}
+use Rattle.board_player.specs.WindMachineSilent.{SilentSteps, SilentLaw}
+use Rattle.board_player.specs.WindMachineExtending.{IsRoom}
 use Rattle.wind_session.specs.Modules.{Shelf}
 use Rattle.wind_session.specs.Fetches.{Stops, requests_of}
 use Rattle.wind_session.specs.Outside.{Outside, outside}

@@ -8,11 +8,13 @@ use Rattle.std.proofs.lemmas.List.Elements.{All-nil, All-cons, All-append}
 use Rattle.wind_outside.specs.Requests.{GrowsBy, Request}
 use Rattle.wind_outside.specs.declared.folder.FetchOutcome.{FetchOutcome}
 use Rattle.wind_outside.specs.declared.folder.FetchOutcome.TheVariants as outcomes
-use Rattle.board_player.specs.MachineState.{State}
-use Rattle.board_player.specs.Machine.{file_asked}
-use Rattle.board_player.specs.Run.{Answers, after}
+use Rattle.board_player.specs.WindMachineState.{State}
+use Rattle.board_player.specs.WindMachineMachine.{file_asked}
+use Rattle.board_player.specs.WindMachineRun.{Answers, after}
 use Rattle.wind_session.specs.Command.{CommandState}
-use Rattle.wind_session.specs.Fetches.{LeadsTo, IsAfterFiles, EndsWithRounds, Requests, IsLastRequest, IsFine, IsFailure, FailsLast, file_requests, module_request, outcome_said, requests_of, rounds_requests, step_request, text_request}
+use Rattle.wind_session.specs.declared.command.Source.{Source}
+use Rattle.wind_session.specs.declared.command.Source.TheVariants as sources
+use Rattle.wind_session.specs.Fetches.{LeadsTo, IsAfterFiles, EndsWithSource, Requests, IsLastRequest, IsFine, IsFailure, FailsLast, file_requests, module_request, outcome_said, requests_of, source_requests, step_request, text_request}
 use Rattle.wind_session.specs.Headline.{IsLeft, IsSummed, status_of}
 use Rattle.wind_session.specs.Modules.{Shelf}
 use Rattle.wind_session.specs.Outside.{Outside}
@@ -45,9 +47,9 @@ steps_fine folder said s (suc k) =
     All-append IsFine (requests_of folder said s k) (step_request folder (file_asked (after said s k)) (outcome_said (said k))) (steps_fine folder said s k)
     (step_fine folder (file_asked (after said s k)) (outcome_said (said k)) (said_fine (said k)))
 
-rounds_fine : (n : ℕ) (c : CommandState) → All IsFine (rounds_requests n c)
-rounds_fine zero c = All-cons IsFine (text_request c.console outcomes.Found) (text_request c.ticks outcomes.Found ∷ []) (λ e. cc) (one_fine (text_request c.ticks outcomes.Found) (λ e. cc))
-rounds_fine (suc n) c = All-nil IsFine
+source_fine : (source : Source) (c : CommandState) → All IsFine (source_requests source c)
+source_fine sources.Files c = All-cons IsFine (text_request c.console outcomes.Found) (text_request c.ticks outcomes.Found ∷ []) (λ e. cc) (one_fine (text_request c.ticks outcomes.Found) (λ e. cc))
+source_fine (sources.Generated n) c = All-nil IsFine
 
 -- ---- no request failed
 no_failure : (s : Status) → s ≢ status.ReadFault → IsFailure s []
@@ -114,10 +116,10 @@ module _ (c : CommandState) (s : Status) (old new : Option (List Request)) where
   by_memory : (s ≡ status.NoMemory) × (new ≡ old) → FailsLast s old new
   by_memory h = unfetched s old new (other status.NoMemory h.0 (λ e. cc)) h.1
 
-  pub rounds_fail : (n : ℕ) → EndsWithRounds n c s old new → FailsLast s old new
-  rounds_fail zero (inl files) = by_console files.console files.ticks files.status_is files.requests
-  rounds_fail zero (inr memory) = by_memory memory
-  rounds_fail (suc n) h = by_memory h
+  pub source_fails : (source : Source) → EndsWithSource source c s old new → FailsLast s old new
+  source_fails sources.Files (inl files) = by_console files.console files.ticks files.status_is files.requests
+  source_fails sources.Files (inr memory) = by_memory memory
+  source_fails (sources.Generated n) h = by_memory h
 
 -- ---- a run
 module _ (folder : List ℕ) (said : Answers) (start : State) (k : ℕ) (old new : Option (List Request)) where
@@ -175,18 +177,18 @@ module _ (folder : List ℕ) (said : Answers) (start : State) (k : ℕ) (old new
   summed_fails end s (inl is) h = subst (λ x. FailsLast x old new) (sym is) (run_fails end h)
   summed_fails end s (inr is) h = subst (λ x. FailsLast x old new) (sym is.0) (unput end is.1 is.2 h)
 
-pub left_fails : (n : ℕ) (s : Status) (end : RunEnd) (shelf : Shelf) (start : State) (limit : ℕ) (board : State) (old new : Outside) → IsLeft n s end shelf start limit board old new → FailsLast s old.requests new.requests
-left_fails zero s end shelf start limit board old new (is, ran) =
+pub left_fails : (source : Source) (s : Status) (end : RunEnd) (shelf : Shelf) (start : State) (limit : ℕ) (board : State) (old new : Outside) → IsLeft source s end shelf start limit board old new → FailsLast s old.requests new.requests
+left_fails sources.Files s end shelf start limit board old new (is, ran) =
     subst (λ x. FailsLast x old.requests new.requests) (sym is) (run_fails shelf.name ran.said start ran.k old.requests new.requests end ran.made.fetches)
-left_fails (suc n) s end shelf start limit board old new h =
+left_fails (sources.Generated n) s end shelf start limit board old new h =
     summed_fails shelf.name h.said start h.k old.requests new.requests end s (summed_or shelf.name h.said start h.k old.requests new.requests end s _ old.bytes new.bytes h.summed) h.made.fetches
 
 -- after the files of a command
-pub fails_after : (s : Status) (n : ℕ) (c : CommandState) (old mid new : Option (List Request)) → GrowsBy old mid (rounds_requests n c) → FailsLast s mid new → FailsLast s old new
-fails_after s n c old mid new first h = record {
-  prefix = rounds_requests n c ++ h.prefix;
+pub fails_after : (s : Status) (source : Source) (c : CommandState) (old mid new : Option (List Request)) → GrowsBy old mid (source_requests source c) → FailsLast s mid new → FailsLast s old new
+fails_after s source c old mid new first h = record {
+  prefix = source_requests source c ++ h.prefix;
   last = h.last;
-  requests = subst (GrowsBy old new) (sym (append_assoc (rounds_requests n c) h.prefix h.last)) (grows_both old mid new (rounds_requests n c) (h.prefix ++ h.last) first h.requests);
-  fine = All-append IsFine (rounds_requests n c) h.prefix (rounds_fine n c) h.fine;
+  requests = subst (GrowsBy old new) (sym (append_assoc (source_requests source c) h.prefix h.last)) (grows_both old mid new (source_requests source c) (h.prefix ++ h.last) first h.requests);
+  fine = All-append IsFine (source_requests source c) h.prefix (source_fine source c) h.fine;
   failure = h.failure;
 }

@@ -8,13 +8,15 @@ use Rattle.wind_base.specs.Limits.{longest_module_file}
 use Rattle.wind_outside.specs.Requests.{GrowsBy, Request}
 use Rattle.wind_outside.specs.declared.folder.FetchOutcome.{FetchOutcome}
 use Rattle.wind_outside.specs.declared.folder.FetchOutcome.TheVariants as outcomes
-use Rattle.board_player.specs.Said.{FileSaid, Held, Missing, TooLong}
-use Rattle.board_player.specs.MachineState.{State}
-use Rattle.board_player.specs.Machine.{file_asked}
-use Rattle.board_player.specs.Run.{Answers, after}
+use Rattle.board_player.specs.LiveLoadingSaid.{FileSaid, Held, Missing, TooLong}
+use Rattle.board_player.specs.WindMachineState.{State}
+use Rattle.board_player.specs.WindMachineMachine.{file_asked}
+use Rattle.board_player.specs.WindMachineRun.{Answers, after}
 use Rattle.wind_session.specs.Command.{CommandState}
+use Rattle.wind_session.specs.declared.command.Source.{Source}
+use Rattle.wind_session.specs.declared.command.Source.TheVariants as sources
 use Rattle.wind_session.specs.Paths.{path_in}
-use Rattle.wind_session.specs.Fetches.{LeadsTo, IsAfterFiles, EndsWithFiles, EndsWithRounds, EndsWithInputs, Stops, file_requests, module_request, outcome_said, requests_of, rounds_requests, step_request, text_request}
+use Rattle.wind_session.specs.Fetches.{LeadsTo, IsAfterFiles, EndsWithFiles, EndsWithSource, EndsWithInputs, Stops, file_requests, module_request, outcome_said, requests_of, source_requests, step_request, text_request}
 use Rattle.wind_session.specs.declared.run.RunEnd.TheVariants as ends
 use Rattle.wind_session.specs.declared.ending.Status.{Status}
 use Rattle.wind_session.specs.declared.ending.Status.TheVariants as status
@@ -103,27 +105,30 @@ unasked_requests folder said s i (suc k) unasked =
 
 -- ---- a session without a run
 -- memory ran out before the first request
-pub rounds_unread : (n : ℕ) (c : CommandState) (old : Option (List Request)) → EndsWithRounds n c status.NoMemory old old
-rounds_unread zero c old = inr (refl, refl)
-rounds_unread (suc n) c old = (refl, refl)
+pub source_unread : (source : Source) (c : CommandState) (old : Option (List Request)) → EndsWithSource source c status.NoMemory old old
+source_unread sources.Files c old = inr (refl, refl)
+source_unread (sources.Generated n) c old = (refl, refl)
 
 pub inputs_unread : (command : Option CommandState) (old : Option (List Request)) → EndsWithInputs command status.NoMemory old old
 inputs_unread None old = refl
-inputs_unread (Some c) old = rounds_unread c.generate c old
+inputs_unread (Some c) old = source_unread c.source c old
 
 -- and after both files were found
-pub rounds_found : (n : ℕ) (c : CommandState) (old new : Option (List Request)) → GrowsBy old new (rounds_requests n c) → (n ≢ 0 → new ≡ old) → EndsWithRounds n c status.NoMemory old new
-rounds_found zero c old new grown unasked = inl (record { console = outcomes.Found; ticks = outcomes.Found; requests = grown; status_is = tt })
-rounds_found (suc n) c old new grown unasked = (refl, unasked (λ e. cc))
+pub source_found : (source : Source) (c : CommandState) (old new : Option (List Request)) → GrowsBy old new (source_requests source c) → (source ≢ sources.Files → new ≡ old)
+    → EndsWithSource source c status.NoMemory old new
+source_found sources.Files c old new grown unasked = inl (record { console = outcomes.Found; ticks = outcomes.Found; requests = grown; status_is = tt })
+source_found (sources.Generated n) c old new grown unasked = (refl, unasked (λ e. cc))
 
--- with no rounds, the files of a command were fetched
-pub rounds_files : (n : ℕ) (c : CommandState) (s : Status) (old new : Option (List Request)) → n ≡ 0 → EndsWithFiles c s old new → EndsWithRounds n c s old new
-rounds_files n c s old new none h = subst (λ m. EndsWithRounds m c s old new) (sym none) (inl h)
+-- the two files of a command were fetched, for a command that plays them
+pub files_end : (source : Source) (c : CommandState) (s : Status) (old new : Option (List Request)) → source ≡ sources.Files → EndsWithFiles c s old new → EndsWithSource source c s old new
+files_end source c s old new is h = subst (λ x. EndsWithSource x c s old new) (sym is) (inl h)
 
--- and else none
-pub rounds_none : (n : ℕ) (c : CommandState) (old : Option (List Request)) → n ≢ 0 → GrowsBy old old (rounds_requests n c)
-rounds_none zero c old some = absurd (some refl)
-rounds_none (suc n) c old some = grows_none old
+pub files_found : (source : Source) (c : CommandState) (old new : Option (List Request)) → source ≡ sources.Files → GrowsBy old new (file_requests c outcomes.Found outcomes.Found) → GrowsBy old new (source_requests source c)
+files_found source c old new is h = subst (λ x. GrowsBy old new (source_requests x c)) (sym is) h
+
+-- and none for a generated session
+pub none_found : (source : Source) (n : ℕ) (c : CommandState) (old : Option (List Request)) → source ≡ sources.Generated n → GrowsBy old old (source_requests source c)
+none_found source n c old is = subst (λ x. GrowsBy old old (source_requests x c)) (sym is) (grows_none old)
 
 -- ---- the two files of a command
 -- the console file is not found

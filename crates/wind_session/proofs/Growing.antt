@@ -11,10 +11,10 @@ use Rattle.tick_file.specs.declared.event.Event.{Event}
 use Rattle.tick_file.specs.declared.event.Event.TheVariants.{Tick, Rx, Irq}
 use Rattle.tick_file.specs.Schedule.{Timed, Timetable, brings_bytes, timetable_of}
 use Rattle.tick_file.specs.Writing.{recorded, MoreLaw, LongerLaw}
-use Rattle.board_player.specs.MachineState.{State}
-use Rattle.board_player.specs.Machine.{file_asked, machine_step, opening}
-use Rattle.board_player.specs.Run.{Answers, after}
-use Rattle.board_player.specs.Extending.{More, more_of, longer, extended, bytes_asked, bytes_at, IsUndemanded, IsLater, DemandStays, Setup, booted, IsFed, Grows, GrowsLaw}
+use Rattle.board_player.specs.WindMachineState.{State}
+use Rattle.board_player.specs.WindMachineMachine.{file_asked, machine_step, opening}
+use Rattle.board_player.specs.WindMachineRun.{Answers, after}
+use Rattle.board_player.specs.WindMachineExtending.{More, more_of, longer, extended, bytes_asked, bytes_at, IsUndemanded, IsLater, DemandStays, Setup, booted, IsFed, Grows, GrowsLaw}
 use Rattle.wind_session.specs.Modules.{Shelf}
 use Rattle.wind_session.specs.Fetches.{outcome_said, requests_of, step_request}
 use Rattle.wind_session.specs.Outside.{Outside}
@@ -47,16 +47,16 @@ longer_ran shelf setup console schedule m board old now ran grown =
     let begun = booted setup console schedule in
     let start = booted setup (console ++ m.bytes) (longer m schedule) in
     let put : IsPut said begun k old now = ran.written in
-    let requests : requests_of shelf.name said start k ≡ requests_of shelf.name said begun k = same_requests shelf.name said begun start k grown.files in
-    let pieces : pieces_of said start k ≡ pieces_of said begun k = same_pieces said m begun start k grown.states in
+    let requests : requests_of shelf.name said start k ≡ requests_of shelf.name said begun k = same_requests shelf.name said begun start k grown.begins.files in
+    let pieces : pieces_of said start k ≡ pieces_of said begun k = same_pieces said m begun start k grown.begins.states in
     record {
       said = said;
       k = k;
       made = record {
         counted = ran.made.counted;
-        answers = λ j below name e. ran.made.answers j below name (sym (grown.files j below) ∙ e);
-        part = record { within = ran.made.part.within; steps = grown.made };
-        state = ap (λ s. extended m s) ran.made.state ∙ sym (grown.states k (omega arith));
+        answers = λ j below name e. ran.made.answers j below name (sym (grown.begins.files j below) ∙ e);
+        part = record { within = ran.made.part.within; steps = grown.begins.made };
+        state = ap (λ s. extended m s) ran.made.state ∙ sym (grown.begins.states k (omega arith));
         ended = ran.made.ended;
         fetches = record {
           last = ran.made.fetches.last;
@@ -65,7 +65,7 @@ longer_ran shelf setup console schedule m board old now ran grown =
         };
       };
       written = record {
-        gained = subst (Appended old.bytes now.bytes) (sym grown.wrote) put.gained;
+        gained = subst (Appended old.bytes now.bytes) (sym grown.begins.wrote) put.gained;
         pieces = subst (GrowsBy old.pieces now.pieces) (sym pieces) put.pieces;
       };
     }

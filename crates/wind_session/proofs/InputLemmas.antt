@@ -1,11 +1,13 @@
 -- A run after the fetches of a command's files.
-use Rattle.std.proofs.Common.{◌≡◌, ℕ, zero, suc, List, ◌++◌, Option, subst}
+use Rattle.std.proofs.Common.{◌≡◌, ℕ, List, ◌++◌, Option, subst}
 use Rattle.std.specs.Option.{option_map}
 use Rattle.wind_outside.specs.Files.{Files}
 use Rattle.wind_outside.specs.Requests.{GrowsBy, Request}
-use Rattle.board_player.specs.MachineState.{State}
-use Rattle.board_player.specs.Run.{Answers}
+use Rattle.board_player.specs.WindMachineState.{State}
+use Rattle.board_player.specs.WindMachineRun.{Answers}
 use Rattle.wind_session.specs.Fetches.{requests_of}
+use Rattle.wind_session.specs.declared.command.Source.{Source}
+use Rattle.wind_session.specs.declared.command.Source.TheVariants as sources
 use Rattle.wind_session.specs.Headline.{IsLeft}
 use Rattle.wind_session.specs.Modules.{Shelf}
 use Rattle.wind_session.specs.Outside.{Outside}
@@ -47,8 +49,8 @@ module _ (first : List Request) (old : Outside) (mid : Option (List Request)) (g
   written_there ends.ReadFault said s k new put = put_there said s k new put
   written_there ends.NoMemory said s k new put = put_there said s k new put
 
-  left_there : (n : ℕ) (s : Status) (end : RunEnd) (shelf : Shelf) (start : State) (limit : ℕ) (board : State) (new : Outside) → IsLeft n s end shelf start limit board here new → IsLeft n s end shelf start limit board there new
-  left_there zero s end shelf start limit board new (is, ran) = (
+  left_there : (source : Source) (s : Status) (end : RunEnd) (shelf : Shelf) (start : State) (limit : ℕ) (board : State) (new : Outside) → IsLeft source s end shelf start limit board here new → IsLeft source s end shelf start limit board there new
+  left_there sources.Files s end shelf start limit board new (is, ran) = (
     is,
     record {
       said = ran.said;
@@ -57,7 +59,7 @@ module _ (first : List Request) (old : Outside) (mid : Option (List Request)) (g
       written = written_there end ran.said start ran.k new ran.written;
     },
   )
-  left_there (suc n) s end shelf start limit board new sums = record {
+  left_there (sources.Generated n) s end shelf start limit board new sums = record {
     said = sums.said;
     k = sums.k;
     made = made_there end shelf sums.said start limit sums.k board new.requests sums.made;
@@ -66,9 +68,9 @@ module _ (first : List Request) (old : Outside) (mid : Option (List Request)) (g
   }
 
   -- the folder keeps its files, and the board begins as the plan says
-  pub left_after : (n : ℕ) (s : Status) (end : RunEnd) (held files : Option Files) (name : List ℕ) (opened start : State) (limit : ℕ) (board : State) (new : Outside) → held ≡ files → opened ≡ start
-      → IsLeft n s end (record { files = held; name = name }) opened limit board here new → IsLeft n s end (record { files = files; name = name }) start limit board there new
-  left_after n s end held files name opened start limit board new same_files same_start left =
-      left_there n s end (record { files = files; name = name }) start limit board new
-      (subst (λ (f : Option Files). IsLeft n s end (record { files = f; name = name }) start limit board here new) same_files
-      (subst (λ (u : State). IsLeft n s end (record { files = held; name = name }) u limit board here new) same_start left))
+  pub left_after : (source : Source) (s : Status) (end : RunEnd) (held files : Option Files) (name : List ℕ) (opened start : State) (limit : ℕ) (board : State) (new : Outside) → held ≡ files → opened ≡ start
+      → IsLeft source s end (record { files = held; name = name }) opened limit board here new → IsLeft source s end (record { files = files; name = name }) start limit board there new
+  left_after source s end held files name opened start limit board new same_files same_start left =
+      left_there source s end (record { files = files; name = name }) start limit board new
+      (subst (λ (f : Option Files). IsLeft source s end (record { files = f; name = name }) start limit board here new) same_files
+      (subst (λ (u : State). IsLeft source s end (record { files = held; name = name }) u limit board here new) same_start left))

@@ -1,16 +1,18 @@
 -- What a run leaves, and with which status.
-use Rattle.std.proofs.Common.{◌≡◌, ◌≢◌, ℕ, zero, suc, true, false, List, Option, refl, ap, subst, ◌∙◌, inl, inr, length}
+use Rattle.std.proofs.Common.{◌≡◌, ℕ, true, false, List, Option, refl, sym, ap, subst, ◌∙◌, inl, inr, length}
 use Rattle.std.specs.Prelude.{◌⊎◌}
 use Rattle.wind_outside.specs.Requests.{Request, Piece}
 use Rattle.wind_outside.specs.Appending.{Appended, AppendedPrefix}
 use Rattle.generated_session.specs.Session.{summary_line}
-use Rattle.board_player.specs.MachineState.{State}
-use Rattle.board_player.specs.Run.{Answers, after, text}
+use Rattle.board_player.specs.WindMachineState.{State}
+use Rattle.board_player.specs.WindMachineRun.{Answers, after, text}
 use Rattle.wind_session.specs.Modules.{Shelf}
 use Rattle.wind_session.specs.Generated.{summary}
-use Rattle.wind_session.specs.Outside.{outside}
+use Rattle.wind_session.specs.Outside.{Outside, outside}
+use Rattle.wind_session.specs.declared.command.Source.{Source}
+use Rattle.wind_session.specs.declared.command.Source.TheVariants as sources
 use Rattle.wind_session.specs.Headline.{IsLeft, IsSummed, SumsUp, status_of}
-use Rattle.wind_session.specs.Runs.{is_given_up, Counted}
+use Rattle.wind_session.specs.Runs.{is_given_up, Counted, Ran}
 use Rattle.wind_session.specs.Status.{status_number}
 use Rattle.wind_session.specs.declared.run.RunEnd.{RunEnd}
 use Rattle.wind_session.specs.declared.run.RunEnd.TheVariants as ends
@@ -67,6 +69,11 @@ module _ (limit bytes : ℕ) (shelf : Shelf) (s board : State) (end : RunEnd) (f
     all_put = counted.all_put;
   }
 
-  pub left_summed : (n : ℕ) → n ≢ 0 → IsSummed end x (summary_line n bytes board.steps board.world.kern.tick (status_number (status_of end))) old new → IsLeft n x end shelf s limit board (outside first old old_pieces) (outside last new new_pieces)
-  left_summed zero some h = absurd (some refl)
-  left_summed (suc n) some h = sums (suc n) h
+  pub left_summed : (source : Source) (n : ℕ) → source ≡ sources.Generated n → IsSummed end x (summary_line n bytes board.steps board.world.kern.tick (status_number (status_of end))) old new
+      → IsLeft source x end shelf s limit board (outside first old old_pieces) (outside last new new_pieces)
+  left_summed source n is h = subst (λ v. IsLeft v x end shelf s limit board (outside first old old_pieces) (outside last new new_pieces)) (sym is) (sums n h)
+
+-- what the steps wrote was put
+pub left_put : (source : Source) (x : Status) (end : RunEnd) (shelf : Shelf) (s : State) (limit : ℕ) (board : State) (old new : Outside) → source ≡ sources.Files → x ≡ status_of end → Ran end shelf s limit board old new
+    → IsLeft source x end shelf s limit board old new
+left_put source x end shelf s limit board old new is own ran = subst (λ v. IsLeft v x end shelf s limit board old new) (sym is) (own, ran)

@@ -6,10 +6,10 @@ use Rattle.std.proofs.lemmas.Str.{IsUtf8-from_is_utf8, is_utf8-from_IsUtf8}
 use Rattle.std.proofs.lemmas.Bool.Decides.{nat_tests}
 use Rattle.wind_base.specs.Limits.{longest_module_file}
 use Rattle.wind_outside.specs.Files.{Files}
-use Rattle.board_player.proofs.Asking.{asked_may}
-use Rattle.board_player.specs.Machine.{file_asked}
-use Rattle.board_player.specs.MachineState.{State}
-use Rattle.board_player.specs.Said.{FileSaid, Held, Missing, TooLong, said_by}
+use Rattle.board_player.proofs.WindMachineAsking.{asked_may}
+use Rattle.board_player.specs.WindMachineMachine.{file_asked}
+use Rattle.board_player.specs.WindMachineState.{State}
+use Rattle.board_player.specs.LiveLoadingSaid.{FileSaid, Held, Missing, TooLong, said_by}
 use Rattle.wind_session.specs.Modules.{IsSaidBy}
 use Rattle.wind_session.specs.Runs.{IsHalt, is_given_up}
 use Rattle.wind_session.specs.declared.run.RunEnd.{RunEnd}

@@ -1,13 +1,16 @@
 -- What the arguments and the two files ask for.
-use Rattle.std.proofs.Common.{◌≡◌, ℕ, zero, suc, ◌+◌, ◌<◌, ◌≤◌, List, [], ◌∷◌, Option, Some, None, true, false, cond, refl, sym, ap, subst, ◌≢◌, ◌∙◌, arith, length}
+use Rattle.std.proofs.Common.{◌≡◌, ℕ, zero, suc, ◌+◌, ◌<◌, ◌≤◌, List, [], ◌∷◌, Option, Some, None, true, false, cond, refl, sym, ap, subst, ◌∙◌, arith, length}
 use Rattle.std.specs.Prelude.{IfSome, IsSomeAnd, nat_lt}
 use Rattle.std.proofs.lemmas.Bool.Decides.{nat_tests}
 use Rattle.wind_base.specs.Limits.{longest_text_file}
 use Rattle.wind_outside.specs.Files.{Files, IsFetchOf}
 use Rattle.wind_outside.specs.declared.folder.Fetched.TheVariants as fetched
 use Rattle.tick_file.specs.Schedule.{Timetable, timetable_of}
-use Rattle.generated_session.specs.Session.{generated_console, generated_ticks}
-use Rattle.wind_session.specs.Command.{CommandState}
+use Rattle.generated_session.specs.Session.{generated_console, generated_ticks, most_rounds}
+use Rattle.wind_session.specs.Command.{CommandState, HasFewRounds}
+use Rattle.wind_session.specs.declared.command.Source.{Source}
+use Rattle.wind_session.specs.declared.command.Source.TheVariants as sources
+use Rattle.wind_session.specs.Keeping.{Around, FolderFailed}
 use Rattle.wind_session.specs.Plan.{Plan, Refuse, Start, IsFilePlan, IsPlanOf, IsPlan, IsEntry, IsHeld, plan_file, plan_ticks, plan_of, generated_plan}
 use Rattle.wind_session.specs.Headline.{IsRefusal, IsUnread, RefusesFiles, Refuses, fetch_fault, IsThere, IsPlayed, IsComplete}
 use Rattle.wind_session.specs.declared.ending.Status.{Status}
@@ -80,16 +83,16 @@ module _ (files : Option Files) (name : List ℕ) where
     unread_memory = let some = some_entry files name in record { file = some.0; entry = some.1; refused = λ next. tt }
 
 -- the arguments ask for some plan, even if it isn't known which
-some_plan_of : (n : ℕ) (files : Option Files) (c : CommandState) → (plan : Plan) × IsPlanOf n files c plan
-some_plan_of zero files c =
+some_plan_of : (source : Source) (files : Option Files) (c : CommandState) → (plan : Plan) × IsPlanOf source files c plan
+some_plan_of sources.Files files c =
     let console = some_entry files c.console in
     let ticks = some_entry files c.ticks in
     (plan_of console.0 ticks.0, record { console = console.0; ticks = ticks.0; console_entry = console.1; ticks_entry = ticks.1; plan_is = refl })
-some_plan_of (suc n) files c = (generated_plan (suc n), refl)
+some_plan_of (sources.Generated n) files c = (generated_plan n, refl)
 
 pub some_plan : (files : Option Files) (command : Option CommandState) → (plan : Plan) × IsPlan files command plan
 some_plan files None = (Refuse status.Usage, refl)
-some_plan files (Some c) = some_plan_of c.generate files c
+some_plan files (Some c) = some_plan_of c.source files c
 
 module _ (files : Option Files) (command : CommandState) where
   -- the console file is refused
@@ -146,35 +149,40 @@ refusal_played (status.BadTicks line) plan console schedule rose e fine h = let 
 refusal_played (status.TooLong file) plan console schedule rose e fine h = let bad : Refuse (status.TooLong file) ≡ Start console schedule = sym h ∙ e in cc
 
 -- so what is refused without a fault was not there to play
-refused_of : (n : ℕ) (s : Status) (files : Option Files) (command : CommandState) (rose : Type 0) (plan : Plan) → IsPlanOf n files command plan → IsRefusal s plan (fetch_fault n rose)
-    → IsThere n command files → (rose → ⊥) → IsPlayed s
-refused_of zero s None command rose plan planned refused there fine = absurd there
-refused_of zero s (Some held) command rose plan planned refused there fine =
+refused_of : (source : Source) (s : Status) (files : Option Files) (command : CommandState) (rose : Type 0) (plan : Plan) → IsPlanOf source files command plan
+    → IsRefusal s plan (fetch_fault source rose) → IsThere source command files → (rose → ⊥) → IsPlayed s
+refused_of sources.Files s None command rose plan planned refused there fine = absurd there
+refused_of sources.Files s (Some held) command rose plan planned refused there fine =
     refusal_played s plan there.0 there.1 rose
     (planned.plan_is ∙ ap (λ file. plan_of file planned.ticks) planned.console_entry ∙ ap (plan_of (held command.console)) planned.ticks_entry ∙ there.2)
     fine refused
-refused_of (suc n) s files command rose plan planned refused there fine =
-    refusal_played s plan (generated_console (suc n)) (timetable_of (generated_ticks (suc n))) ⊥ planned (λ never. never) refused
+refused_of (sources.Generated n) s files command rose plan planned refused there fine =
+    refusal_played s plan (generated_console n) (timetable_of (generated_ticks n)) ⊥ planned (λ never. never) refused
 
-pub complete_refused : (s : Status) (files : Option Files) (command : CommandState) (rose out_rose : Type 0) → Refuses s files command rose → IsComplete s (Some command) files rose out_rose
-complete_refused s files command rose out_rose h = λ there fine out_fine. refused_of command.generate s files command rose h.0 h.1 h.2 there fine
+pub complete_refused : (s : Status) (command : CommandState) (before after : Around) → Refuses s before.files command (FolderFailed before after) → IsComplete s (Some command) before after
+complete_refused s command before after h = λ there fine out_fine. refused_of command.source s before.files command (FolderFailed before after) h.0 h.1 h.2 there fine
 
--- ---- by the number of rounds
+-- ---- by what is played
+module _ (source : Source) (files : Option Files) (command : CommandState) where
+  -- the files
+  pub plans_files : (plan : Plan) → source ≡ sources.Files → IsFilePlan files command plan → IsPlanOf source files command plan
+  plans_files plan is h = subst (λ x. IsPlanOf x files command plan) (sym is) h
+
+  refused_files : (s : Status) (rose : Type 0) (plan : Plan) → source ≡ sources.Files → IsRefusal s plan rose → IsRefusal s plan (fetch_fault source rose)
+  refused_files s rose plan is h = subst (λ x. IsRefusal s plan (fetch_fault x rose)) (sym is) h
+
+  -- a generated session
+  pub plans_generated : (n : ℕ) (plan : Plan) → source ≡ sources.Generated n → plan ≡ generated_plan n → IsPlanOf source files command plan
+  plans_generated n plan is h = subst (λ x. IsPlanOf x files command plan) (sym is) h
+
+pub few_rounds : (source : Source) (n : ℕ) → source ≡ sources.Generated n → HasFewRounds source → n ≤ most_rounds
+few_rounds source n is h = subst HasFewRounds is h
+
 module _ (files : Option Files) (command : CommandState) where
-  -- with none, the files are played
-  pub by_files : (plan : Plan) → command.generate ≡ 0 → IsFilePlan files command plan → IsPlanOf command.generate files command plan
-  by_files plan none h = subst (λ n. IsPlanOf n files command plan) (sym none) h
+  pub refuses_by_files : (s : Status) (rose : Type 0) → command.source ≡ sources.Files → RefusesFiles s files command rose → Refuses s files command rose
+  refuses_by_files s rose is h = (h.0, plans_files command.source files command h.0 is h.1, refused_files command.source files command s rose h.0 is h.2)
 
-  pub refuses_by_files : (s : Status) (rose : Type 0) → command.generate ≡ 0 → RefusesFiles s files command rose → Refuses s files command rose
-  refuses_by_files s rose none h = (h.0, by_files h.0 none h.1, subst (λ n. IsRefusal s h.0 (fetch_fault n rose)) (sym none) h.2)
-
-  generated_of : (n : ℕ) (plan : Plan) → n ≢ 0 → plan ≡ generated_plan n → IsPlanOf n files command plan
-  generated_of zero plan some e = absurd (some refl)
-  generated_of (suc n) plan some e = e
-
-  -- and else a generated session
-  pub by_rounds : (plan : Plan) → command.generate ≢ 0 → plan ≡ generated_plan command.generate → IsPlanOf command.generate files command plan
-  by_rounds plan some e = generated_of command.generate plan some e
-
-  pub refuses_memory : (rose : Type 0) → Refuses status.NoMemory files command rose
-  refuses_memory rose = let some = some_plan_of command.generate files command in (some.0, some.1, tt)
+  pub refuses_memory : (s : Status) (rose : Type 0) → s ≡ status.NoMemory → Refuses s files command rose
+  refuses_memory s rose is =
+      let some = some_plan_of command.source files command in
+      (some.0, some.1, subst (λ x. IsRefusal x some.0 (fetch_fault command.source rose)) (sym is) tt)

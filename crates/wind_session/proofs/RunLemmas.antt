@@ -6,10 +6,10 @@ use Rattle.wind_outside.specs.Files.{Files}
 use Rattle.wind_outside.specs.Requests.{GrowsBy, Request, Piece}
 use Rattle.wind_outside.specs.Appending.{Appended, AppendedPrefix}
 use Rattle.wind_outside.specs.declared.sink.Put.TheVariants as puts
-use Rattle.board_player.specs.Said.{FileSaid, Missing}
-use Rattle.board_player.specs.MachineState.{State}
-use Rattle.board_player.specs.Machine.{IsOver, file_asked, machine_step}
-use Rattle.board_player.specs.Run.{Answers, after, text, IsPart}
+use Rattle.board_player.specs.LiveLoadingSaid.{FileSaid, Missing}
+use Rattle.board_player.specs.WindMachineState.{State}
+use Rattle.board_player.specs.WindMachineMachine.{IsOver, file_asked, machine_step}
+use Rattle.board_player.specs.WindMachineRun.{Answers, after, text, IsPart}
 use Rattle.wind_session.specs.Modules.{Shelf, IsSaid, AreSaid}
 use Rattle.wind_session.specs.Fetches.{IsLastRequest, Stops, outcome_said, requests_of, step_request}
 use Rattle.wind_session.specs.Outside.{outside}

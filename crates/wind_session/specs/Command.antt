@@ -1,5 +1,5 @@
 -- What the arguments of the command line ask for, by the definition of a simple command of `clap`.
-use Rattle.std.specs.Prelude.{ℕ, List, [], ◌∷◌, Option, Some, None, unwrap_or, nat_le, if◌then◌else◌, ◌==◌, length, codes}
+use Rattle.std.specs.Prelude.{ℕ, ◌≤◌, List, [], ◌∷◌, Option, Some, None, unwrap_or, nat_le, if◌then◌else◌, ◌==◌, length, codes}
 use Rattle.wind_base.specs.Limits.{most_steps}
 use Rattle.wind_base.specs.declared.board_kind.BoardKind.{BoardKind}
 use Rattle.wind_base.specs.declared.board_kind.BoardKind.TheVariants as boards
@@ -10,6 +10,8 @@ use Rattle.generated_session.specs.Session.{most_rounds}
 use Rattle.clap.specs.Kinds.{Kinds}
 use Rattle.clap.specs.Words.{App, Row, Rule, Text, fault_of, first_of, matches_of, new_app, new_rule, with_rule}
 use Rattle.wind_session.specs.declared.command.Machine.{Machine}
+use Rattle.wind_session.specs.declared.command.Source.{Source}
+use Rattle.wind_session.specs.declared.command.Source.TheVariants as sources
 
 -- ---- the words
 -- what clap finds, if there is no fault; a call for help is such a fault
@@ -86,14 +88,28 @@ machine_value rows =
     Some (record { profile = profile; board = board })))
 
 -- ---- the command of a session
+-- what this number of rounds asks for: with 0, the files are played
+abbrev pub source_of_number : Option ℕ → Option Source
+source_of_number None = None
+source_of_number (Some n) = Some (if n == 0 then sources.Files else sources.Generated n)
+
+-- a source: a number of rounds, at most 10,000
+abbrev pub source_value : Text → Option Source
+source_value text = source_of_number (number_value most_rounds text)
+
+-- a generated session has at most 10,000 rounds
+abbrev pub HasFewRounds : Source → Type 0
+HasFewRounds sources.Files = Unit {0}
+HasFewRounds (sources.Generated n) = n ≤ most_rounds
+
 -- a command: the names of the console file, of the tick file and of the folder of modules; the most steps that the
--- run makes; the rounds of the generated session, or 0; the rule of inheritance; and the kind of board
+-- run makes; whether the files or a generated session is played; the rule of inheritance; and the kind of board
 pub record CommandState : Type 0 where
   pub console : List ℕ
   pub ticks : List ℕ
   pub modules : List ℕ
   pub limit : ℕ
-  pub generate : ℕ
+  pub source : Source
   pub profile : Profile
   pub board : BoardKind
 
@@ -111,14 +127,14 @@ with_session_options app =
 abbrev pub command_of_rows : List Row → Option CommandState
 command_of_rows rows =
     if_valid (number_value most_steps (value_of (codes "limit") rows)) (λ limit.
-    if_valid (number_value most_rounds (value_of (codes "generate") rows)) (λ generate.
+    if_valid (source_value (value_of (codes "generate") rows)) (λ source.
     if_valid (machine_value rows) (λ machine.
     Some (record {
       console = value_of (codes "console") rows;
       ticks = value_of (codes "ticks") rows;
       modules = value_of (codes "modules") rows;
       limit = limit;
-      generate = generate;
+      source = source;
       profile = machine.profile;
       board = machine.board;
     }))))

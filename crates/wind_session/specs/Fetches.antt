@@ -7,12 +7,14 @@ use Rattle.wind_base.specs.Limits.{longest_module_file, longest_text_file}
 use Rattle.wind_outside.specs.Requests.{GrowsBy, Request}
 use Rattle.wind_outside.specs.declared.folder.FetchOutcome.{FetchOutcome}
 use Rattle.wind_outside.specs.declared.folder.FetchOutcome.TheVariants as outcomes
-use Rattle.board_player.specs.Said.{FileSaid, Held, Missing, TooLong}
-use Rattle.board_player.specs.MachineState.{State}
-use Rattle.board_player.specs.Machine.{file_asked}
-use Rattle.board_player.specs.Run.{Answers, after}
+use Rattle.board_player.specs.LiveLoadingSaid.{FileSaid, Held, Missing, TooLong}
+use Rattle.board_player.specs.WindMachineState.{State}
+use Rattle.board_player.specs.WindMachineMachine.{file_asked}
+use Rattle.board_player.specs.WindMachineRun.{Answers, after}
 use Rattle.wind_session.specs.Command.{CommandState}
 use Rattle.wind_session.specs.Paths.{path_in}
+use Rattle.wind_session.specs.declared.command.Source.{Source}
+use Rattle.wind_session.specs.declared.command.Source.TheVariants as sources
 use Rattle.wind_session.specs.declared.run.RunEnd.{RunEnd}
 use Rattle.wind_session.specs.declared.run.RunEnd.TheVariants as ends
 use Rattle.wind_session.specs.declared.ending.Status.{Status}
@@ -33,15 +35,10 @@ file_requests c outcomes.TooLong ticks = text_request c.console outcomes.TooLong
 file_requests c outcomes.Failed ticks = text_request c.console outcomes.Failed ∷ []
 file_requests c outcomes.NoMemory ticks = text_request c.console outcomes.NoMemory ∷ []
 
--- with no rounds, the two files are fetched, and both are found; for a generated session, no file is fetched
-abbrev pub rounds_requests : ℕ → CommandState → List Request
-rounds_requests zero c = file_requests c outcomes.Found outcomes.Found
-rounds_requests (suc n) c = []
-
--- the requests before a run
-abbrev pub inputs_requests : Option CommandState → List Request
-inputs_requests None = []
-inputs_requests (Some c) = rounds_requests c.generate c
+-- if the files are played, both are fetched and found; for a generated session, no file is fetched
+abbrev pub source_requests : Source → CommandState → List Request
+source_requests sources.Files c = file_requests c outcomes.Found outcomes.Found
+source_requests (sources.Generated n) c = []
 
 -- the status that the fetch of a file leads to; if it found the file, what follows decides
 abbrev pub LeadsTo : Which → FetchOutcome → Status → Type 0 → Type 0
@@ -66,14 +63,14 @@ pub record EndsWithFiles (c : CommandState) (s : Status) (old new : Option (List
 
 -- the requests of a session without a run; there are none if memory runs out before the first, or if the session
 -- is generated
-abbrev pub EndsWithRounds : ℕ → CommandState → Status → Option (List Request) → Option (List Request) → Type 0
-EndsWithRounds zero c s old new = EndsWithFiles c s old new ⊎ ((s ≡ status.NoMemory) × (new ≡ old))
-EndsWithRounds (suc n) c s old new = (s ≡ status.NoMemory) × (new ≡ old)
+abbrev pub EndsWithSource : Source → CommandState → Status → Option (List Request) → Option (List Request) → Type 0
+EndsWithSource sources.Files c s old new = EndsWithFiles c s old new ⊎ ((s ≡ status.NoMemory) × (new ≡ old))
+EndsWithSource (sources.Generated n) c s old new = (s ≡ status.NoMemory) × (new ≡ old)
 
 -- if the arguments are invalid, there are none
 abbrev pub EndsWithInputs : Option CommandState → Status → Option (List Request) → Option (List Request) → Type 0
 EndsWithInputs None s old new = new ≡ old
-EndsWithInputs (Some c) s old new = EndsWithRounds c.generate c s old new
+EndsWithInputs (Some c) s old new = EndsWithSource c.source c s old new
 
 -- ---- the modules of a run
 -- how the fetch ended, given what the machine is told of the file

@@ -1,8 +1,8 @@
 -- What is reported of the run of a generated session.
 use Rattle.std.specs.Prelude.{ℕ, List, length}
 use Rattle.generated_session.specs.Session.{summary_line}
-use Rattle.board_player.specs.MachineState.{State}
-use Rattle.board_player.specs.Run.{Answers, after, text}
+use Rattle.board_player.specs.WindMachineState.{State}
+use Rattle.board_player.specs.WindMachineRun.{Answers, after, text}
 
 -- the line for the first k steps from s, which ended with this status number
 unfoldable pub summary : ℕ → Answers → State → ℕ → ℕ → List ℕ

@@ -1,27 +1,26 @@
 -- What playing a session leaves.
-use Rattle.std.specs.Prelude.{◌≡◌, ◌≢◌, ◌⊎◌, ℕ, zero, suc, List, [], Option, Vec, Some, None}
+use Rattle.std.specs.Prelude.{◌≡◌, ◌≢◌, ◌⊎◌, ℕ, List, Option, Vec, Some, None}
 use Rattle.std.specs.declared.dyn_box.DynBox.{DynBox}
 use Rattle.std.specs.declared.alloc.Global.{Global}
 use Rattle.wind_outside.specs.Devices.{DeviceState}
 use Rattle.wind_outside.specs.Files.{Files}
 use Rattle.wind_outside.specs.Appending.{Appended, AppendedPrefix}
-use Rattle.board_player.specs.MachineState.{State}
-use Rattle.board_player.specs.Good.{Good}
-use Rattle.board_player.specs.Instants.{IsInstant}
+use Rattle.board_player.specs.WindMachineState.{State}
+use Rattle.board_player.specs.WindMachineGood.{Good}
+use Rattle.board_player.specs.WindMachineInstants.{IsInstant}
 use Rattle.board_player.specs.declared.board.Board.{Board}
-use Rattle.wind_base.specs.declared.board_kind.BoardKind.{BoardKind}
-use Rattle.wind_base.specs.declared.board_kind.BoardKind.TheVariants as boards
-use Rattle.wind_base.specs.declared.profile.Profile.{Profile}
-use Rattle.wind_base.specs.declared.profile.Profile.TheVariants.{One}
-use Rattle.board_player.specs.Machine.{opening}
-use Rattle.board_player.specs.Run.{Answers}
+use Rattle.board_player.specs.WindMachineMachine.{opening}
+use Rattle.board_player.specs.WindMachineRun.{Answers}
 use Rattle.wind_session.specs.Modules.{Shelf}
 use Rattle.wind_session.specs.Fetches.{EndsWithInputs}
+use Rattle.wind_session.specs.Keeping.{Around, FolderFailed, SinkFailed}
 use Rattle.wind_session.specs.Outside.{Outside, with_inputs}
 use Rattle.wind_session.specs.Runs.{Made, Ran}
 use Rattle.wind_session.specs.Generated.{summary}
 use Rattle.wind_session.specs.Status.{status_number}
 use Rattle.wind_session.specs.Command.{CommandState}
+use Rattle.wind_session.specs.declared.command.Source.{Source}
+use Rattle.wind_session.specs.declared.command.Source.TheVariants as sources
 use Rattle.tick_file.specs.Schedule.{Timetable}
 use Rattle.wind_session.specs.Plan.{Plan, Refuse, Start, IsEntry, IsFilePlan, IsPlanOf, IsPlan, plan_file, plan_of}
 use Rattle.wind_session.specs.declared.run.RunEnd.{RunEnd}
@@ -50,9 +49,9 @@ pub record IsUnread (s : Status) (which : Which) (files : Option Files) (name : 
   pub refused : (next : List ℕ → Plan) → IsRefusal s (plan_file which next file) rose
 
 -- whether a fetch can have failed: the folder's count of faults rose; for a generated session nothing is fetched
-abbrev pub fetch_fault : ℕ → Type 0 → Type 0
-fetch_fault zero rose = rose
-fetch_fault (suc n) rose = ⊥
+abbrev pub fetch_fault : Source → Type 0 → Type 0
+fetch_fault sources.Files rose = rose
+fetch_fault (sources.Generated n) rose = ⊥
 
 -- the status refuses what the two files of a command ask for
 abbrev pub RefusesFiles : Status → Option Files → CommandState → Type 0 → Type 0
@@ -60,7 +59,7 @@ RefusesFiles s files command rose = (plan : Plan) × IsFilePlan files command pl
 
 -- the status refuses what a command asks for
 abbrev pub Refuses : Status → Option Files → CommandState → Type 0 → Type 0
-Refuses s files command rose = (plan : Plan) × IsPlanOf command.generate files command plan × IsRefusal s plan (fetch_fault command.generate rose)
+Refuses s files command rose = (plan : Plan) × IsPlanOf command.source files command plan × IsRefusal s plan (fetch_fault command.source rose)
 
 -- the status of a run
 abbrev pub status_of : RunEnd → Status
@@ -70,32 +69,14 @@ status_of ends.ReadFault = status.ReadFault
 status_of ends.WriteFault = status.WriteFault
 status_of ends.NoMemory = status.NoMemory
 
--- the most steps of a session, and the number of rounds if it is generated
-abbrev pub limit_of : Option CommandState → ℕ
-limit_of None = 0
-limit_of (Some command) = command.limit
+-- what the arguments play; if they are invalid, nothing
+abbrev pub source_of : Option CommandState → Source
+source_of None = sources.Files
+source_of (Some command) = command.source
 
-abbrev pub rounds_of : Option CommandState → ℕ
-rounds_of None = 0
-rounds_of (Some command) = command.generate
-
--- its rule of inheritance
-abbrev pub profile_of : Option CommandState → Profile
-profile_of None = One
-profile_of (Some command) = command.profile
-
--- its kind of board
-abbrev pub board_of : Option CommandState → BoardKind
-board_of None = boards.One
-board_of (Some command) = command.board
-
--- and the folder of its modules
-abbrev pub modules_of : Option CommandState → List ℕ
-modules_of None = []
-modules_of (Some command) = command.modules
-
-abbrev pub shelf_of : Option Files → Option CommandState → Shelf
-shelf_of files command = record { files = files; name = modules_of command }
+-- the folder of a command's modules
+abbrev pub shelf_of : Option Files → CommandState → Shelf
+shelf_of files command = record { files = files; name = command.modules }
 
 -- the sink gained the line that sums a run up, or a prefix of it if a put failed; if the run was given up, it
 -- gained nothing
@@ -113,18 +94,23 @@ pub record SumsUp (n : ℕ) (s : Status) (end : RunEnd) (shelf : Shelf) (start :
   pub all_put : end ≢ ends.WriteFault
 
 -- what a run leaves: what its steps wrote, or the line of a generated session
-abbrev pub IsLeft : ℕ → Status → RunEnd → Shelf → State → ℕ → State → Outside → Outside → Type 0
-IsLeft zero s end shelf start limit board old new = (s ≡ status_of end) × Ran end shelf start limit board old new
-IsLeft (suc n) s end shelf start limit board old new = SumsUp (suc n) s end shelf start limit board old new
+abbrev pub IsLeft : Source → Status → RunEnd → Shelf → State → ℕ → State → Outside → Outside → Type 0
+IsLeft sources.Files s end shelf start limit board old new = (s ≡ status_of end) × Ran end shelf start limit board old new
+IsLeft (sources.Generated n) s end shelf start limit board old new = SumsUp n s end shelf start limit board old new
 
--- a board of this kind was played: the wind machine's, started with the console, the events of the tick file, these
--- devices and this rule of inheritance, and given the files of modules that it needed
-pub record Played (s : Status) (plan : Plan) (rounds limit : ℕ) (profile : Profile) (kind : BoardKind) (shelf : Shelf) (devices : List (Option DeviceState)) (board : State) (old new : Outside) : Type 0 where
+-- a command was played on this board: the wind machine's, started with the console, the events of the tick file, these
+-- devices, and the rule and kind of the command, and given the files of modules that it needed
+pub record Played (s : Status) (plan : Plan) (command : CommandState) (devices : List (Option DeviceState)) (board : State) (before after : Around) : Type 0 where
   pub end : RunEnd
   pub console : List ℕ
   pub schedule : Timetable
   pub planned : plan ≡ Start console schedule
-  pub left : IsLeft rounds s end shelf (opening console schedule devices profile kind) limit board old new
+  pub left : IsLeft command.source s end (shelf_of before.files command) (opening console schedule devices command.profile command.board) command.limit board (with_inputs command before.logged) after.logged
+
+-- the arguments were a command, and it was played
+abbrev pub IsPlayedOn : Status → Plan → Option CommandState → List (Option DeviceState) → State → Around → Around → Type 0
+IsPlayedOn s plan None devices board before after = ⊥
+IsPlayedOn s plan (Some command) devices board before after = Played s plan command devices board before after
 
 -- a session without a run: nothing was put, and only the files of the command were fetched
 pub record NotPlayed (s : Status) (plan : Plan) (command : Option CommandState) (fault : Type 0) (old new : Outside) : Type 0 where
@@ -133,17 +119,20 @@ pub record NotPlayed (s : Status) (plan : Plan) (command : Option CommandState) 
   pub refusal : IsRefusal s plan fault
   pub fetches : EndsWithInputs command s old.requests new.requests
 
--- what is left: the slots as they were, or the board of a run, after the files of the command were fetched
-abbrev pub Leaves : {I : Type 0} {X : I → Type 0} → (Board I X → State) → Status → Stand I X → Plan → Option CommandState → Shelf → Type 0 → Vec (Option (DynBox I Global X)) Global → List (Option DeviceState) → Outside → Outside → Type 0
-Leaves state s (stands.NotBooted back) plan command shelf fault slots devices old new = (back ≡ slots) × NotPlayed s plan command fault old new
-Leaves state s (stands.Booted board) plan command shelf fault slots devices old new =
-    Played s plan (rounds_of command) (limit_of command) (profile_of command) (board_of command) shelf devices (state board) (with_inputs command old) new
+-- nothing was played: a read fault requires that a fetch failed
+abbrev pub IsNotPlayed : Status → Plan → Option CommandState → Around → Around → Type 0
+IsNotPlayed s plan command before after = NotPlayed s plan command (fetch_fault (source_of command) (FolderFailed before after)) before.logged after.logged
 
--- playing a command leaves what the wind machine leaves; `rose` says that the folder's count of faults rose
-pub record Plays {I : Type 0} {X : I → Type 0} (state : Board I X → State) (ending : Ending I X) (command : Option CommandState) (files : Option Files) (rose : Type 0) (slots : Vec (Option (DynBox I Global X)) Global) (devices : List (Option DeviceState)) (old new : Outside) : Type 0 where
+-- what is left: the slots as they were, or the board of a run, after the files of the command were fetched
+abbrev pub Leaves : {I : Type 0} {X : I → Type 0} → (Board I X → State) → Status → Stand I X → Plan → Option CommandState → Vec (Option (DynBox I Global X)) Global → List (Option DeviceState) → Around → Around → Type 0
+Leaves state s (stands.NotBooted back) plan command slots devices before after = (back ≡ slots) × IsNotPlayed s plan command before after
+Leaves state s (stands.Booted board) plan command slots devices before after = IsPlayedOn s plan command devices (state board) before after
+
+-- playing a command leaves what the wind machine leaves
+pub record Plays {I : Type 0} {X : I → Type 0} (state : Board I X → State) (ending : Ending I X) (command : Option CommandState) (slots : Vec (Option (DynBox I Global X)) Global) (devices : List (Option DeviceState)) (before after : Around) : Type 0 where
   pub plan : Plan
-  pub planned : IsPlan files command plan
-  pub leaves : Leaves state ending.status ending.stand plan command (shelf_of files command) (fetch_fault (rounds_of command) rose) slots devices old new
+  pub planned : IsPlan before.files command plan
+  pub leaves : Leaves state ending.status ending.stand plan command slots devices before after
 
 -- the board that is left keeps the invariant, and what holds at each instant
 abbrev pub IsKept : {I : Type 0} {X : I → Type 0} → (Board I X → State) → Stand I X → Type 0
@@ -158,12 +147,12 @@ IsPlayed status.NoMemory = Unit {0}
 IsPlayed s = ⊥
 
 -- there is a session to play: the two files of a folder that tells its files, or a generated one
-abbrev pub IsThere : ℕ → CommandState → Option Files → Type 0
-IsThere zero command None = ⊥
-IsThere zero command (Some held) = (console : List ℕ) × (schedule : Timetable) × (plan_of (held command.console) (held command.ticks) ≡ Start console schedule)
-IsThere (suc n) command files = Unit {0}
+abbrev pub IsThere : Source → CommandState → Option Files → Type 0
+IsThere sources.Files command None = ⊥
+IsThere sources.Files command (Some held) = (console : List ℕ) × (schedule : Timetable) × (plan_of (held command.console) (held command.ticks) ≡ Start console schedule)
+IsThere (sources.Generated n) command files = Unit {0}
 
 -- with a command, a session to play and no fault, the session is played
-abbrev pub IsComplete : Status → Option CommandState → Option Files → Type 0 → Type 0 → Type 0
-IsComplete s None files folder_rose out_rose = Unit {0}
-IsComplete s (Some command) files folder_rose out_rose = IsThere command.generate command files → (folder_rose → ⊥) → (out_rose → ⊥) → IsPlayed s
+abbrev pub IsComplete : Status → Option CommandState → Around → Around → Type 0
+IsComplete s None before after = Unit {0}
+IsComplete s (Some command) before after = IsThere command.source command before.files → (FolderFailed before after → ⊥) → (SinkFailed before after → ⊥) → IsPlayed s

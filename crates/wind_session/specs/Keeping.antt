@@ -1,5 +1,6 @@
--- What a session keeps of its folder and of its sink.
-use Rattle.std.specs.Prelude.{◌≡◌, ℕ, ◌≤◌, Option}
+-- What is around a session, before and after it: its folder and its sinks.
+use Rattle.std.specs.Prelude.{◌≡◌, ℕ, ◌≤◌, List, Option}
+use Rattle.wind_outside.specs.Counts.{Rose}
 use Rattle.wind_outside.specs.Files.{Files}
 use Rattle.wind_outside.specs.declared.folder.Folder.{Ghosts as FolderGhosts}
 use Rattle.wind_outside.specs.declared.sink.Sink.{Ghosts as SinkGhosts}
@@ -23,6 +24,21 @@ around folder sink f o = record {
   sink_faults = sink.faults o;
   logged = outside (folder.requests f) (sink.bytes o) (sink.pieces o);
 }
+
+-- a fetch failed, and a put
+abbrev pub FolderFailed : Around → Around → Type 0
+FolderFailed before after = Rose before.folder_faults after.folder_faults
+
+abbrev pub SinkFailed : Around → Around → Type 0
+SinkFailed before after = Rose before.sink_faults after.sink_faults
+
+-- the sink of the messages: its bytes, and its count of faults
+pub record Messages : Type 0 where
+  pub bytes : Option (List ℕ)
+  pub faults : ℕ
+
+abbrev pub messages : {E : Type 0} → SinkGhosts E → E → Messages
+messages sink e = record { bytes = sink.bytes e; faults = sink.faults e }
 
 -- the folder is kept, and the sink's count of faults doesn't fall either
 abbrev pub Keeps : Around → Around → Type 0

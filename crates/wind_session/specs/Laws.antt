@@ -4,6 +4,7 @@ use Rattle.wind_base.specs.declared.board_kind.BoardKind.TheVariants as boards
 use Rattle.wind_base.specs.declared.profile.Profile.TheVariants.{One, Two}
 use Rattle.clap.specs.Words.{Text}
 use Rattle.wind_session.specs.Command.{CommandState, command_of}
+use Rattle.wind_session.specs.declared.command.Source.TheVariants as sources
 
 -- the command of words after the program's name
 abbrev pub command_after : List Text → Option CommandState
@@ -11,7 +12,7 @@ command_after words = command_of (codes "windplay" ∷ words)
 
 -- the command if no option is given
 abbrev pub defaults : CommandState
-defaults = record { console = codes "console.txt"; ticks = codes "ticks.txt"; modules = codes "."; limit = 1000000; generate = 0; profile = One; board = boards.One }
+defaults = record { console = codes "console.txt"; ticks = codes "ticks.txt"; modules = codes "."; limit = 1000000; source = sources.Files; profile = One; board = boards.One }
 
 -- words that are a command: options in any order, each at most once, with the value as the next word or after `=`
 pub record RightWords : Type 0 where
@@ -26,14 +27,14 @@ pub record RightWords : Type 0 where
   pub dash_after : command_after (codes "--console=-x" ∷ []) ≡ Some (record defaults { console = codes "-x" })
   pub empty_name : command_after (codes "--console=" ∷ []) ≡ Some (record defaults { console = [] })
   pub modules : command_after (codes "--modules" ∷ codes "m" ∷ []) ≡ Some (record defaults { modules = codes "m" })
-  pub greatest_generate : command_after (codes "--generate" ∷ codes "10000" ∷ []) ≡ Some (record defaults { generate = 10000 })
+  pub greatest_generate : command_after (codes "--generate" ∷ codes "10000" ∷ []) ≡ Some (record defaults { source = sources.Generated 10000 })
   pub no_generate : command_after (codes "--generate=00" ∷ []) ≡ Some defaults
   pub first_profile : command_after (codes "--profile" ∷ codes "1" ∷ []) ≡ Some defaults
   pub second_profile : command_after (codes "--profile" ∷ codes "2" ∷ []) ≡ Some (record defaults { profile = Two })
   pub first_board : command_after (codes "--board" ∷ codes "1" ∷ []) ≡ Some defaults
   pub second_board : command_after (codes "--board" ∷ codes "2" ∷ []) ≡ Some (record defaults { board = boards.Two })
   pub all_options : command_after (codes "--ticks=t" ∷ codes "--limit" ∷ codes "7" ∷ codes "--modules" ∷ codes "m" ∷ codes "--generate=1" ∷ codes "--profile=2" ∷ codes "--board=2" ∷ codes "--console" ∷ codes "c" ∷ [])
-      ≡ Some (record { console = codes "c"; ticks = codes "t"; modules = codes "m"; limit = 7; generate = 1; profile = Two; board = boards.Two })
+      ≡ Some (record { console = codes "c"; ticks = codes "t"; modules = codes "m"; limit = 7; source = sources.Generated 1; profile = Two; board = boards.Two })
 
 -- words that are no command
 pub record WrongWords : Type 0 where

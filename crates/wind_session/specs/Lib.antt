@@ -15,11 +15,11 @@ pub mod Runs
 pub mod Status
 pub mod Texts
 pub mod Words
-pub use Rattle.board_player.specs.Seen as BoardSeen
-pub use Rattle.board_player.specs.Said
-pub use Rattle.board_player.specs.declared.board.Board
-pub use Rattle.board_player.specs.MachineState
-pub use Rattle.board_player.specs.Good
-pub use Rattle.board_player.specs.Instants
-pub use Rattle.board_player.specs.Machine
-pub use Rattle.board_player.specs.Run
+pub use Rattle.board_player.specs.Seen as BoardPlayerSeen
+pub use Rattle.board_player.specs.LiveLoadingSaid
+pub use Rattle.board_player.specs.declared.board.Board as BoardPlayerBoard
+pub use Rattle.board_player.specs.WindMachineState
+pub use Rattle.board_player.specs.WindMachineGood
+pub use Rattle.board_player.specs.WindMachineInstants
+pub use Rattle.board_player.specs.WindMachineMachine
+pub use Rattle.board_player.specs.WindMachineRun

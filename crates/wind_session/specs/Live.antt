@@ -3,8 +3,8 @@ use Rattle.std.specs.Prelude.{◌≡◌, ℕ, ◌+◌, ◌<◌, List, [], ◌∷
 use Rattle.tick_file.specs.declared.event.Event.{Event}
 use Rattle.tick_file.specs.Schedule.{timetable_of}
 use Rattle.tick_file.specs.Writing.{recorded, AreRecordable}
-use Rattle.board_player.specs.MachineState.{State}
-use Rattle.board_player.specs.Extending.{Setup, booted, IsFed, bytes_asked, extended, more_of}
+use Rattle.board_player.specs.WindMachineState.{State}
+use Rattle.board_player.specs.WindMachineExtending.{Setup, booted, IsFed, bytes_asked, extended, more_of}
 use Rattle.wind_session.specs.Modules.{Shelf}
 use Rattle.wind_session.specs.Outside.{Outside}
 use Rattle.wind_session.specs.Runs.{Ran}

@@ -2,10 +2,10 @@
 use Rattle.std.specs.Prelude.{◌≡◌, ℕ, ◌<◌, Bool, true, false, List, Option, Some}
 use Rattle.std.specs.Str.{is_utf8}
 use Rattle.wind_outside.specs.Files.{Files}
-use Rattle.board_player.specs.Said.{FileSaid, Missing, said_by}
-use Rattle.board_player.specs.MachineState.{State}
-use Rattle.board_player.specs.Machine.{file_asked}
-use Rattle.board_player.specs.Run.{Answers, after}
+use Rattle.board_player.specs.LiveLoadingSaid.{FileSaid, Missing, said_by}
+use Rattle.board_player.specs.WindMachineState.{State}
+use Rattle.board_player.specs.WindMachineMachine.{file_asked}
+use Rattle.board_player.specs.WindMachineRun.{Answers, after}
 use Rattle.wind_session.specs.Paths.{path_in}
 use Rattle.wind_session.specs.Plan.{IsEntry}
 

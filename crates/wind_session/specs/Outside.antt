@@ -3,7 +3,7 @@ use Rattle.std.specs.Prelude.{ℕ, List, ◌++◌, Option}
 use Rattle.std.specs.Option.{option_map}
 use Rattle.wind_outside.specs.Requests.{Request, Piece}
 use Rattle.wind_session.specs.Command.{CommandState}
-use Rattle.wind_session.specs.Fetches.{inputs_requests}
+use Rattle.wind_session.specs.Fetches.{source_requests}
 
 -- the requests of the folder; the bytes of the sink and the pieces that were put
 pub record Outside : Type 0 where
@@ -15,5 +15,5 @@ abbrev pub outside : Option (List Request) → Option (List ℕ) → Option (Lis
 outside requests bytes pieces = record { requests = requests; bytes = bytes; pieces = pieces }
 
 -- the same when the files of a command were found
-abbrev pub with_inputs : Option CommandState → Outside → Outside
-with_inputs command seen = record seen { requests = option_map (λ xs. xs ++ inputs_requests command) seen.requests }
+abbrev pub with_inputs : CommandState → Outside → Outside
+with_inputs command seen = record seen { requests = option_map (λ xs. xs ++ source_requests command.source command) seen.requests }

@@ -3,8 +3,8 @@ use Rattle.std.specs.Prelude.{ℕ, zero, suc, List, [], ◌∷◌, ◌++◌}
 use Rattle.wind_outside.specs.Requests.{Piece, piece_of}
 use Rattle.wind_outside.specs.declared.sink.Put.{Put}
 use Rattle.wind_outside.specs.declared.sink.Put.TheVariants as puts
-use Rattle.board_player.specs.MachineState.{State}
-use Rattle.board_player.specs.Run.{Answers, after}
+use Rattle.board_player.specs.WindMachineState.{State}
+use Rattle.board_player.specs.WindMachineRun.{Answers, after}
 
 -- the piece of a step's output; an empty output is not put
 abbrev pub output_piece : List ℕ → Put → List Piece

@@ -1,11 +1,13 @@
 -- What a command and its files ask for.
-use Rattle.std.specs.Prelude.{◌≡◌, ℕ, zero, suc, ◌≤◌, List, Option, Some, None, nat_lt, if◌then◌else◌, length}
+use Rattle.std.specs.Prelude.{◌≡◌, ℕ, ◌≤◌, List, Option, Some, None, nat_lt, if◌then◌else◌, length}
 use Rattle.wind_base.specs.Limits.{longest_text_file}
 use Rattle.wind_outside.specs.Files.{Files}
 use Rattle.tick_file.specs.Lines.{first_bad_line}
 use Rattle.tick_file.specs.Schedule.{Timetable, timetable_of}
 use Rattle.wind_session.specs.Command.{CommandState}
 use Rattle.generated_session.specs.Session.{generated_console, generated_ticks}
+use Rattle.wind_session.specs.declared.command.Source.{Source}
+use Rattle.wind_session.specs.declared.command.Source.TheVariants as sources
 use Rattle.wind_session.specs.declared.ending.Status.{Status}
 use Rattle.wind_session.specs.declared.ending.Status.TheVariants as status
 use Rattle.wind_session.specs.declared.ending.Which.{Which}
@@ -56,12 +58,12 @@ pub record IsFilePlan (files : Option Files) (command : CommandState) (plan : Pl
 abbrev pub generated_plan : ℕ → Plan
 generated_plan n = Start (generated_console n) (timetable_of (generated_ticks n))
 
--- with no rounds the two files are played, otherwise the generated session
-abbrev pub IsPlanOf : ℕ → Option Files → CommandState → Plan → Type 0
-IsPlanOf zero files command plan = IsFilePlan files command plan
-IsPlanOf (suc n) files command plan = plan ≡ generated_plan (suc n)
+-- the plan of a command that plays this source
+abbrev pub IsPlanOf : Source → Option Files → CommandState → Plan → Type 0
+IsPlanOf sources.Files files command plan = IsFilePlan files command plan
+IsPlanOf (sources.Generated n) files command plan = plan ≡ generated_plan n
 
 -- invalid arguments are refused before any file
 abbrev pub IsPlan : Option Files → Option CommandState → Plan → Type 0
 IsPlan files None plan = plan ≡ Refuse status.Usage
-IsPlan files (Some command) plan = IsPlanOf command.generate files command plan
+IsPlan files (Some command) plan = IsPlanOf command.source files command plan

@@ -3,9 +3,9 @@ use Rattle.std.specs.Prelude.{◌≡◌, ◌≢◌, ℕ, suc, ◌<◌, List, [],
 use Rattle.wind_outside.specs.Appending.{Appended}
 use Rattle.wind_outside.specs.Requests.{GrowsBy, Request}
 use Rattle.wind_outside.specs.declared.sink.Put.TheVariants as puts
-use Rattle.board_player.specs.MachineState.{State}
-use Rattle.board_player.specs.Machine.{file_asked, IsOver, may_exhaust_memory}
-use Rattle.board_player.specs.Run.{Answers, after, text, IsPart}
+use Rattle.board_player.specs.WindMachineState.{State}
+use Rattle.board_player.specs.WindMachineMachine.{file_asked, IsOver, may_exhaust_memory}
+use Rattle.board_player.specs.WindMachineRun.{Answers, after, text, IsPart}
 use Rattle.wind_session.specs.Modules.{Shelf, AreSaid}
 use Rattle.wind_session.specs.Fetches.{Requests}
 use Rattle.wind_session.specs.Outside.{Outside}

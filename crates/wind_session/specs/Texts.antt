@@ -2,7 +2,9 @@
 use Rattle.std.specs.Prelude.{◌≡◌, ℕ, List, [], ◌++◌, Option, Some, None, ◌⊎◌, codes}
 use Rattle.std.specs.Fmt.{decimal}
 use Rattle.wind_outside.specs.Appending.{Appended}
+use Rattle.wind_outside.specs.Counts.{Rose}
 use Rattle.wind_session.specs.Command.{CommandState}
+use Rattle.wind_session.specs.Keeping.{Messages}
 use Rattle.wind_session.specs.declared.ending.Status.{Status}
 use Rattle.wind_session.specs.declared.ending.Status.TheVariants as status
 use Rattle.wind_session.specs.declared.ending.Which.{Which}
@@ -52,7 +54,7 @@ abbrev pub IsPrinted : Option (List ℕ) → Option (List ℕ) → List ℕ → 
 IsPrinted old new text rose = Appended old new text ⊎ IsCutShort old new text rose
 
 -- the program's text for the status was reported
-pub record Tells (program : List ℕ) (s : Status) (command : Option CommandState) (old new : Option (List ℕ)) (rose : Type 0) : Type 0 where
+pub record Tells (program : List ℕ) (s : Status) (command : Option CommandState) (before after : Messages) : Type 0 where
   pub text : List ℕ
   pub text_is : IsText program command s text
-  pub printed : IsPrinted old new text rose
+  pub printed : IsPrinted before.bytes after.bytes text (Rose before.faults after.faults)

@@ -3,8 +3,7 @@
 ghost use Rattle.std.specs.Prelude.{◌≡◌, ◌≢◌, ◌≤◌, IfOk, IfErr, IfSome, Some, None, true, false, map};
 ghost use Rattle.clap.specs.Words.{app_of, found_of, is_simple_and_free, new_app, rows_of, rule_of};
 ghost use Rattle.wind_base.specs.Limits.{most_steps};
-ghost use Rattle.generated_session.specs.Session.{most_rounds};
-ghost use Rattle.wind_session.specs.Command.{app as app_lem, board_value, command_of as command_of_lem, command_of_rows, machine_value, number_value, option_rule, profile_value, rows_given, value_of as value_of_lem, with_machine_options as with_machine_options_lem, with_session_options as with_session_options_lem};
+ghost use Rattle.wind_session.specs.Command.{app as app_lem, HasFewRounds, board_value, command_of as command_of_lem, command_of_rows, machine_value, number_value, option_rule, profile_value, source_value, rows_given, value_of as value_of_lem, with_machine_options as with_machine_options_lem, with_session_options as with_session_options_lem};
 ghost use Rattle.wind_session.specs.Words.{command_state};
 ghost use Rattle.wind_session.specs.declared.command.CommandErr.TheVariants as errors;
 
@@ -13,6 +12,15 @@ use clap::{Arg, ArgMatches, Error};
 use std::alloc::{AllocError, Global};
 use wind_base::limits::STEPS;
 use wind_base::{BoardKind, Profile, decimal};
+
+/// What a session plays.
+#[derive(Clone, Copy, Debug, PartialEq, Eq)]
+pub enum Source {
+    /// The console file and the tick file.
+    Files,
+    /// A generated session with this many rounds.
+    Generated(u32),
+}
 
 /// What the arguments ask for.
 #[derive(Clone, Copy)]
@@ -25,8 +33,8 @@ pub struct Command<'a> {
     pub modules: &'a str,
     /// The most steps that the run makes.
     pub limit: u64,
-    /// The number of rounds of the generated session, or 0 if the files are read.
-    pub generate: u32,
+    /// What is played.
+    pub source: Source,
     /// The rule of inheritance.
     pub profile: Profile,
     /// The kind of board.
@@ -95,6 +103,17 @@ fn number(text: &str, most: u64) -> Option<u64>
         return None;
     }
     decimal(text.as_bytes(), most)
+}
+
+// What this number of rounds asks for.
+fn session_source(text: &str) -> Option<Source>
+    ensures value { result ≡ source_value text.now }
+    ensures few { IfSome result (λ s. HasFewRounds s) }
+{
+    match number(text, ROUNDS)? {
+        0 => Some(Source::Files),
+        rounds => Some(Source::Generated(rounds as u32)),
+    }
 }
 
 // The rule of inheritance with this number.
@@ -285,19 +304,19 @@ pub fn command_of_matches<'a>(
 ) -> Result<Command<'a>, CommandErr>
     ensures value { IfOk result (λ c. command_of_rows (rows_of (found_of matches.now)) ≡ Some (command_state c)) }
     ensures usage { IfErr result (λ e. e ≢ errors.NoMemory → command_of_rows (rows_of (found_of matches.now)) ≡ None) }
-    ensures within { IfOk result (λ c. (c.limit ≤ most_steps) × (c.generate ≤ most_rounds)) }
+    ensures within { IfOk result (λ c. (c.limit ≤ most_steps) × HasFewRounds c.source) }
 {
     let limit = number_of(matches, "limit", STEPS);
     let limit = valid(alloc, app, limit, BAD_LIMIT)?;
-    let generate = number_of(matches, "generate", ROUNDS);
-    let generate = valid(alloc, app, generate, BAD_ROUNDS)?;
+    let source = session_source(value_of(matches, "generate"));
+    let source = valid(alloc, app, source, BAD_ROUNDS)?;
     let Machine { profile, board } = machine_of(alloc, app, matches)?;
     Ok(Command {
         console: value_of(matches, "console"),
         ticks: value_of(matches, "ticks"),
         modules: value_of(matches, "modules"),
         limit,
-        generate: generate as u32,
+        source,
         profile,
         board,
     })
@@ -308,7 +327,7 @@ pub fn command_of_matches<'a>(
 pub fn command_of<'a>(alloc: Global, words: &'a [&'a str]) -> Result<Command<'a>, CommandErr>
     ensures value { IfOk result (λ c. command_of_lem (map (λ w. w.now) words.now) ≡ Some (command_state c)) }
     ensures usage { IfErr result (λ e. e ≢ errors.NoMemory → command_of_lem (map (λ w. w.now) words.now) ≡ None) }
-    ensures within { IfOk result (λ c. (c.limit ≤ most_steps) × (c.generate ≤ most_rounds)) }
+    ensures within { IfOk result (λ c. (c.limit ≤ most_steps) × HasFewRounds c.source) }
 {
     let mut app = app(alloc)?;
     let matches = matches_of(alloc, &mut app, words)?;

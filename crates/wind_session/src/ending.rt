@@ -4,6 +4,7 @@ ghost use Rattle.std.specs.Prelude.{◌≡◌};
 
 use crate::run::RunEnd;
 use board_player::Board;
+use wind_base::NoMemory;
 use wind_outside::Slots;
 
 /// The files that a session names.
@@ -73,6 +74,16 @@ impl From<RunEnd> for Status {
             RunEnd::WriteFault => Status::WriteFault,
             RunEnd::NoMemory => Status::NoMemory,
         }
+    }
+}
+
+impl From<NoMemory> for Status {
+    ghost use Rattle.wind_session.specs.declared.ending.Status.TheVariants as status;
+
+    ghost from_gives = { λ _ s. s ≡ status.NoMemory };
+
+    fn from(_error: NoMemory) -> Status {
+        Status::NoMemory
     }
 }
 

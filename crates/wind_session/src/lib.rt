@@ -16,7 +16,7 @@ mod run;
 
 pub use board_player::{Board, instant_law};
 pub use command::{
-    Command, CommandErr, Machine, command_line, command_of, command_of_matches, machine_of,
+    Command, CommandErr, Machine, Source, command_line, command_of, command_of_matches, machine_of,
     matches_of, number_of, option, valid, value_of, with_machine_options, with_session_options,
 };
 pub use ending::{Ending, Stand, Status, Which};

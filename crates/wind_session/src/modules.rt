@@ -1,10 +1,10 @@
 //! The steps of a run, with the module files that they need.
 
-ghost use Rattle.std.specs.Prelude.{◌≡◌, ◌+◌, ◌<◌, ◌≤◌, true, Some, IfOk, IfErr, OnOk, OnErr};
+ghost use Rattle.std.specs.Prelude.{◌≡◌, ◌+◌, ◌<◌, true, Some, IfOk, IfErr, OnOk, OnErr};
 ghost use Rattle.wind_base.specs.Limits.{most_steps};
 ghost use Rattle.wind_outside.specs.Counts.{Rose};
-ghost use Rattle.board_player.specs.Said.{FileSaid, said_of};
-ghost use Rattle.board_player.specs.Machine.{file_asked, machine_step};
+ghost use Rattle.board_player.specs.LiveLoadingSaid.{FileSaid, said_of};
+ghost use Rattle.board_player.specs.WindMachineMachine.{file_asked, machine_step};
 ghost use Rattle.board_player.specs.Seen.{seen};
 ghost use Rattle.wind_session.specs.Keeping.{KeepsFolder};
 ghost use Rattle.wind_session.specs.Modules.{IsSaid, IsSaidOf};

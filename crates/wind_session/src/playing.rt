@@ -1,19 +1,20 @@
 //! Plays a session.
 
-ghost use Rattle.std.specs.Prelude.{◌≡◌, ◌≢◌, ℕ, ◌<◌, ◌≤◌, ◌^◌, ◌↔◌, List, [], ◌∷◌, Some, None, OnOk, IfOk, IfErr, map, length, codes};
+ghost use Rattle.std.specs.Prelude.{◌≡◌, ◌≢◌, ℕ, ◌<◌, ◌≤◌, ◌↔◌, List, [], ◌∷◌, Some, None, IfOk, IfErr, map, length, codes};
 ghost use Rattle.wind_base.specs.Limits.{most_slots, most_steps};
 ghost use Rattle.wind_outside.specs.{Counts.Rose, Devices.slots_of, Requests.GrowsBy};
 ghost use Rattle.board_player.specs.Seen.{seen};
 ghost use Rattle.generated_session.specs.Session.{most_rounds, summary_line};
 ghost use Rattle.wind_outside.specs.declared.folder.FetchOutcome.{FetchOutcome};
 ghost use Rattle.wind_outside.specs.declared.folder.FetchOutcome.TheVariants as outcomes;
-ghost use Rattle.wind_session.specs.{Keeping.{KeepsFiles, KeepsFolder}, Command.{command_of as command_of_lem}, Fetches.{LeadsTo, IsAfterFiles, EndsWithFiles, EndsWithRounds, FailsLast, file_requests, rounds_requests, text_request}, Outside.outside, Words.command_state, Plan.{Start, IsFilePlan, IsPlanOf, IsHeld, plan_ticks, generated_plan}, Headline.{Plays, IsRefusal, IsUnread, RefusesFiles, Refuses, IsComplete, IsKept, IsLeft, IsSummed, status_of}, Runs.{is_given_up as is_given_up_lem}, Status.status_number, Texts.Tells};
+ghost use Rattle.wind_session.specs.{Keeping.{KeepsFiles, KeepsFolder, around, messages}, Command.{HasFewRounds, command_of as command_of_lem}, Fetches.{LeadsTo, IsAfterFiles, EndsWithFiles, EndsWithSource, FailsLast, file_requests, source_requests, text_request}, Outside.outside, Words.command_state, Plan.{Start, IsFilePlan, IsPlanOf, IsHeld, plan_ticks, generated_plan}, Headline.{Plays, IsRefusal, IsUnread, RefusesFiles, Refuses, IsComplete, IsKept, IsLeft, IsSummed, status_of}, Runs.{is_given_up as is_given_up_lem}, Status.status_number, Texts.Tells};
 ghost use Rattle.wind_session.specs.declared.run.RunEnd.{RunEnd};
 ghost use Rattle.wind_session.specs.declared.run.RunEnd.TheVariants as ends;
 ghost use Rattle.wind_session.specs.declared.ending.Status.TheVariants as status;
 ghost use Rattle.wind_session.specs.declared.ending.Stand.TheVariants as stands;
+ghost use Rattle.wind_session.specs.declared.command.Source.TheVariants as sources;
 
-use crate::command::{Command, CommandErr, PROGRAM, command_of};
+use crate::command::{Command, CommandErr, PROGRAM, Source, command_of};
 use crate::ending::{Ending, Stand, Status, Which};
 use crate::report::{tell, tell_no_memory, tell_usage};
 use crate::run::{RunEnd, Tally, count_board, run_board};
@@ -21,7 +22,6 @@ use board_player::{Board, instant_law};
 use generated_session::Summary;
 use std::alloc::Global;
 use tick_file::{Schedule, TickErr, read_ticks};
-use wind_base::NoMemory;
 use wind_base::limits::TEXT_FILE_BYTES;
 use wind_outside::{Device, Fetched, Folder, Put, Sink, Slots};
 
@@ -112,9 +112,10 @@ fn files_of<F: Folder>(alloc: Global, command: &Command, folder: &mut F) -> Resu
 }
 
 // The session generated with this many rounds. The only error is that memory runs out.
-fn generated(alloc: Global, rounds: u32) -> Result<Inputs, NoMemory>
+fn generated(alloc: Global, rounds: u32) -> Result<Inputs, Status>
     requires { rounds ≤ most_rounds }
-    ensures { IfOk result (λ inputs. Start inputs.console.items inputs.schedule ≡ generated_plan rounds) }
+    ensures planned { IfOk result (λ inputs. Start inputs.console.items inputs.schedule ≡ generated_plan rounds) }
+    ensures memory { IfErr result (λ s. s ≡ status.NoMemory) }
 {
     let console = generated_session::console_of(alloc, rounds)?;
     let schedule = generated_session::schedule_of(alloc, rounds)?;
@@ -127,26 +128,23 @@ pub fn inputs_of<F: Folder>(
     command: &Command,
     folder: &mut F,
 ) -> Result<Inputs, Status>
-    requires { command.now.generate ≤ most_rounds }
-    ensures start { IfOk result (λ inputs. IsPlanOf command.now.generate (F.files folder.old)
+    requires { HasFewRounds command.now.source }
+    ensures start { IfOk result (λ inputs. IsPlanOf command.now.source (F.files folder.old)
         (command_state command.now) (Start inputs.console.items inputs.schedule)) }
     ensures refused { IfErr result (λ s. Refuses s (F.files folder.old) (command_state command.now)
         (Rose (F.faults folder.old) (F.faults folder.new))) }
     ensures found { IfOk result (λ inputs. GrowsBy (F.requests folder.old) (F.requests folder.new)
-        (rounds_requests command.now.generate (command_state command.now))) }
-    ensures without_run { IfErr result (λ s. EndsWithRounds command.now.generate (command_state command.now) s
+        (source_requests command.now.source (command_state command.now))) }
+    ensures without_run { IfErr result (λ s. EndsWithSource command.now.source (command_state command.now) s
         (F.requests folder.old) (F.requests folder.new)) }
-    ensures unasked { command.now.generate ≢ 0 → F.requests folder.new ≡ F.requests folder.old }
+    ensures unasked { command.now.source ≢ sources.Files → F.requests folder.new ≡ F.requests folder.old }
     ensures known { IfErr result (λ s. s ≢ status.Usage) }
     ensures keeps { KeepsFolder (F.files folder.old) (F.files folder.new) (F.faults folder.old) (F.faults folder.new) }
 {
-    if command.generate == 0 {
-        return files_of(alloc, command, folder);
+    match command.source {
+        Source::Files => files_of(alloc, command, folder),
+        Source::Generated(rounds) => generated(alloc, rounds),
     }
-    let Ok(inputs) = generated(alloc, command.generate) else {
-        return Err(Status::NoMemory);
-    };
-    Ok(inputs)
 }
 
 // Puts the line that sums up the run of a generated session, with the number of the run's status.
@@ -189,8 +187,8 @@ fn played<F: Folder, O: Sink>(
 ) -> Status
     requires fresh { (seen ⟦<dyn Device as Device>⟧ board.old).steps ≡ 0 }
     requires limit { command.now.limit ≤ most_steps }
-    requires rounds { command.now.generate ≤ most_rounds }
-    ensures left { (end : RunEnd) × IsLeft command.now.generate result end
+    requires rounds { HasFewRounds command.now.source }
+    ensures left { (end : RunEnd) × IsLeft command.now.source result end
         (record { files = F.files folder.old; name = command.now.modules.now })
         (seen ⟦<dyn Device as Device>⟧ board.old) command.now.limit (seen ⟦<dyn Device as Device>⟧ board.new)
         (outside (F.requests folder.old) (O.bytes out.old) (O.pieces out.old))
@@ -199,12 +197,16 @@ fn played<F: Folder, O: Sink>(
     ensures fault { result ≡ status.WriteFault → Rose (O.faults out.old) (O.faults out.new) }
     ensures keeps { KeepsFiles ⟦<F as Folder>⟧ ⟦<O as Sink>⟧ folder.old out.old folder.new out.new }
 {
-    if command.generate == 0 {
-        let end = run_board(alloc, board, folder, command.modules, out, command.limit);
-        return Status::from(end);
+    match command.source {
+        Source::Files => {
+            let end = run_board(alloc, board, folder, command.modules, out, command.limit);
+            Status::from(end)
+        }
+        Source::Generated(rounds) => {
+            let tally = count_board(alloc, board, folder, command.modules, command.limit);
+            sum_up(rounds, board, tally, out)
+        }
     }
-    let tally = count_board(alloc, board, folder, command.modules, command.limit);
-    sum_up(command.generate, board, tally, out)
 }
 
 // Plays the session of a command.
@@ -217,14 +219,14 @@ fn session<F: Folder, O: Sink>(
 ) -> Ending
     requires devices { length devices.items ≤ most_slots }
     requires limit { command.now.limit ≤ most_steps }
-    requires rounds { command.now.generate ≤ most_rounds }
+    requires rounds { HasFewRounds command.now.source }
     ensures machine { Plays (seen ⟦<dyn Device as Device>⟧) result (Some (command_state command.now))
-        (F.files folder.old) (Rose (F.faults folder.old) (F.faults folder.new))
         devices (slots_of kind_of words_of devices.items)
-        (outside (F.requests folder.old) (O.bytes out.old) (O.pieces out.old))
-        (outside (F.requests folder.new) (O.bytes out.new) (O.pieces out.new)) }
-    ensures complete { IsComplete result.status (Some (command_state command.now)) (F.files folder.old)
-        (Rose (F.faults folder.old) (F.faults folder.new)) (Rose (O.faults out.old) (O.faults out.new)) }
+        (around ⟦<F as Folder>⟧ ⟦<O as Sink>⟧ folder.old out.old)
+        (around ⟦<F as Folder>⟧ ⟦<O as Sink>⟧ folder.new out.new) }
+    ensures complete { IsComplete result.status (Some (command_state command.now))
+        (around ⟦<F as Folder>⟧ ⟦<O as Sink>⟧ folder.old out.old)
+        (around ⟦<F as Folder>⟧ ⟦<O as Sink>⟧ folder.new out.new) }
     ensures known { result.status ≢ status.Usage }
     ensures fails_last { FailsLast result.status (F.requests folder.old) (F.requests folder.new) }
     ensures kept { IsKept (seen ⟦<dyn Device as Device>⟧) result.stand }
@@ -265,15 +267,15 @@ pub fn play<'a, F: Folder, O: Sink, E: Sink>(
 ) -> Ending
     requires { length devices.items ≤ most_slots }
     ensures machine { Plays (seen ⟦<dyn Device as Device>⟧) result (command_of_lem (map (λ w. w.now) words.now))
-        (F.files folder.old) (Rose (F.faults folder.old) (F.faults folder.new))
         devices (slots_of kind_of words_of devices.items)
-        (outside (F.requests folder.old) (O.bytes out.old) (O.pieces out.old))
-        (outside (F.requests folder.new) (O.bytes out.new) (O.pieces out.new)) }
+        (around ⟦<F as Folder>⟧ ⟦<O as Sink>⟧ folder.old out.old)
+        (around ⟦<F as Folder>⟧ ⟦<O as Sink>⟧ folder.new out.new) }
     ensures usage { result.status ≢ status.NoMemory →
         ((result.status ≡ status.Usage) ↔ (command_of_lem (map (λ w. w.now) words.now)
         ≡ None)) }
-    ensures complete { IsComplete result.status (command_of_lem (map (λ w. w.now) words.now)) (F.files folder.old)
-        (Rose (F.faults folder.old) (F.faults folder.new)) (Rose (O.faults out.old) (O.faults out.new)) }
+    ensures complete { IsComplete result.status (command_of_lem (map (λ w. w.now) words.now))
+        (around ⟦<F as Folder>⟧ ⟦<O as Sink>⟧ folder.old out.old)
+        (around ⟦<F as Folder>⟧ ⟦<O as Sink>⟧ folder.new out.new) }
     ensures fails_last { FailsLast result.status (F.requests folder.old) (F.requests folder.new) }
     ensures kept { IsKept (seen ⟦<dyn Device as Device>⟧) result.stand }
     ensures read_fault { result.status ≡ status.ReadFault → Rose (F.faults folder.old) (F.faults folder.new) }
@@ -281,7 +283,7 @@ pub fn play<'a, F: Folder, O: Sink, E: Sink>(
     ensures keeps { KeepsFiles ⟦<F as Folder>⟧ ⟦<O as Sink>⟧ folder.old out.old folder.new out.new }
     ensures err_faults { E.faults err.old ≤ E.faults err.new }
     ensures err { Tells (codes "windplay") result.status (command_of_lem (map (λ w. w.now) words.now))
-        (E.bytes err.old) (E.bytes err.new) (Rose (E.faults err.old) (E.faults err.new)) }
+        (messages ⟦<E as Sink>⟧ err.old) (messages ⟦<E as Sink>⟧ err.new) }
 {
     let command = match command_of(alloc, words) {
         Ok(command) => command,

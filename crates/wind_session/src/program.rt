@@ -1,10 +1,9 @@
 //! The program: a session on a board with the program's devices.
 
 ghost use Rattle.std.specs.Prelude.{◌≡◌, codes, map};
-ghost use Rattle.wind_outside.specs.Counts.{Rose};
 ghost use Rattle.wind_outside.specs.Devices.{slots_of};
 ghost use Rattle.wind_session.specs.Command.{command_of as command_of_lem};
-ghost use Rattle.wind_session.specs.Outside.{outside};
+ghost use Rattle.wind_session.specs.Keeping.{around, messages};
 ghost use Rattle.wind_session.specs.Program.{Ends, Session, opening_devices};
 ghost use Rattle.wind_session.specs.Texts.{Tells};
 
@@ -26,13 +25,11 @@ fn play_on<F: Folder, O: Sink, E: Sink>(
     devices: Slots,
 ) -> Status
     requires devices { slots_of kind_of words_of devices.items ≡ opening_devices }
-    ensures session { Session result (command_of_lem (map (λ w. w.now) words.now)) (F.files folder.old)
-        (Rose (F.faults folder.old) (F.faults folder.new)) (Rose (O.faults out.old) (O.faults out.new))
-        (outside (F.requests folder.old) (O.bytes out.old) (O.pieces out.old))
-        (outside (F.requests folder.new) (O.bytes out.new) (O.pieces out.new)) }
+    ensures session { Session result (command_of_lem (map (λ w. w.now) words.now))
+        (around ⟦<F as Folder>⟧ ⟦<O as Sink>⟧ folder.old out.old)
+        (around ⟦<F as Folder>⟧ ⟦<O as Sink>⟧ folder.new out.new) }
     ensures tells { Tells (codes "windplay") result (command_of_lem (map (λ w. w.now) words.now))
-        (E.bytes err.old) (E.bytes err.new)
-        (Rose (E.faults err.old) (E.faults err.new)) }
+        (messages ⟦<E as Sink>⟧ err.old) (messages ⟦<E as Sink>⟧ err.new) }
 {
     play(alloc, words, folder, out, err, devices).status
 }
@@ -46,11 +43,10 @@ pub fn play_program<F: Folder, O: Sink, E: Sink>(
     out: &mut O,
     err: &mut E,
 ) -> u8
-    ensures { Ends result (command_of_lem (map (λ w. w.now) words.now)) (F.files folder.old)
-        (Rose (F.faults folder.old) (F.faults folder.new)) (Rose (O.faults out.old) (O.faults out.new))
-        (outside (F.requests folder.old) (O.bytes out.old) (O.pieces out.old))
-        (outside (F.requests folder.new) (O.bytes out.new) (O.pieces out.new))
-        (E.bytes err.old) (E.bytes err.new) (Rose (E.faults err.old) (E.faults err.new)) }
+    ensures { Ends result (command_of_lem (map (λ w. w.now) words.now))
+        (around ⟦<F as Folder>⟧ ⟦<O as Sink>⟧ folder.old out.old)
+        (around ⟦<F as Folder>⟧ ⟦<O as Sink>⟧ folder.new out.new)
+        (messages ⟦<E as Sink>⟧ err.old) (messages ⟦<E as Sink>⟧ err.new) }
 {
     let Ok(devices) = OpeningDevices::new(alloc) else {
         tell_no_memory(PROGRAM, err);

@@ -3,7 +3,7 @@
 ghost use Rattle.std.specs.Prelude.{◌≡◌, ◌≤◌, ℕ, ◌+◌};
 ghost use Rattle.wind_base.specs.Limits.{most_steps};
 ghost use Rattle.wind_outside.specs.Counts.{Rose};
-ghost use Rattle.board_player.specs.{Seen.seen, MachineState.State, Machine.IsOver, Extending.IsRoom};
+ghost use Rattle.board_player.specs.{Seen.seen, WindMachineState.State, WindMachineMachine.IsOver, WindMachineExtending.IsRoom};
 ghost use Rattle.wind_session.specs.{Keeping.KeepsFiles, Outside.{Outside, outside}, Runs.Ran};
 ghost use Rattle.wind_session.specs.declared.run.RunEnd.TheVariants as ends;
 

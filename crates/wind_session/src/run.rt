@@ -1,6 +1,6 @@
 //! The run of a board.
 
-ghost use Rattle.std.specs.Prelude.{◌≡◌, ◌≢◌, ◌^◌, ◌≤◌, []};
+ghost use Rattle.std.specs.Prelude.{◌≡◌, ◌≢◌, ◌≤◌, []};
 ghost use Rattle.wind_base.specs.Limits.{most_steps};
 ghost use Rattle.wind_outside.specs.{Counts.Rose, Appending.{Appended, AppendedPrefix}, Requests.GrowsBy};
 ghost use Rattle.wind_outside.specs.declared.sink.Put.TheVariants as puts;

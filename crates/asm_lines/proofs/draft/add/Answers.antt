@@ -1,4 +1,4 @@
-use Rattle.std.proofs.Common.{◌≡◌, [], ◌∷◌, ◌++◌, true, false, sym, ◌∙◌}
+use Rattle.std.proofs.Common.{[], ◌∷◌, ◌++◌, true, false, sym, ◌∙◌}
 use Rattle.asm_lines.specs.Items.{next}
 use Rattle.asm_lines.specs.Names.{mentions, globals}
 use Rattle.asm_lines.proofs.Judging.{cause_item, cause_twice, cause_size, exceeds_lines, small_draft}

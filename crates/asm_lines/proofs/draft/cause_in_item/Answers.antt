@@ -1,4 +1,4 @@
-use Rattle.std.proofs.Common.{◌≡◌, sym, ◌∙◌}
+use Rattle.std.proofs.Common.{sym, ◌∙◌}
 use Rattle.asm_lines.proofs.Judging.{place_cause, word_cause, no_cause, other_cause, good_word}
 use Rattle.asm_lines.proofs.draft.cause_in_item.Goals as goal
 

@@ -1,8 +1,8 @@
-use Rattle.std.proofs.Common.{◌≡◌, ℕ, ◌+◌, [], ◌∷◌, map, drop, sym, ap, ◌∙◌, refl, subst, arith}
+use Rattle.std.proofs.Common.{◌+◌, [], map, drop, sym, ap, ◌∙◌, refl, subst, arith}
 use Rattle.ppc_text.specs.Lines.{line_of}
 use Rattle.asm_lines.specs.Causes.{judged, items, Tells}
-use Rattle.text_lines.specs.Lines.{pieces}
-use Rattle.text_lines.proofs.Cutting.{cut_at, last_at}
+use Rattle.source_text.specs.Lines.{pieces}
+use Rattle.source_text.proofs.Cutting.{cut_at, last_at}
 use Rattle.asm_lines.proofs.draft.draft_of.Goals as goal
 
 pub loop-len-init : goal.loop-len-init

@@ -1,6 +1,6 @@
-use Rattle.std.proofs.Common.{◌≡◌, ℕ, ◌+◌, ◌≤◌, List, length, map}
+use Rattle.std.proofs.Common.{◌≡◌, ◌+◌, ◌≤◌, List, length, map}
 use Rattle.wind_base.specs.Lines.{line_length}
-use Rattle.text_lines.specs.Lines.{pieces}
+use Rattle.source_text.specs.Lines.{pieces}
 use Rattle.ppc_text.specs.Lines.{line_of}
 use Rattle.asm_lines.specs.Items.{Placed}
 use Rattle.asm_lines.specs.Causes.{judged, items}

@@ -6,7 +6,7 @@ use Rattle.asm_lines.proofs.draft.new_draft.Goals as goal
 pub returns-clause-draft : goal.returns-clause-draft
 unfolding section_at section_bytes fixes labels defined globals mentions
 returns-clause-draft c = record {
-  place = refl;
+  section = refl;
   known = omega arith;
   in_text = record { bytes = c.new-text_part.ensures.bytes; fixes = c.new-text_part.ensures.fixes };
   in_data = record { bytes = c.new-data_part.ensures.bytes; fixes = c.new-data_part.ensures.fixes };

@@ -1,4 +1,4 @@
-use Rattle.std.proofs.Common.{◌≡◌, ℕ, List, [], ◌∷◌, ◌++◌, length, ap, ◌∙◌, refl}
+use Rattle.std.proofs.Common.{ℕ, List, [], ◌∷◌, ◌++◌, length, ap, ◌∙◌, refl}
 use Rattle.asm_lines.specs.declared.section.Fix.{Fix}
 use Rattle.asm_lines.specs.Items.{value_bytes}
 use Rattle.asm_lines.specs.Names.{value_fixes}

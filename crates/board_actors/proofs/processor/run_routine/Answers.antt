@@ -1,5 +1,5 @@
-use Rattle.kernel_world.specs.Seen.{world_seen}
-use Rattle.wind_machine.proofs.CallsReading.{routine_asks_none}
+use Rattle.live_loading.specs.KernelWorldSeen.{world_seen}
+use Rattle.wind_machine.proofs.KernelCallsReading.{routine_asks_none}
 use Rattle.board_actors.proofs.processor.run_routine.Goals as goal
 
 pub at_gate-requires-clause-unasked : goal.at_gate-requires-clause-unasked

@@ -1,5 +1,5 @@
 use Rattle.std.proofs.Common.{rules, ◌≡◌, true, ap}
-use Rattle.kernel_world.specs.declared.actor.Actor.TheVariants.{Interrupt}
+use Rattle.live_loading.specs.KernelWorldActor.TheVariants.{Interrupt}
 use Rattle.wind_machine.specs.State.{State}
 use Rattle.board_player.specs.declared.clock.Clock.{Clock}
 use Rattle.board_player.specs.Inside.{parts_by}

@@ -1,5 +1,5 @@
 use Rattle.std.proofs.Common.{refl, sym, ◌∙◌}
-use Rattle.wind_machine.specs.Said.{Missing}
+use Rattle.wind_machine.specs.LiveLoadingSaid.{Missing}
 use Rattle.board_player.proofs.Settled.{left_by, makes, deliver_left, deliver_makes, come_left, come_makes, arrive_left, arrive_makes, jumps}
 use Rattle.board_player.proofs.Deciding.{delivery_due, event_idle, routine_active}
 use Rattle.board_player.proofs.order.make.Goals as goal

@@ -1,5 +1,5 @@
 use Rattle.std.proofs.Common.{ap, ◌∙◌}
-use Rattle.kernel_world.specs.State.{WorldState}
+use Rattle.live_loading.specs.KernelWorldState.{WorldState}
 use Rattle.board_player.proofs.RoutineBursts.{routine_left}
 use Rattle.board_player.proofs.routine_steps.step_routine.Goals as goal
 

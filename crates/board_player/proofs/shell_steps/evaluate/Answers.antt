@@ -1,6 +1,6 @@
 use Rattle.std.proofs.Common.{[]}
-use Rattle.kernel_world.specs.Seen.{world_with}
-use Rattle.kernel_world.proofs.Boards.{pool_in_ram}
+use Rattle.live_loading.specs.KernelWorldSeen.{world_with}
+use Rattle.live_loading.proofs.KernelWorldBoards.{pool_in_ram}
 use Rattle.board_player.proofs.shell_steps.evaluate.Goals as goal
 
 pub evaluate-requires-clause-pool : goal.evaluate-requires-clause-pool

@@ -1,6 +1,6 @@
 use Rattle.std.proofs.Common.{sym, ap, ◌∙◌}
 use Rattle.wind_base.specs.declared.regs.Regs.{Regs}
-use Rattle.kernel_world.specs.State.{WorldState}
+use Rattle.live_loading.specs.KernelWorldState.{WorldState}
 use Rattle.wind_machine.specs.State.{State}
 use Rattle.board_player.specs.Inside.{parts_by}
 use Rattle.board_player.proofs.Going.{only_stepped}

@@ -1,4 +1,4 @@
-use Rattle.std.proofs.Common.{◌≡◌, [], ◌∷◌, ◌++◌, Some, ap, sym, ◌∙◌, arith}
+use Rattle.std.proofs.Common.{[], ◌∷◌, ◌++◌, Some, ap, sym, ◌∙◌, arith}
 use Rattle.board_reading.proofs.Taking.{all_taken, next_rises, none_taken, one_taken}
 use Rattle.board_reading.proofs.snapshot.take_modules.Goals as goal
 

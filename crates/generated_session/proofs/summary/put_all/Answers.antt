@@ -1,4 +1,4 @@
-use Rattle.std.proofs.Common.{refl, arith, ◌+◌}
+use Rattle.std.proofs.Common.{refl, arith}
 use Rattle.std.proofs.lemmas.List.{take_more}
 use Rattle.generated_session.proofs.Appended.{piece_put, piece_cut}
 use Rattle.generated_session.proofs.summary.put_all.Goals as goal

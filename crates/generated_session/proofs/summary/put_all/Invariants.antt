@@ -1,4 +1,4 @@
-use Rattle.std.proofs.Common.{◌≡◌, ◌≤◌, map, take, Bor, List, ℕ}
+use Rattle.std.proofs.Common.{◌≤◌, map, take, Bor, List, ℕ}
 use Rattle.std.specs.List.{concat}
 use Rattle.wind_outside.specs.Appending.{Appended}
 use Rattle.generated_session.proofs.summary.put_all.Given as goal

@@ -1,7 +1,7 @@
 use Rattle.std.proofs.Common.{ap, ◌∙◌, sym, arith}
 use Rattle.std.proofs.lemmas.Bool.{eqb-false}
 use Rattle.std.proofs.lemmas.List.{get_or_default}
-use Rattle.wind_lists.proofs.Halving.{rank_none}
+use Rattle.id_table.proofs.Halving.{rank_none}
 use Rattle.id_table.specs.declared.entry.Entry.{Entry}
 use Rattle.id_table.specs.Entries.{entry_id}
 use Rattle.id_table.proofs.entry.position_of.Goals as goal

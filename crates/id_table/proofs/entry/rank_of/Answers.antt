@@ -1,6 +1,6 @@
 use Rattle.std.proofs.Common.{rules, ltb}
 use Rattle.std.proofs.lemmas.List.Sorted.{IsPartitionPoint-from_clause, IsPartitionedBy-ltb}
-use Rattle.wind_lists.proofs.Halving.{rising_ids}
+use Rattle.id_table.proofs.Halving.{rising_ids}
 use Rattle.id_table.specs.Entries.{entry_id}
 use Rattle.id_table.proofs.entry.rank_of.Goals as goal
 

@@ -1,7 +1,7 @@
 use Rattle.std.proofs.Common.{List, take, arith}
 use Rattle.std.specs.Prelude.{nat_lt}
 use Rattle.std.proofs.lemmas.List.{length-take-le}
-use Rattle.wind_lists.proofs.Passing.{length-filter}
+use Rattle.id_table.proofs.Passing.{length-filter}
 use Rattle.task_block.specs.declared.task.Task.{Task}
 use Rattle.inheritance.proofs.settling.owners.Goals as goal
 

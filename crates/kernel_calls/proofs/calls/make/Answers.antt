@@ -2,14 +2,14 @@ use Rattle.std.proofs.Common.{◌≡◌, ◌<◌, ◌^◌, true, false, sym, ◌
 use Rattle.wind_base.specs.OutBuf.{Output, KeepsSpace}
 use Rattle.module_loader.specs.Holding.{AreHeld}
 use Rattle.msg_queue.specs.Kept.{IsKept}
-use Rattle.kernel_world.specs.State.{WorldState}
-use Rattle.kernel_world.specs.Actors.{Acts, MayCall}
-use Rattle.kernel_world.specs.Allowed.{may_exhaust_memory}
-use Rattle.kernel_world.specs.Objects.{KeepsObjects}
-use Rattle.kernel_world.specs.Kept.{KeepsWatch, IsEarly}
-use Rattle.kernel_world.proofs.Living.{left_acts}
-use Rattle.kernel_world.proofs.Early.{left_early}
-use Rattle.kernel_world.proofs.Replying.{may_left}
+use Rattle.call_rows.specs.KernelWorldState.{WorldState}
+use Rattle.call_rows.specs.KernelWorldActors.{Acts, MayCall}
+use Rattle.call_rows.specs.KernelWorldAllowed.{may_exhaust_memory}
+use Rattle.call_rows.specs.KernelWorldObjects.{KeepsObjects}
+use Rattle.call_rows.specs.KernelWorldKept.{KeepsWatch, IsEarly}
+use Rattle.call_rows.proofs.KernelWorldLiving.{left_acts}
+use Rattle.call_rows.proofs.KernelWorldEarly.{left_early}
+use Rattle.call_rows.proofs.KernelWorldReplying.{may_left}
 use Rattle.kernel_calls.specs.Calls.{scene_of}
 use Rattle.kernel_calls.specs.Space.{makes_room}
 use Rattle.kernel_calls.proofs.Serving.{left_end, left_objects, left_queues, left_modules, left_watch, by_task}
@@ -44,7 +44,7 @@ row-requires-clause-ready g c = subst (λ (s : WorldState). MayCall s.kern c.arg
 
 pub row-requires-clause-watch : goal.row-requires-clause-watch
 row-requires-clause-watch g c =
-    subst (λ (s : WorldState). KeepsWatch s.kern.next_id s.watch) (sym c.leave_gate-2.ensures.world) (left_watch _ c.args.who.now c.requires.kept c.requires.free c.requires.early)
+    subst (λ (s : WorldState). KeepsWatch s.board s.kern.next_id s.watch) (sym c.leave_gate-2.ensures.world) (left_watch _ c.args.who.now c.requires.kept c.requires.free c.requires.early)
 
 pub stand_again-requires : goal.stand_again-requires
 stand_again-requires g c =

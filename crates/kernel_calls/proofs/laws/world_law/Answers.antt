@@ -1,4 +1,4 @@
-use Rattle.kernel_world.proofs.Opened.{opens}
+use Rattle.call_rows.proofs.KernelWorldOpened.{opens}
 use Rattle.kernel_calls.proofs.Passing.{call_passes}
 use Rattle.kernel_calls.proofs.Departing.{ends}
 use Rattle.kernel_calls.proofs.laws.world_law.Goals as goal

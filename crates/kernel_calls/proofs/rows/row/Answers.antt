@@ -1,6 +1,6 @@
 use Rattle.std.proofs.Common.{refl}
-use Rattle.kernel_world.specs.Seen.{world_seen}
-use Rattle.kernel_world.specs.declared.call.Call.TheVariants.{WdCancel, WdDelete}
+use Rattle.call_rows.specs.KernelWorldSeen.{world_seen}
+use Rattle.call_rows.specs.KernelWorldCall.TheVariants.{WdCancel, WdDelete}
 use Rattle.kernel_calls.proofs.GateRows.{created, named, watched}
 use Rattle.kernel_calls.proofs.rows.row.Goals as goal
 

@@ -1,4 +1,4 @@
-use Rattle.std.proofs.Common.{◌≡◌, [], sym, ap, ◌∙◌}
+use Rattle.std.proofs.Common.{◌≡◌, [], ap, ◌∙◌}
 use Rattle.wind_base.specs.declared.board_kind.BoardRules.{BoardRules}
 use Rattle.mem_partition.specs.State.{PartState, empty_part, alloc_of, after_alloc}
 use Rattle.mem_partition.specs.declared.block.Class.TheVariants.{Kernel}

@@ -1,10 +1,11 @@
 use Rattle.live_loading.specs.Loading.{load_call}
 use Rattle.live_loading.specs.Said.{Missing, TooLong}
-use Rattle.live_loading.proofs.Going.{kept_by, kept_either}
+use Rattle.live_loading.proofs.Going.{kept_by}
+use Rattle.live_loading.proofs.Whole.{kept_so}
 use Rattle.live_loading.proofs.load.kernel_load.Goals as goal
 
 pub returns-in-File-clause-kept : goal.returns-in-File-clause-kept
-returns-in-File-clause-kept g c = kept_either c.load_held.result _ _ c.args.name.now _ c.requires.kept c.requires.ready c.load_held.ensures.ok c.load_held.ensures.err
+returns-in-File-clause-kept g c = kept_so c.load_held.result _ _ c.args.name.now _ c.requires.kept c.requires.ready c.load_held.ensures.ok c.load_held.ensures.err
 
 pub returns-in-NoFile-clause-kept : goal.returns-in-NoFile-clause-kept
 unfolding load_call

@@ -1,4 +1,4 @@
-use Rattle.wind_lists.proofs.Arrivals.{arrivals_sorted}
+use Rattle.linked_lists.proofs.IdTableArrivals.{arrivals_sorted}
 use Rattle.ready_queue.specs.Order.{task_id, task_pri}
 use Rattle.ready_queue.proofs.laws.order_law.Goals as goal
 

@@ -3,7 +3,7 @@ use Rattle.std.specs.Prelude.{map}
 use Rattle.std.proofs.lemmas.Cmp.{nat_list_cmp_total}
 use Rattle.std.proofs.lemmas.List.Sorted.{ranks_by, answers_always}
 use Rattle.text_show.specs.Symbols.{name_before}
-use Rattle.wind_lists.proofs.Sorting.{seen_by, seen_sorted}
+use Rattle.id_table.proofs.Sorting.{seen_by, seen_sorted}
 use Rattle.text_show.proofs.Stable.{stable_sorted}
 use Rattle.text_show.proofs.symbols.sort_by_name.Goals as goal
 

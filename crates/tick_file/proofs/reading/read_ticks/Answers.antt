@@ -1,7 +1,7 @@
 use Rattle.std.proofs.Common.{◌≡◌, not, ap, sym, ◌∙◌, subst}
 use Rattle.std.specs.List.{All, list_all}
 use Rattle.std.specs.declared.cmp.Reverse.{Reverse}
-use Rattle.wind_lists.specs.Sorting.{sorted}
+use Rattle.id_table.specs.Sorting.{sorted}
 use Rattle.tick_file.specs.declared.pending.Pending.{Pending}
 use Rattle.tick_file.specs.Lines.{rules_of}
 use Rattle.tick_file.specs.Schedule.{Timetable, before, brings_bytes, event_of, timetable_of, in_order}

@@ -1,8 +1,8 @@
 use Rattle.std.proofs.Common.{ap, refl}
-use Rattle.wind_session.specs.MachineState.{State}
-use Rattle.wind_session.specs.Machine.{opening}
-use Rattle.wind_outside.specs.Counts.{Rose}
-use Rattle.wind_session.specs.Fetches.{rounds_requests}
+use Rattle.wind_session.specs.WindMachineState.{State}
+use Rattle.wind_session.specs.WindMachineMachine.{opening}
+use Rattle.wind_session.specs.Fetches.{source_requests}
+use Rattle.wind_session.specs.Keeping.{around}
 use Rattle.wind_session.specs.Outside.{outside}
 use Rattle.wind_session.specs.Words.{command_state}
 use Rattle.wind_session.proofs.ProgramLemmas.{unbooted}
@@ -24,7 +24,7 @@ returns-clause-machine g c =
         schedule = _;
         planned = refl;
         left =
-            left_after (rounds_requests session.generate (command_state session)) outside_now (g.F.Folder.requests c.inputs_of.new.folder) c.in-Ok.ensures.found
+            left_after (source_requests session.source (command_state session)) outside_now (g.F.Folder.requests c.inputs_of.new.folder) c.in-Ok.ensures.found
             c.args.command.now.form c.play_board-outcome.result.spans c.play_board-outcome.result.status _ _ session.modules.now _ _ _ _
             (outside (g.F.Folder.requests c.play_board-outcome.new.folder) (g.O.Sink.bytes c.play_board-outcome.new.out) (g.O.Sink.pieces c.play_board-outcome.new.out))
             c.inputs_of.ensures.keeps.0 c.in-Ok-boot.ensures.ok c.play_board-outcome.ensures.left;
@@ -42,19 +42,16 @@ returns-in-Err-boot-clause-machine g c =
 pub returns-in-Err-clause-complete : goal.returns-in-Err-clause-complete
 returns-in-Err-clause-complete g c =
     rw c.refusal.ensures
-    (complete_refused c.in-Err.status (g.F.Folder.files c.args.folder.now) (command_state c.args.command.now.session)
-    (Rose (g.F.Folder.faults c.args.folder.now) (g.F.Folder.faults c.inputs_of.new.folder))
-    (Rose (g.O.Sink.faults c.args.out.now) (g.O.Sink.faults c.args.out.now))
-    c.in-Err.ensures.refused)
+    (complete_refused c.in-Err.status (command_state c.args.command.now.session)
+    (around g.F.Folder g.O.Sink c.args.folder.now c.args.out.now) (around g.F.Folder g.O.Sink c.inputs_of.new.folder c.args.out.now) c.in-Err.ensures.refused)
 
 pub returns-clause-complete : goal.returns-clause-complete
 returns-clause-complete g c =
     complete_left _ _ c.play_board-outcome.result.status _ _ _ _
     (outside (g.F.Folder.requests c.inputs_of.new.folder) (g.O.Sink.bytes c.args.out.now) (g.O.Sink.pieces c.args.out.now))
     (outside (g.F.Folder.requests c.play_board-outcome.new.folder) (g.O.Sink.bytes c.play_board-outcome.new.out) (g.O.Sink.pieces c.play_board-outcome.new.out))
-    (command_state c.args.command.now.session) (g.F.Folder.files c.args.folder.now)
-    (Rose (g.F.Folder.faults c.args.folder.now) (g.F.Folder.faults c.play_board-outcome.new.folder))
-    (Rose (g.O.Sink.faults c.args.out.now) (g.O.Sink.faults c.play_board-outcome.new.out))
+    (command_state c.args.command.now.session)
+    (around g.F.Folder g.O.Sink c.args.folder.now c.args.out.now) (around g.F.Folder g.O.Sink c.play_board-outcome.new.folder c.play_board-outcome.new.out)
     (λ e. rose_earlier _ _ _ c.inputs_of.ensures.keeps.1 c.play_board-outcome.ensures.keeps.0.1 (c.play_board-outcome.ensures.read_fault e))
     c.play_board-outcome.ensures.fault c.play_board-outcome.ensures.left
 

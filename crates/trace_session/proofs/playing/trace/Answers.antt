@@ -1,7 +1,7 @@
 use Rattle.std.proofs.Common.{Bor, List, Option, map, refl, sym, subst, ℕ}
 use Rattle.std.specs.Prelude.{codes}
-use Rattle.wind_outside.specs.Counts.{Rose}
 use Rattle.wind_session.specs.Headline.{IsComplete}
+use Rattle.wind_session.specs.Keeping.{around}
 use Rattle.wind_session.specs.Plan.{Refuse}
 use Rattle.wind_session.specs.declared.ending.Status.TheVariants as status
 use Rattle.wind_session.specs.Texts.{memory_text}
@@ -25,9 +25,8 @@ returns-in-Err-NoMemory-clause-machine g c =
 -- playing is complete if the session of the command is
 pub returns-clause-complete : goal.returns-clause-complete
 returns-clause-complete g c =
-    subst (λ (o : Option TraceState). IsComplete c.session-ending.result.status (session_of o) (g.F.Folder.files c.args.folder.now)
-    (Rose (g.F.Folder.faults c.args.folder.now) (g.F.Folder.faults c.session-ending.new.folder))
-    (Rose (g.O.Sink.faults c.args.out.now) (g.O.Sink.faults c.session-ending.new.out)))
+    subst (λ (o : Option TraceState). IsComplete c.session-ending.result.status (session_of o)
+    (around g.F.Folder g.O.Sink c.args.folder.now c.args.out.now) (around g.F.Folder g.O.Sink c.session-ending.new.folder c.session-ending.new.out))
     (sym c.in-Ok.ensures.value) c.session-ending.ensures.complete
 
 -- ---- the message

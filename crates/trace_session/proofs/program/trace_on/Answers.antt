@@ -18,7 +18,7 @@ returns-clause-session g c =
     record {
       plan = machine.plan;
       planned = machine.planned;
-      leaves = left_on _ _ c.trace.result.stand _ machine.plan _ _ _ _ _ _ _ _ machine.leaves c.trace.ensures.kept c.requires;
+      leaves = left_on _ _ c.trace.result.stand _ machine.plan _ _ _ _ _ _ machine.leaves c.trace.ensures.kept c.requires;
       usage = c.trace.ensures.usage;
       complete = c.trace.ensures.complete;
       read_fault = c.trace.ensures.read_fault;

@@ -1,4 +1,5 @@
 use Rattle.std.specs.Prelude.{codes}
+use Rattle.wind_session.specs.Keeping.{around}
 use Rattle.wind_session.proofs.ProgramLemmas.{out_of_memory}
 use Rattle.trace_session.proofs.ProgramLemmas.{session_unmade}
 use Rattle.trace_session.proofs.program.trace_program.Goals as goal
@@ -6,4 +7,4 @@ use Rattle.trace_session.proofs.program.trace_program.Goals as goal
 -- memory ran out for the devices
 pub returns-in_default : goal.returns-in_default
 returns-in_default g c =
-    out_of_memory (codes "windtrace") _ _ _ _ _ _ c.number.ensures (session_unmade _ _ _ _ _) c.tell_no_memory.ensures.printed
+    out_of_memory (codes "windtrace") _ _ _ _ _ c.number.ensures (session_unmade _ (around g.F.Folder g.O.Sink c.args.folder.now c.args.out.now)) c.tell_no_memory.ensures.printed

@@ -1,5 +1,5 @@
 use Rattle.std.proofs.Common.{◌≡◌, ℕ, Bool, true, false, List, Option, ap, ◌∙◌, sym, cond, Some, None}
-use Rattle.linked_lists.specs.Place.{Place}
+use Rattle.linked_lists.specs.IdTablePlace.{Place}
 use Rattle.wait_order.specs.declared.waits.Waiter.{Waiter}
 use Rattle.wait_order.specs.Line.{stands_at, waiter_of}
 use Rattle.wait_order.specs.Inside.{waiters_in, next_there, if_there}

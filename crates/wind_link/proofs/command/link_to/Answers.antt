@@ -1,4 +1,4 @@
-use Rattle.std.proofs.Common.{◌≡◌, List, Ok, refl, sym, ap, ◌∙◌, subst}
+use Rattle.std.proofs.Common.{List, Ok, refl, sym, ap, ◌∙◌, subst}
 use Rattle.wind_outside.specs.Counts.{Rose}
 use Rattle.wind_link.specs.Command.{Links}
 use Rattle.wind_link.specs.declared.linking.Placed.{Placed}

@@ -1,4 +1,4 @@
-use Rattle.std.proofs.Common.{◌≡◌, ℕ, List, length, sym, ap, ◌∙◌, subst}
+use Rattle.std.proofs.Common.{ℕ, List, length, sym, ap, ◌∙◌, subst}
 use Rattle.module_image.specs.Image.{image_by}
 use Rattle.module_image.specs.Layout.{values}
 use Rattle.module_image.specs.declared.segments.Places.{Places}

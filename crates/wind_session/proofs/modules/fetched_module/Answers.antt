@@ -1,7 +1,7 @@
 use Rattle.std.proofs.Common.{◌∙◌, ◌∷◌, [], Some, true, sym, ap, subst}
 use Rattle.std.specs.Str.{IsUtf8}
 use Rattle.wind_outside.specs.declared.folder.FetchOutcome.TheVariants as outcomes
-use Rattle.board_player.specs.Said.{Held, TooLong, Missing}
+use Rattle.board_player.specs.LiveLoadingSaid.{Held, TooLong, Missing}
 use Rattle.wind_session.specs.Modules.{IsSaidBy}
 use Rattle.wind_session.specs.Paths.{path_in}
 use Rattle.wind_outside.specs.Requests.{GrowsBy}

@@ -1,5 +1,5 @@
 use Rattle.std.proofs.Common.{◌≡◌, ◌∙◌, Some, None, refl, sym, subst}
-use Rattle.board_player.specs.Said.{Missing}
+use Rattle.board_player.specs.LiveLoadingSaid.{Missing}
 use Rattle.wind_outside.specs.declared.folder.FetchOutcome.TheVariants as outcomes
 use Rattle.wind_outside.specs.Requests.{GrowsBy}
 use Rattle.wind_session.specs.Fetches.{step_request}

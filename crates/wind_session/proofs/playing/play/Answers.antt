@@ -1,7 +1,7 @@
 use Rattle.std.proofs.Common.{Bor, List, Option, map, refl, sym, subst, ℕ, codes}
-use Rattle.wind_outside.specs.Counts.{Rose}
 use Rattle.wind_session.specs.Command.{CommandState, command_of}
 use Rattle.wind_session.specs.Headline.{IsComplete}
+use Rattle.wind_session.specs.Keeping.{around}
 use Rattle.wind_session.specs.Plan.{Refuse}
 use Rattle.wind_session.specs.Texts.{memory_text}
 use Rattle.wind_session.specs.declared.ending.Status.TheVariants as status
@@ -29,9 +29,8 @@ returns-in-Err-NoMemory-clause-err g c =
 -- playing is complete if the session of the command is
 pub returns-clause-complete : goal.returns-clause-complete
 returns-clause-complete g c =
-    subst (λ (o : Option CommandState). IsComplete c.session-ending.result.status o (g.F.Folder.files c.args.folder.now)
-    (Rose (g.F.Folder.faults c.args.folder.now) (g.F.Folder.faults c.session-ending.new.folder))
-    (Rose (g.O.Sink.faults c.args.out.now) (g.O.Sink.faults c.session-ending.new.out)))
+    subst (λ (o : Option CommandState). IsComplete c.session-ending.result.status o
+    (around g.F.Folder g.O.Sink c.args.folder.now c.args.out.now) (around g.F.Folder g.O.Sink c.session-ending.new.folder c.session-ending.new.out))
     (sym c.in-Ok.ensures.value) c.session-ending.ensures.complete
 
 -- nothing was fetched
@@ -40,3 +39,11 @@ returns-in-Err-Usage-clause-fails_last g c = rw c.refused.ensures (unfetched sta
 
 pub returns-in-Err-NoMemory-clause-fails_last : goal.returns-in-Err-NoMemory-clause-fails_last
 returns-in-Err-NoMemory-clause-fails_last g c = rw c.refused-in-Err-NoMemory.ensures (unfetched status.NoMemory _ _ (λ e. cc) refl)
+
+-- ---- the message
+pub returns-in-Err-Usage-clause-err : goal.returns-in-Err-Usage-clause-err
+returns-in-Err-Usage-clause-err g c =
+    rw c.refused.ensures (rw (c.in-Err-Usage.ensures.usage (λ e. cc)) (record { text = _; text_is = tt; printed = c.tell_usage.ensures.printed }))
+
+pub returns-clause-err : goal.returns-clause-err
+returns-clause-err g c = rw c.in-Ok.ensures.value (record { text = _; text_is = refl; printed = c.tell.ensures.printed })

@@ -1,14 +1,14 @@
 use Rattle.std.proofs.Common.{ap, refl}
-use Rattle.board_player.specs.MachineState.{State}
-use Rattle.board_player.specs.Machine.{opening}
-use Rattle.wind_outside.specs.Counts.{Rose}
-use Rattle.wind_session.specs.Fetches.{rounds_requests}
+use Rattle.board_player.specs.WindMachineState.{State}
+use Rattle.board_player.specs.WindMachineMachine.{opening}
+use Rattle.wind_session.specs.Fetches.{source_requests}
+use Rattle.wind_session.specs.Keeping.{around}
 use Rattle.wind_session.specs.Outside.{outside}
 use Rattle.wind_session.specs.Words.{command_state}
 use Rattle.wind_session.specs.declared.ending.Status.TheVariants as status
-use Rattle.wind_session.proofs.FetchLemmas.{rounds_found}
+use Rattle.wind_session.proofs.FetchLemmas.{source_found}
 use Rattle.wind_session.proofs.ProgramLemmas.{unbooted}
-use Rattle.wind_session.proofs.FailureLemmas.{fails_after, left_fails, rounds_fail}
+use Rattle.wind_session.proofs.FailureLemmas.{fails_after, left_fails, source_fails}
 use Rattle.wind_session.proofs.InputLemmas.{left_after}
 use Rattle.wind_session.proofs.PlanLemmas.{complete_refused}
 use Rattle.wind_session.proofs.playing.session.Goals as goal
@@ -16,7 +16,7 @@ use Rattle.wind_session.proofs.playing.session.Goals as goal
 -- the run that was played followed the fetches of the command's files
 pub returns-clause-machine : goal.returns-clause-machine
 returns-clause-machine g c =
-    let n = c.args.command.now.generate in
+    let source = c.args.command.now.source in
     let outside_now = outside (g.F.Folder.requests c.args.folder.now) (g.O.Sink.bytes c.args.out.now) (g.O.Sink.pieces c.args.out.now) in
     let left = c.played-status.ensures.left in
     record {
@@ -28,7 +28,7 @@ returns-clause-machine g c =
         schedule = _;
         planned = refl;
         left =
-            left_after (rounds_requests n (command_state c.args.command.now)) outside_now (g.F.Folder.requests c.inputs_of.new.folder) c.in-Ok.ensures.found n c.played-status.result left.0 _ _ c.args.command.now.modules.now _ _ _ _ _
+            left_after (source_requests source (command_state c.args.command.now)) outside_now (g.F.Folder.requests c.inputs_of.new.folder) c.in-Ok.ensures.found source c.played-status.result left.0 _ _ c.args.command.now.modules.now _ _ _ _ _
             c.inputs_of.ensures.keeps.0 c.in-Ok-boot.ensures.ok left.1;
       };
     }
@@ -44,10 +44,8 @@ returns-in-Err-boot-clause-machine g c =
 pub returns-in-Err-clause-complete : goal.returns-in-Err-clause-complete
 returns-in-Err-clause-complete g c =
     rw c.refused.ensures
-    (complete_refused c.in-Err.status (g.F.Folder.files c.args.folder.now) (command_state c.args.command.now)
-    (Rose (g.F.Folder.faults c.args.folder.now) (g.F.Folder.faults c.inputs_of.new.folder))
-    (Rose (g.O.Sink.faults c.args.out.now) (g.O.Sink.faults c.args.out.now))
-    c.in-Err.ensures.refused)
+    (complete_refused c.in-Err.status (command_state c.args.command.now)
+    (around g.F.Folder g.O.Sink c.args.folder.now c.args.out.now) (around g.F.Folder g.O.Sink c.inputs_of.new.folder c.args.out.now) c.in-Err.ensures.refused)
 
 -- a machine that booted has made no step
 pub played-status-requires-clause-fresh : goal.played-status-requires-clause-fresh
@@ -61,17 +59,17 @@ returns-clause-kept g c = (c.facts.ensures, c.instant_law.ensures _ c.facts.ensu
 -- ---- only the last fetch may have failed
 pub returns-in-Err-clause-fails_last : goal.returns-in-Err-clause-fails_last
 returns-in-Err-clause-fails_last g c =
-    rw c.refused.ensures (rounds_fail (command_state c.args.command.now) c.in-Err.status _ _ c.args.command.now.generate c.in-Err.ensures.without_run)
+    rw c.refused.ensures (source_fails (command_state c.args.command.now) c.in-Err.status _ _ c.args.command.now.source c.in-Err.ensures.without_run)
 
 pub returns-clause-fails_last : goal.returns-clause-fails_last
 returns-clause-fails_last g c =
     let left = c.played-status.ensures.left in
-    fails_after c.played-status.result c.args.command.now.generate (command_state c.args.command.now) _ _ _ c.in-Ok.ensures.found
-    (left_fails c.args.command.now.generate c.played-status.result left.0 _ _ _ _ _ _ left.1)
+    fails_after c.played-status.result c.args.command.now.source (command_state c.args.command.now) _ _ _ c.in-Ok.ensures.found
+    (left_fails c.args.command.now.source c.played-status.result left.0 _ _ _ _ _ _ left.1)
 
 -- memory ran out for the board
 pub returns-in-Err-boot-clause-fails_last : goal.returns-in-Err-boot-clause-fails_last
 returns-in-Err-boot-clause-fails_last g c =
     rw c.refused-in-Err-boot.ensures
-    (rounds_fail (command_state c.args.command.now) status.NoMemory _ _ c.args.command.now.generate
-    (rounds_found c.args.command.now.generate (command_state c.args.command.now) _ _ c.in-Ok.ensures.found c.inputs_of.ensures.unasked))
+    (source_fails (command_state c.args.command.now) status.NoMemory _ _ c.args.command.now.source
+    (source_found c.args.command.now.source (command_state c.args.command.now) _ _ c.in-Ok.ensures.found c.inputs_of.ensures.unasked))

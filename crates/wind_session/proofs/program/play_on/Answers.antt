@@ -18,7 +18,7 @@ returns-clause-session g c =
     record {
       plan = machine.plan;
       planned = machine.planned;
-      leaves = left_on _ _ c.play.result.stand machine.plan _ _ _ _ _ _ _ _ machine.leaves c.play.ensures.kept c.requires.devices;
+      leaves = left_on _ _ c.play.result.stand machine.plan _ _ _ _ _ _ machine.leaves c.play.ensures.kept c.requires.devices;
       usage = c.play.ensures.usage;
       complete = c.play.ensures.complete;
       fails_last = c.play.ensures.fails_last;

@@ -1,6 +1,6 @@
 use Rattle.std.proofs.Common.{◌+◌, ◌∙◌, ◌≤◌, subst, sym, arith, refl, ap}
-use Rattle.board_player.specs.MachineState.{State}
-use Rattle.board_player.specs.Extending.{IsRoom}
+use Rattle.board_player.specs.WindMachineState.{State}
+use Rattle.board_player.specs.WindMachineExtending.{IsRoom}
 use Rattle.wind_session.proofs.KeepingLemmas.{files_both, files_same}
 use Rattle.wind_session.proofs.Continuing.{resumed, burst_counted, burst_room, burst_on, step_on, cut_on, halted_on, limit_on}
 use Rattle.wind_session.proofs.RunLemmas.{halts_quiet}

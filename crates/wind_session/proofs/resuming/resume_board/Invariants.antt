@@ -1,7 +1,7 @@
 use Rattle.std.proofs.Common.{◌≡◌, ℕ, ◌+◌, ◌-◌, ◌≤◌}
 use Rattle.board_player.specs.Seen.{board_by}
-use Rattle.board_player.specs.MachineState.{State}
-use Rattle.board_player.specs.Extending.{IsRoom}
+use Rattle.board_player.specs.WindMachineState.{State}
+use Rattle.board_player.specs.WindMachineExtending.{IsRoom}
 use Rattle.wind_session.specs.Keeping.{KeepsFiles}
 use Rattle.wind_session.specs.Modules.{Shelf}
 use Rattle.wind_session.specs.Outside.{Outside, outside}

@@ -1,5 +1,5 @@
 use Rattle.std.proofs.Common.{◌≡◌, ◌-◌, ◌≤◌, ◌*◌, ◌^◌, length}
-use Rattle.board_player.specs.Run.{Answers, text}
+use Rattle.board_player.specs.WindMachineRun.{Answers, text}
 use Rattle.board_player.specs.Seen.{board_by}
 use Rattle.wind_session.specs.Keeping.{KeepsFolder}
 use Rattle.wind_session.proofs.RunLemmas.{After}

@@ -1,4 +1,4 @@
-use Rattle.std.proofs.Common.{◌≡◌, ℕ, [], ◌∷◌, ◌++◌, refl}
+use Rattle.std.proofs.Common.{[], ◌∷◌, ◌++◌, refl}
 use Rattle.asm_lines.proofs.Steps.{names_labelled}
 use Rattle.asm_lines.proofs.names.Names.define.Goals as goal
 

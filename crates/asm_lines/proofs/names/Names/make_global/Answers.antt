@@ -1,4 +1,4 @@
-use Rattle.std.proofs.Common.{◌≡◌, ℕ, [], ◌∷◌, ◌++◌, refl}
+use Rattle.std.proofs.Common.{[], ◌∷◌, ◌++◌, refl}
 use Rattle.asm_lines.proofs.Steps.{names_global}
 use Rattle.asm_lines.proofs.names.Names.make_global.Goals as goal
 

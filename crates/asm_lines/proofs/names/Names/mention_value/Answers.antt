@@ -1,4 +1,4 @@
-use Rattle.std.proofs.Common.{◌≡◌, ℕ, ◌++◌, sym, subst}
+use Rattle.std.proofs.Common.{◌++◌, sym, subst}
 use Rattle.asm_lines.specs.Names.{value_names}
 use Rattle.asm_lines.specs.Drafts.{AreNames}
 use Rattle.asm_lines.proofs.names.Names.mention_value.Goals as goal

@@ -1,4 +1,4 @@
-use Rattle.wind_machine.specs.Said.{Missing}
+use Rattle.wind_machine.specs.LiveLoadingSaid.{Missing}
 use Rattle.board_player.proofs.Answering.{steps_on}
 use Rattle.board_player.proofs.Keeping.{kept}
 use Rattle.board_player.proofs.Settled.{leaves}

@@ -19,6 +19,6 @@ invariant_of-self c =
 pub returns-clause-state : goal.returns-clause-state
 returns-clause-state c =
     let k = c.self.inside in
-    ap (λ w. watch_state (with_object k.watchdogs.rows c.in-Some.at w) k.level k.listed.items k.next_start) c.stop.ensures
-    ∙ cancelled_is k.watchdogs.rows k.level k.listed.items k.next_start c.in-Some.at c.args.id c.object_mut.result.now c.self.invariant.0.own c.object_mut.ensures.value c.in-Some.ensures.0 c.facts.ensures.rising
+    ap (λ w. watch_state (with_object k.watchdogs.rows c.in-Some.at w) k.level k.listed.items k.next_start k.link) c.stop.ensures
+    ∙ cancelled_is k.watchdogs.rows k.level k.listed.items k.next_start k.link c.in-Some.at c.args.id c.object_mut.result.now c.self.invariant.0.own c.object_mut.ensures.value c.in-Some.ensures.0 c.facts.ensures.rising
     ∙ ap (λ s. cancel s c.args.id) c.self.view_is

@@ -19,6 +19,6 @@ returns-clause-state c =
     let k = c.self.inside in
     let at = c.in-Some.at in
     let v = lives_in k.watchdogs.rows at c.self.invariant.0.own (subst (λ (s : WatchState). IsSome (watchdog_of s.watchdogs at)) (sym c.self.view_is) c.in-Some.ensures.1) in
-    ap (λ (t : Rows Watchdog). watch_state t.rows k.level k.listed.items k.next_start) c.remove.ensures.rows
-    ∙ deleted_is k.watchdogs.rows k.level k.listed.items k.next_start at c.args.id v.0 c.self.invariant.0.own v.1 c.in-Some.ensures.0
+    ap (λ (t : Rows Watchdog). watch_state t.rows k.level k.listed.items k.next_start k.link) c.remove.ensures.rows
+    ∙ deleted_is k.watchdogs.rows k.level k.listed.items k.next_start k.link at c.args.id v.0 c.self.invariant.0.own v.1 c.in-Some.ensures.0
     ∙ ap (λ s. delete s c.args.id) c.self.view_is

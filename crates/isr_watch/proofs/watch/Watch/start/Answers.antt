@@ -17,6 +17,6 @@ invariant_of-self c =
 pub returns-clause-state : goal.returns-clause-state
 returns-clause-state c =
     let k = c.self.inside in
-    started_is k.watchdogs.rows k.level k.listed.items k.next_start c.in-Some.at c.args.id c.object_mut.result.now c.self.invariant.0.own c.object_mut.ensures.value c.in-Some.ensures.0 c.args.tick c.args.delay c.args.routine
+    started_is k.watchdogs.rows k.level k.listed.items k.next_start k.link c.in-Some.at c.args.id c.object_mut.result.now c.self.invariant.0.own c.object_mut.ensures.value c.in-Some.ensures.0 c.args.tick c.args.delay c.args.routine
     c.begin.new.watchdog c.facts.ensures.rising c.begin.ensures
     ∙ ap (λ s. start s c.args.id c.args.tick c.args.delay c.args.routine) c.self.view_is

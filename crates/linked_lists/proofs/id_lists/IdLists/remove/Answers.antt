@@ -3,7 +3,7 @@ use Rattle.linked_lists.specs.Chains.{cell_key, value_of, all_cells, without_cel
 use Rattle.id_table.specs.Entries.{entry_id}
 use Rattle.linked_lists.specs.Named.{IsIndexed, named, named_chains}
 use Rattle.id_table.specs.Records.{without}
-use Rattle.id_table.proofs.WindListsPlaces.{remove_place}
+use Rattle.id_table.proofs.Places.{remove_place}
 use Rattle.std.proofs.lemmas.Option.{same_Some}
 use Rattle.linked_lists.proofs.Naming.{no_value, chains_same, node_there, entry_found, entry_value, cells_alike, indexed_removed, chains_without, named_alike}
 use Rattle.linked_lists.proofs.id_lists.IdLists.remove.Goals as goal

@@ -2,7 +2,7 @@ use Rattle.std.proofs.Common.{◌≡◌, ℕ, ◌≤◌, List, [], ◌∷◌, le
 use Rattle.std.specs.List.{All}
 use Rattle.std.proofs.lemmas.List.{length-take}
 use Rattle.std.proofs.lemmas.List.Elements.{All-head}
-use Rattle.wind_lists.specs.Sorting.{first}
+use Rattle.id_table.specs.Sorting.{first}
 use Rattle.msg_queue.specs.State.{lies_in}
 use Rattle.msg_queue.proofs.Arms.{lies_less}
 use Rattle.msg_queue.proofs.queues.Queues.copy_front.Goals as goal

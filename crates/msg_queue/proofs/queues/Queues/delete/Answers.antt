@@ -2,9 +2,8 @@ use Rattle.std.proofs.Common.{ap, ◌∙◌, sym, subst, arith, Some, IsSome}
 use Rattle.wind_base.specs.declared.errno.Errno.TheVariants as errors
 use Rattle.id_table.specs.Rows.{Rows, object_of}
 use Rattle.wind_core.specs.State.{KernState}
-use Rattle.msg_queue.specs.State.{QueueState, QueuesState, receivers}
+use Rattle.msg_queue.specs.State.{QueueState, QueuesState, receivers, scene}
 use Rattle.msg_queue.specs.Kept.{IsKept}
-use Rattle.msg_queue.specs.State.{scene}
 use Rattle.msg_queue.specs.Comings.{delete}
 use Rattle.msg_queue.specs.Machine.{deletes}
 use Rattle.msg_queue.specs.contracts.queues.Queues.{the_view}

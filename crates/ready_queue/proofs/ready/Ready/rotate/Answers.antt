@@ -1,6 +1,6 @@
 use Rattle.std.proofs.Common.{ap, ◌∙◌, sym, subst, is_some, map, set, arith, None, ◌<◌}
 use Rattle.linked_lists.specs.Chains.{cell_key, chain_at, value_of, put_before, with_cell}
-use Rattle.wind_lists.specs.Records.{without}
+use Rattle.linked_lists.specs.IdTableRecords.{without}
 use Rattle.std.proofs.lemmas.List.{length-map}
 use Rattle.ready_queue.specs.Order.{pri_of, put_in, taken_out, rotated, moved_back}
 use Rattle.ready_queue.specs.Inside.{tasks_from, IsMapped}

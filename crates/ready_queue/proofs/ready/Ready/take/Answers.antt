@@ -1,6 +1,6 @@
 use Rattle.std.proofs.Common.{ap, ◌∙◌, sym, subst, is_some, map, cond}
 use Rattle.linked_lists.specs.Chains.{cell_key, chain_at}
-use Rattle.wind_lists.specs.Records.{without}
+use Rattle.linked_lists.specs.IdTableRecords.{without}
 use Rattle.ready_queue.specs.Order.{pri_of, taken_out, without_task}
 use Rattle.ready_queue.specs.Inside.{tasks_from, filled, IsMapped}
 use Rattle.ready_queue.proofs.Rotation.{no_pri, none_taken, order_alike, found_told, mapped_without, filled_first, tasks_without}

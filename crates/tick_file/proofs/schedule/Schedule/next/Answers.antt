@@ -1,6 +1,6 @@
 use Rattle.std.proofs.Common.{rules, ap, sym, ◌∙◌}
 use Rattle.std.specs.Option.{option_map}
-use Rattle.wind_lists.specs.Sorting.{first}
+use Rattle.id_table.specs.Sorting.{first}
 use Rattle.tick_file.specs.Schedule.{at, Timetable}
 use Rattle.tick_file.proofs.Heaps.{top_first}
 use Rattle.tick_file.proofs.schedule.Schedule.next.Goals as goal

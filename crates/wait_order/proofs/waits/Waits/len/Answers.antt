@@ -1,5 +1,5 @@
 use Rattle.std.proofs.Common.{ap, ◌∙◌, sym, ltb, length}
-use Rattle.wind_lists.proofs.Sorting.{length-sorted}
+use Rattle.linked_lists.proofs.IdTableSorting.{length-sorted}
 use Rattle.wait_order.specs.declared.waits.Waiter.{Waiter}
 use Rattle.wait_order.specs.Inside.{waiters_in}
 use Rattle.wait_order.proofs.Standing.{own_length}

@@ -1,7 +1,7 @@
 use Rattle.std.proofs.Common.{◌≡◌, ◌<◌, ap, ◌∙◌, sym, subst, arith, length, ltb}
-use Rattle.wind_lists.specs.Sorting.{sorted}
-use Rattle.wind_lists.specs.Records.{with_record}
-use Rattle.wind_lists.proofs.Sorting.{length-sorted}
+use Rattle.linked_lists.specs.IdTableSorting.{sorted}
+use Rattle.linked_lists.specs.IdTableRecords.{with_record}
+use Rattle.linked_lists.proofs.IdTableSorting.{length-sorted}
 use Rattle.wait_order.specs.declared.waits.Waiter.{Waiter}
 use Rattle.wait_order.specs.Line.{Line, waiter_id, waiter_of, with_waiter}
 use Rattle.wait_order.specs.Fronts.{first_from}

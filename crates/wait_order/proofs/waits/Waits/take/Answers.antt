@@ -1,9 +1,9 @@
 use Rattle.std.proofs.Common.{◌≡◌, ◌≤◌, ◌<◌, ap, ◌∙◌, sym, subst, arith, is_some, length, vec_capacity}
-use Rattle.wind_lists.specs.Records.{without}
-use Rattle.wind_lists.proofs.Places.{none_without}
+use Rattle.linked_lists.specs.IdTableRecords.{without}
+use Rattle.linked_lists.proofs.IdTablePlaces.{none_without}
 use Rattle.wait_order.specs.Line.{Line, waiter_id, waiter_of, without_waiter}
 use Rattle.wait_order.specs.Inside.{waiters_in, by_id, IsOwn, IsKept, IsGone, precedes}
-use Rattle.wind_lists.specs.Sorting.{sorted}
+use Rattle.linked_lists.specs.IdTableSorting.{sorted}
 use Rattle.wait_order.proofs.LineOrder.{line_alike}
 use Rattle.wait_order.proofs.Standing.{own_one, own_value, by_id_fewer, there_by_id, absent_by_id}
 use Rattle.wait_order.proofs.Changing.{goes, none_goes}

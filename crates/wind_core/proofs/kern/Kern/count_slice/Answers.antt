@@ -1,6 +1,6 @@
 use Rattle.std.proofs.Common.{ap, ◌∙◌, sym, subst, cond}
 use Rattle.std.proofs.lemmas.Bool.{ne_eqb}
-use Rattle.wind_lists.specs.Records.{Rising}
+use Rattle.id_table.specs.Records.{Rising}
 use Rattle.wind_core.specs.State.{task_id}
 use Rattle.wind_core.specs.Orders.{running}
 use Rattle.wind_core.specs.Tick.{count_slice_of}

@@ -1,6 +1,6 @@
 use Rattle.std.proofs.Common.{sym, ap, ◌∙◌, subst}
 use Rattle.std.specs.Option.{option_map}
-use Rattle.wind_lists.specs.Records.{Rising}
+use Rattle.id_table.specs.Records.{Rising}
 use Rattle.wind_core.specs.State.{task_id}
 use Rattle.wind_core.specs.Orders.{first_due}
 use Rattle.wind_core.specs.Tick.{late_of}

@@ -1,5 +1,5 @@
 use Rattle.std.proofs.Common.{sym, ◌∙◌, subst}
-use Rattle.wind_lists.specs.Records.{Rising}
+use Rattle.id_table.specs.Records.{Rising}
 use Rattle.wind_core.specs.State.{task_id}
 use Rattle.wind_core.specs.Orders.{most_urgent}
 use Rattle.wind_core.proofs.Ticks.{urgent_kept, urgent_read, none_named}

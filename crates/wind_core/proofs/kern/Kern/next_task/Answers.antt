@@ -1,7 +1,6 @@
 use Rattle.std.proofs.Common.{ap, ◌∙◌}
-use Rattle.wind_core.specs.State.{task_above}
+use Rattle.wind_core.specs.State.{task_above, task_id}
 use Rattle.id_table.proofs.Owning.{above-objects}
-use Rattle.wind_core.specs.State.{task_id}
 use Rattle.wind_core.proofs.kern.Kern.next_task.Goals as goal
 
 pub returns : goal.returns

@@ -1,8 +1,7 @@
 use Rattle.std.proofs.Common.{ap, ◌∙◌}
-use Rattle.wind_core.specs.State.{task_of}
+use Rattle.wind_core.specs.State.{task_of, task_id}
 use Rattle.wind_core.specs.Moves.{remove}
 use Rattle.id_table.proofs.Owning.{object-record}
-use Rattle.wind_core.specs.State.{task_id}
 use Rattle.wind_core.proofs.Comings.{removed_is, removed_keeps}
 use Rattle.wind_core.proofs.kern.Kern.remove.Goals as goal
 

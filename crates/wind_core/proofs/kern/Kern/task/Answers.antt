@@ -1,7 +1,6 @@
 use Rattle.std.proofs.Common.{ap, ◌∙◌}
-use Rattle.wind_core.specs.State.{task_of}
+use Rattle.wind_core.specs.State.{task_of, task_id}
 use Rattle.id_table.proofs.Owning.{object-record}
-use Rattle.wind_core.specs.State.{task_id}
 use Rattle.wind_core.proofs.kern.Kern.task.Goals as goal
 
 pub returns : goal.returns

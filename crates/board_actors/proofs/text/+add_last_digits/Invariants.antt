@@ -1,4 +1,0 @@
-use Rattle.board_actors.proofs.text.+add_last_digits.Given as goal
-
-abbrev pub decreases-add_last_digits : goal.decreases-add_last_digits
-decreases-add_last_digits l = l.places

@@ -1,0 +1,216 @@
+//! The spans of a run.
+
+ghost use Rattle.std.specs.Prelude.{◌≡◌, ◌++◌, [], OnOk, map, option_copied};
+ghost use Rattle.board_changes.specs.Spans.{all_ended, all_ends, closed, ended, ends, goes_on as goes_on_lem, observed, going_after as going_after_lem, going_of as going_of_lem, view_of as view_of_lem};
+
+use crate::TaskView;
+use crate::look::{Look, is_same, look_of};
+use id_table::Ident;
+use std::alloc::Global;
+use std::marker::Model;
+use std::mem;
+use wind_base::NoMemory;
+
+/// A span that goes on. Times are board times.
+#[derive(Clone, Copy, Debug, PartialEq, Eq)]
+pub struct Open {
+    /// The task.
+    pub who: Ident,
+    /// What it does.
+    pub look: Look,
+    /// Since when.
+    pub from: u128,
+}
+
+/// A span that has ended.
+#[derive(Clone, Copy, Debug, PartialEq, Eq)]
+pub struct Span {
+    /// The task.
+    pub who: Ident,
+    /// What it did.
+    pub look: Look,
+    /// From when.
+    pub from: u128,
+    /// Until when; it is after `from`.
+    pub to: u128,
+}
+
+/// The spans of a run: those that go on, and those that have ended.
+#[derive(Drop)]
+pub struct Spans {
+    going: Vec<Open>,
+    next: Vec<Open>,
+    done: Vec<Span>,
+}
+
+impl Model for Spans {
+    ghost use Rattle.board_changes.specs.Spans.{SpanState};
+
+    ghost Value = { SpanState };
+
+    ghost view = { λ s. record { going = s.going.items; done = s.done.items } };
+}
+
+// A moment of the run: board time, the live tasks, and the task that runs, if one does.
+#[derive(Clone, Copy)]
+struct Moment<'a> {
+    time: u128,
+    views: &'a [TaskView],
+    runner: Option<Ident>,
+}
+
+// The span of this task that goes on.
+fn going_of(going: &[Open], who: Ident) -> Option<&Open>
+    ensures { option_copied result ≡ going_of_lem going.now who }
+{
+    going.iter().find(|span| span.who == who)
+}
+
+// The view of this task.
+fn view_of(views: &[TaskView], who: Ident) -> Option<&TaskView>
+    ensures { option_copied result ≡ view_of_lem views.now who }
+{
+    views.iter().find(|view| view.id == who)
+}
+
+// The span of a task goes on if its look is the same as before; else a new one begins.
+fn goes_on(going: Option<&Open>, who: Ident, time: u128, look: &Look) -> Open
+    ensures { result ≡ goes_on_lem (option_copied going.entry) who time look.now }
+{
+    match going {
+        Some(span) if is_same(span.look, *look) => *span,
+        _ => Open {
+            who,
+            look: *look,
+            from: time,
+        },
+    }
+}
+
+// The span of a task after a moment.
+fn going_after(going: &[Open], moment: &Moment, view: &TaskView) -> Open
+    ensures { result ≡ going_after_lem going.now moment.now.time moment.now.runner view.now }
+{
+    let look = look_of(moment.runner, view);
+    goes_on(going_of(going, view.id), view.id, moment.time, &look)
+}
+
+// Collects the spans of the tasks after a moment.
+fn collect_going(next: &mut Vec<Open>, going: &[Open], moment: &Moment) -> Result<(), NoMemory>
+    requires { next.old.items ≡ [] }
+    ensures { OnOk result (next.new.items
+        ≡ map (going_after_lem going.now moment.now.time moment.now.runner) moment.now.views.now) }
+{
+    for view in moment.views {
+        if next.push(going_after(going, moment, view)).is_err() {
+            return Err(NoMemory);
+        }
+    }
+    Ok(())
+}
+
+// Adds a span that has ended, unless it is one of no time.
+fn add_ended(done: &mut Vec<Span>, span: &Open, time: u128) -> Result<(), NoMemory>
+    ensures { OnOk result (done.new.items ≡ done.old.items ++ ended span.now time) }
+{
+    if span.from >= time {
+        return Ok(());
+    }
+    let span = Span {
+        who: span.who,
+        look: span.look,
+        from: span.from,
+        to: time,
+    };
+    if done.push(span).is_err() {
+        return Err(NoMemory);
+    }
+    Ok(())
+}
+
+// Adds the span, if it ends at this moment.
+fn add_end(
+    done: &mut Vec<Span>,
+    view: Option<&TaskView>,
+    moment: &Moment,
+    span: &Open,
+) -> Result<(), NoMemory>
+    ensures { OnOk result (done.new.items
+        ≡ done.old.items ++ ends (option_copied view.entry) moment.now.runner moment.now.time span.now) }
+{
+    match view {
+        Some(view) if is_same(span.look, look_of(moment.runner, view)) => Ok(()),
+        _ => add_ended(done, span, moment.time),
+    }
+}
+
+// Adds the spans that end at a moment.
+fn add_ends(done: &mut Vec<Span>, moment: &Moment, going: &[Open]) -> Result<(), NoMemory>
+    ensures { OnOk result (done.new.items
+        ≡ done.old.items ++ all_ends moment.now.views.now moment.now.runner moment.now.time going.now) }
+{
+    for span in going {
+        add_end(done, view_of(moment.views, span.who), moment, span)?;
+    }
+    Ok(())
+}
+
+// Ends every span.
+fn add_all_ended(done: &mut Vec<Span>, time: u128, going: &[Open]) -> Result<(), NoMemory>
+    ensures { OnOk result (done.new.items ≡ done.old.items ++ all_ended time going.now) }
+{
+    for span in going {
+        add_ended(done, span, time)?;
+    }
+    Ok(())
+}
+
+impl Spans {
+    /// No spans.
+    pub fn new(alloc: Global) -> Spans
+        ensures { result ≡ record { going = []; done = [] } }
+    {
+        Spans {
+            going: Vec::new(alloc),
+            next: Vec::new(alloc),
+            done: Vec::new(alloc),
+        }
+    }
+
+    /// A moment of the run: board time, the live tasks, and the task that runs, if one does.
+    pub fn observe(
+        &mut self,
+        time: u128,
+        views: &[TaskView],
+        runner: Option<Ident>,
+    ) -> Result<(), NoMemory>
+        ensures { OnOk result (self.new ≡ observed self.old time views.now runner) }
+    {
+        let moment = Moment {
+            time,
+            views,
+            runner,
+        };
+        self.next.clear();
+        collect_going(&mut self.next, &self.going, &moment)?;
+        add_ends(&mut self.done, &moment, &self.going)?;
+        mem::swap(&mut self.going, &mut self.next);
+        Ok(())
+    }
+
+    /// The run has ended at this time, and so do all spans.
+    pub fn close(&mut self, time: u128) -> Result<(), NoMemory>
+        ensures { OnOk result (self.new ≡ closed self.old time) }
+    {
+        add_all_ended(&mut self.done, time, &self.going)?;
+        self.going.clear();
+        Ok(())
+    }
+
+    /// The spans that have ended, in the order in which they ended.
+    pub fn done(&self) -> &[Span]
+        ensures { result.now ≡ self.now.done }
+    {
+        &self.done
+    }
+}

@@ -1,4 +1,0 @@
-pub mod SemRows
-pub mod QueueRows
-pub mod WatchRows
-pub mod IrqRows

@@ -1,7 +1,0 @@
-use Rattle.std.proofs.Common.{◌≡◌, ◌++◌, drop}
-use Rattle.task_spans.specs.Spans.{all_ended}
-use Rattle.task_spans.proofs.spans.add_all_ended.Given as goal
-
-abbrev pub invariant-loop-span : goal.invariant-loop-span
-invariant-loop-span l =
-    l.done.items ++ all_ended l.time (drop l.span-index l.going) ≡ l.initial.done.items ++ all_ended l.time l.going

@@ -1,7 +1,0 @@
-use Rattle.std.proofs.Common.{◌≡◌, ◌++◌, drop, map}
-use Rattle.task_spans.specs.Spans.{going_after}
-use Rattle.task_spans.proofs.spans.collect_going.Given as goal
-
-abbrev pub invariant-loop-view : goal.invariant-loop-view
-invariant-loop-view l =
-    l.next.items ++ map (going_after l.going l.moment.time l.moment.runner) (drop l.view-index l.moment.views.now) ≡ map (going_after l.going l.moment.time l.moment.runner) l.moment.views.now

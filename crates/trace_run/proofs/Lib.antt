@@ -1,8 +1,0 @@
-pub mod Bursts
-pub mod Counts
-pub mod LineLaws
-pub mod Lines
-pub mod Puts
-pub mod Seeing
-pub mod SilentLines
-pub mod Telling

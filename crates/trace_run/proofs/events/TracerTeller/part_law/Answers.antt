@@ -1,5 +1,0 @@
-use Rattle.trace_run.proofs.Telling.{part_held}
-use Rattle.trace_run.proofs.events.TracerTeller.part_law.Goals as goal
-
-pub returns : goal.returns
-returns c = λ first now said next s i same holds. part_held first now _ said next s i same holds

@@ -1,5 +1,0 @@
-use Rattle.trace_run.proofs.SilentLines.{silent_lines}
-use Rattle.trace_run.proofs.laws.silent_lines_law.Goals as goal
-
-pub returns : goal.returns
-returns c = silent_lines c.joining_law.ensures c.silent_law.ensures

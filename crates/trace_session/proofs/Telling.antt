@@ -1,0 +1,181 @@
+-- A run that is told, under way.
+use Rattle.std.proofs.Common.{◌≡◌, ◌≢◌, ℕ, zero, suc, ◌+◌, ◌<◌, ◌≤◌, List, [], ◌++◌, Option, None, Some, Result, Ok, Err, inr, refl, sym, ap, ap₂, subst, ◌∙◌, arith, add-one}
+use Rattle.std.specs.Prelude.{IfOk, OnOk}
+use Rattle.wind_outside.specs.Appending.{AppendedPrefix}
+use Rattle.wind_outside.specs.Requests.{Request}
+use Rattle.wind_session.specs.LiveLoadingSaid.{FileSaid}
+use Rattle.wind_machine.specs.State.{State}
+use Rattle.wind_machine.specs.Machine.{machine_step}
+use Rattle.wind_machine.specs.Run.{Answers, after}
+use Rattle.wind_machine.specs.Silent.{SilentLaw, SilentSteps}
+use Rattle.wind_session.proofs.AppendingLemmas.{appended_none}
+use Rattle.wind_session.specs.Modules.{Shelf}
+use Rattle.wind_session.specs.Runs.{IsHalt, Made}
+use Rattle.wind_session.specs.declared.run.RunEnd.{RunEnd}
+use Rattle.wind_session.specs.declared.run.RunEnd.TheVariants as ends
+use Rattle.wind_session.proofs.Continuing.{burst_counted}
+use Rattle.wind_session.proofs.RunLemmas.{After, at_halt, closed}
+use Rattle.wind_session.proofs.Saying.{Agree, as_before, same_after, saying, state_now}
+use Rattle.board_trace.specs.Before.{before_step}
+use Rattle.board_trace.specs.Runs.{Line, lines_of, step_lines, with_lines}
+use Rattle.board_trace.specs.Snapshots.{snapshot_of}
+use Rattle.board_trace.specs.Views.{SnapshotState}
+use Rattle.trace_text.specs.Lines.{lines_text}
+use Rattle.trace_text.specs.Pages.{Ends, PageState, count_in}
+use Rattle.trace_session.specs.Spans.{looked_at, spans_after}
+use Rattle.trace_session.specs.Telling.{GoesOn, IsTold, IsToldInPart, TellsOr}
+use Rattle.trace_session.specs.Traced.{HoldsLines, HoldsPart, HoldsSteps, IsPutOf, TellsEvents, TellsPart, Traced, last_line_of}
+use Rattle.trace_session.proofs.Puts.{prefix_more, prefix_put}
+
+-- ---- the same is said at the first steps
+shorter : (a b : Answers) (k : ℕ) → Agree a b (suc k) → Agree a b k
+shorter a b k same j below = same j (omega (arith, below))
+
+pub same_lines : (a b : Answers) (s : State) (k : ℕ) → Agree a b k → lines_of a s k ≡ lines_of b s k
+same_lines a b s zero same = refl
+same_lines a b s (suc k) same =
+    ap₂ (λ (u v : State). with_lines (step_lines u v) (lines_of a s k)) (same_after a b s k (shorter a b k same)) (same_after a b s (suc k) same)
+    ∙ ap (with_lines (step_lines (after b s k) (after b s (suc k)))) (same_lines a b s k (shorter a b k same))
+
+same_spans : (a b : Answers) (s : State) (k : ℕ) → Agree a b k → spans_after a s k ≡ spans_after b s k
+same_spans a b s zero same = refl
+same_spans a b s (suc k) same =
+    ap₂ (λ (u v : State). looked_at (before_step u) (spans_after a s k) v) (same_after a b s k (shorter a b k same)) (same_after a b s (suc k) same)
+    ∙ ap (λ spans. looked_at (before_step (after b s k)) spans (after b s (suc k))) (same_spans a b s k (shorter a b k same))
+
+-- ---- one step more
+-- after i steps another one was made, given what was said of its file
+pub goes_on : (shelf : Shelf) (said : Answers) (s u t : State) (i : ℕ) (x : FileSaid) → u ≡ after said s i → machine_step x u ≡ Some t → GoesOn said (saying said i x) s u t i
+goes_on shelf said s u t i x here step = record {
+  same = as_before said i x;
+  from = here;
+  to = state_now shelf said s u t i x here step ∙ ap (after (saying said i x) s) (sym (add-one i));
+}
+
+module _ (said next : Answers) (s u t : State) (i : ℕ) (on : GoesOn said next s u t i) where
+  start : u ≡ after next s i
+  start = on.from ∙ same_after said next s i on.same
+
+  stop : t ≡ after next s (suc i)
+  stop = on.to ∙ ap (after next s) (add-one i)
+
+  pub lines_now : with_lines (step_lines u t) (lines_of said s i) ≡ lines_of next s (i + 1)
+  lines_now =
+      ap₂ (λ (a b : State). with_lines (step_lines a b) (lines_of said s i)) start stop
+      ∙ ap (with_lines (step_lines (after next s i) (after next s (suc i)))) (same_lines said next s i on.same)
+      ∙ ap (lines_of next s) (sym (add-one i))
+
+  pub spans_now : looked_at (before_step u) (spans_after said s i) t ≡ spans_after next s (i + 1)
+  spans_now =
+      ap₂ (λ (a b : State). looked_at (before_step a) (spans_after said s i) b) start stop
+      ∙ ap (λ spans. looked_at (before_step (after next s i)) spans (after next s (suc i))) (same_spans said next s i on.same)
+      ∙ ap (spans_after next s) (sym (add-one i))
+
+-- ---- the run may stop after any step
+pub stopped : (shelf : Shelf) (said : Answers) (s u : State) (n i : ℕ) (old mid : Option (List Request)) → After shelf said s n i u old mid → Made ends.WriteFault shelf said s n i u old mid
+stopped shelf said s u n i old mid run = closed shelf said s u n i old mid run ends.WriteFault tt refl
+
+-- the run was given up after k steps, and what is told of its first i is left
+pub given_up : (Part : Option (List ℕ) → Option (List ℕ) → Answers → State → ℕ → Type 0) (first now : Option (List ℕ)) (shelf : Shelf) (said : Answers) (s t : State) (n i k : ℕ) (old last : Option (List Request))
+    → Part first now said s i → i ≤ k → After shelf said s n k t old last → Traced (IsToldInPart (Part first now) s) shelf s n t old last
+given_up Part first now shelf said s t n i k old last part h run = record {
+  said = said;
+  k = k;
+  end = ends.WriteFault;
+  made = stopped shelf said s t n k old last run;
+  tells = (i, h, part);
+}
+
+-- it ended, and its steps were told
+pub told_end : (Tells Lost : Answers → State → ℕ → Type 0) (end : RunEnd) (shelf : Shelf) (said : Answers) (s t : State) (n k : ℕ) (old last : Option (List Request)) → Made end shelf said s n k t old last
+    → TellsOr Tells Lost end said s k → Traced (IsTold Tells Lost end s) shelf s n t old last
+told_end Tells Lost end shelf said s t n k old last made tells = record { said = said; k = k; end = end; made = made; tells = (refl, tells) }
+
+-- no further step was made
+pub told_halt : (Tells Lost : Answers → State → ℕ → Type 0) (end : RunEnd) (shelf : Shelf) (said : Answers) (s t u : State) (n k : ℕ) (old last : Option (List Request)) → IsHalt end u → Made end shelf said s n k t old last
+    → Tells said s k → Traced (IsTold Tells Lost end s) shelf s n t old last
+told_halt Tells Lost end shelf said s t u n k old last halt made tells =
+    told_end Tells Lost end shelf said s t n k old last made (at_halt (λ e. TellsOr Tells Lost e said s k) u end halt tells tells tells)
+
+-- ---- by how the run ended
+module _ (Tells Lost : Answers → State → ℕ → Type 0) (said : Answers) (s : State) (k : ℕ) where
+  pub tells_unless : (end : RunEnd) → end ≢ ends.WriteFault → TellsOr Tells Lost end said s k → Tells said s k
+  tells_unless ends.WriteFault other holds = absurd (other refl)
+  tells_unless ends.Quiet other holds = holds
+  tells_unless ends.Limit other holds = holds
+  tells_unless ends.ReadFault other holds = holds
+  tells_unless ends.NoMemory other holds = holds
+
+  pub lost_if : (end : RunEnd) → end ≡ ends.WriteFault → TellsOr Tells Lost end said s k → Lost said s k
+  lost_if end e holds = subst (λ x. TellsOr Tells Lost x said s k) e holds
+
+-- ---- lines
+-- before the first step
+pub no_lines : (first : Option (List ℕ)) (page : PageState) → page ≡ record { text = []; growing = None } → HoldsLines first first page []
+no_lines first page empty = record { given = []; gained = appended_none first; ends = subst (λ (p : PageState). Ends [] p []) (sym empty) (refl, refl) }
+
+pub none_waits : (page : PageState) (n : ℕ) → page ≡ record { text = []; growing = None } → count_in page.growing ≤ n
+none_waits page n empty = let none : count_in page.growing ≡ 0 = ap (λ (p : PageState). count_in p.growing) empty in omega (arith, none)
+
+-- what the sink gained of them, whatever is said of the files later
+pub part_held : (first now : Option (List ℕ)) (page : PageState) (said next : Answers) (s : State) (i : ℕ) → ((j : ℕ) → j < i → said j ≡ next j) → HoldsSteps first now page said s i → HoldsPart first now next s i
+part_held first now page said next s i same holds =
+    subst (λ lines. AppendedPrefix first now (lines_text lines)) (same_lines said next s i same) (prefix_put first now page (lines_of said s i) holds)
+
+-- a step more was told
+pub held_on : (first now : Option (List ℕ)) (page later : PageState) (said next : Answers) (s u t : State) (i : ℕ) → GoesOn said next s u t i
+    → ((given : List ℕ) (lines : List Line) → Ends given page lines → Ends given later (with_lines (step_lines u t) lines)) → HoldsSteps first now page said s i → HoldsSteps first now later next s (i + 1)
+held_on first now page later said next s u t i on lines holds = record {
+  given = holds.given;
+  gained = holds.gained;
+  ends = subst (Ends holds.given later) (lines_now said next s u t i on) (lines holds.given (lines_of said s i) holds.ends);
+}
+
+-- after instructions that were made at once, the next step can be told
+pub ready_on : {E : Type 0} (r : Result ℕ E) (u t : State) (waited waits : ℕ) (snapshot : SnapshotState) → SilentLaw → waited ≤ u.steps
+    → IfOk r (λ k. SilentSteps k u t) → IfOk r (λ k. waits ≤ waited + k) → OnOk r (snapshot ≡ snapshot_of t.world) → OnOk r ((snapshot ≡ snapshot_of t.world) × (waits ≤ t.steps))
+ready_on (Err e) u t waited waits snapshot law few steps more same = tt
+ready_on (Ok k) u t waited waits snapshot law few steps more same = (same, omega (arith, few, more, burst_counted law u t k steps))
+
+-- ---- the last line
+module _ (shelf : Shelf) (s board : State) (n : ℕ) (old mid : Option (List Request)) (first now : Option (List ℕ)) (page : PageState) (end : RunEnd)
+    (ran : Traced (IsTold (HoldsSteps first now page) (HoldsPart first now) end s) shelf s n board old mid) where
+  abbrev lines : List Line
+  lines = lines_of ran.said s ran.k
+
+  -- a put failed before it
+  pub lost_before : end ≡ ends.WriteFault → Traced (TellsEvents end s first now) shelf s n board old mid
+  lost_before e = record {
+    said = ran.said;
+    k = ran.k;
+    end = ran.end;
+    made = ran.made;
+    tells = inr (e, prefix_more first now (lines_text lines) (last_line_of ran.end (after ran.said s ran.k)) (lost_if (HoldsSteps first now page) (HoldsPart first now) ran.said s ran.k ran.end (sym ran.tells.0 ∙ e) ran.tells.1));
+  }
+
+  module _ (other : end ≢ ends.WriteFault) where
+    held : HoldsLines first now page lines
+    held = tells_unless (HoldsSteps first now page) (HoldsPart first now) ran.said s ran.k ran.end (λ e. other (ran.tells.0 ∙ e)) ran.tells.1
+
+    -- it was put, or that put failed
+    pub last_told : (new : Option (List ℕ)) (result : RunEnd) → ((ls : List Line) → HoldsLines first now page ls → IsPutOf (lines_text ls ++ last_line_of end board) result end first new)
+        → Traced (TellsEvents result s first new) shelf s n board old mid
+    last_told new result puts = record {
+      said = ran.said;
+      k = ran.k;
+      end = ran.end;
+      made = ran.made;
+      tells =
+          subst (λ (v : State). IsPutOf (lines_text lines ++ last_line_of ran.end v) result ran.end first new) ran.made.state
+          (subst (λ e. IsPutOf (lines_text lines ++ last_line_of e board) result e first new) ran.tells.0 (puts lines held));
+    }
+
+    -- memory ran out for it
+    pub last_given_up : (new : Option (List ℕ)) → new ≡ now → Traced (TellsPart s first new) shelf s n board old mid
+    last_given_up new same = record {
+      said = ran.said;
+      k = ran.k;
+      end = ran.end;
+      made = ran.made;
+      tells = (ran.k, omega arith, subst (λ bytes. AppendedPrefix first bytes (lines_text lines)) (sym same) (prefix_put first now page lines held));
+    }

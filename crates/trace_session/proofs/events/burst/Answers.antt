@@ -1,0 +1,34 @@
+use Rattle.std.proofs.Common.{◌<◌, ◌+◌, ◌∙◌, ap, sym, arith}
+use Rattle.wind_machine.specs.State.{State}
+use Rattle.wind_machine.specs.Silent.{last_actor}
+use Rattle.wind_session.specs.BoardPlayerSeen.{board_by}
+use Rattle.board_trace.specs.Snapshots.{snapshot_of}
+use Rattle.trace_session.proofs.Bursts.{lines_burst, none_made, same_ends, same_state}
+use Rattle.trace_session.proofs.events.burst.Goals as goal
+
+-- nobody made a step before, so no instruction was made
+pub returns-in_default-clause-lines : goal.returns-in_default-clause-lines
+returns-in_default-clause-lines g c =
+    let state = board_by (λ d. (goal.Device-dyn g (d.vtable, d.value)).kind_of d.value) (λ d. (goal.Device-dyn g (d.vtable, d.value)).words_of d.value) in
+    let old = state c.args.board.now in
+    let new = state c.burst-count.new.self in
+    let none = none_made c.burst-count.result old new (ap last_actor (sym c.world.ensures) ∙ sym c.last_actor-who.ensures ∙ c.in_default.is) c.burst-count.ensures.made in
+    λ said s i given here ends. same_ends c.burst-count.result old new none c.burst-count.ensures.made _ said s i given ends
+
+pub returns-in_default-clause-before : goal.returns-in_default-clause-before
+returns-in_default-clause-before g c =
+    let state = board_by (λ d. (goal.Device-dyn g (d.vtable, d.value)).kind_of d.value) (λ d. (goal.Device-dyn g (d.vtable, d.value)).words_of d.value) in
+    let old = state c.args.board.now in
+    let new = state c.burst-count.new.self in
+    let none = none_made c.burst-count.result old new (ap last_actor (sym c.world.ensures) ∙ sym c.last_actor-who.ensures ∙ c.in_default.is) c.burst-count.ensures.made in
+    c.requires.before ∙ ap (λ (v : State). snapshot_of v.world) (sym (same_state c.burst-count.result old new none c.burst-count.ensures.made))
+
+-- they were told
+pub returns-clause-lines : goal.returns-clause-lines
+returns-clause-lines g c =
+    let state = board_by (λ d. (goal.Device-dyn g (d.vtable, d.value)).kind_of d.value) (λ d. (goal.Device-dyn g (d.vtable, d.value)).words_of d.value) in
+    let old = state c.args.board.now in
+    let new = state c.burst-count.new.self in
+    let some : 0 < c.burst-count.result = omega arith in
+    lines_burst c.silent_lines_law.ensures c.burst-count.result old new _ _ _ _ _ _ some (ap last_actor (sym c.world.ensures) ∙ sym c.last_actor-who.ensures ∙ c.in-Some.is) c.burst-count.ensures.made
+    c.time-time.ensures (ap (λ n. n + 1) c.steps.ensures) c.requires.before c.in_ok-tell_instructions.ensures.lines

@@ -1,0 +1,43 @@
+use Rattle.std.proofs.Common.{arith}
+use Rattle.std.proofs.lemmas.Result.{err_from_is_err_and}
+use Rattle.wind_session.proofs.AppendingLemmas.{appended_none, rose_earlier}
+use Rattle.wind_session.proofs.RunLemmas.{begun}
+use Rattle.trace_session.specs.Traced.{HoldsPart}
+use Rattle.trace_session.proofs.Seeing.{not_lost, untold}
+use Rattle.trace_session.proofs.Telling.{given_up, last_given_up, last_told, lost_before, no_lines, none_waits}
+use Rattle.trace_session.proofs.forms.trace_board.Goals as goal
+
+-- ---- lines
+-- no step was made
+pub returns-in_err-tracer-in-Events-clause-given_up : goal.returns-in_err-tracer-in-Events-clause-given_up
+returns-in_err-tracer-in-Events-clause-given_up g c =
+    let p = err_from_is_err_and c.from_residual.result c.from_residual.ensures.1 in
+    rw (p.1, c.in-Events.is) (given_up HoldsPart _ _ _ _ _ _ c.args.limit 0 0 _ _ (0, appended_none _) (omega arith) (begun _ _ c.args.limit _ c.requires.fresh))
+
+pub tell_run-requires-clause-tells : goal.tell_run-requires-clause-tells
+tell_run-requires-clause-tells g c = λ said. no_lines _ _ c.in_ok-tracer-in-Events.ensures.page
+
+pub tell_run-requires-clause-ready : goal.tell_run-requires-clause-ready
+tell_run-requires-clause-ready g c = (c.in_ok-tracer-in-Events.ensures.before, none_waits _ _ c.in_ok-tracer-in-Events.ensures.page)
+
+-- a put failed before the last line
+pub returns-in-WriteFault-clause-told : goal.returns-in-WriteFault-clause-told
+returns-in-WriteFault-clause-told g c = rw c.in-Events.is (lost_before _ _ _ _ _ _ _ _ _ _ c.in_ok-end-in-Events.ensures.told c.in-WriteFault.is)
+
+-- the last line was put, or memory ran out for it
+pub returns-in-Events-clause-told : goal.returns-in-Events-clause-told
+returns-in-Events-clause-told g c = rw c.in-Events.is (last_told _ _ _ _ _ _ _ _ _ _ c.in_ok-end-in-Events.ensures.told c.in_default.not-WriteFault _ _ (c.in_ok-last-in_default.ensures.told _))
+
+pub returns-in_err-last-in_default-clause-given_up : goal.returns-in_err-last-in_default-clause-given_up
+returns-in_err-last-in_default-clause-given_up g c =
+    let p = err_from_is_err_and c.from_residual-in_err-last-in_default.result c.from_residual-in_err-last-in_default.ensures.1 in
+    rw (p.1, c.in-Events.is) (last_given_up _ _ _ _ _ _ _ _ _ _ c.in_ok-end-in-Events.ensures.told c.in_default.not-WriteFault _ c.in_err-last-in_default.ensures.given_up)
+
+-- ---- a picture
+pub returns-in_err-observer-in-Timeline-clause-given_up : goal.returns-in_err-observer-in-Timeline-clause-given_up
+returns-in_err-observer-in-Timeline-clause-given_up g c =
+    let p = err_from_is_err_and c.from_residual-in_err-observer-in-Timeline.result c.from_residual-in_err-observer-in-Timeline.ensures.1 in
+    rw (p.1, c.in-Timeline.is) (untold _ _ _ _ _ _ _ _ (begun _ _ c.args.limit _ c.requires.fresh))
+
+pub returns-in-Timeline-clause-fault : goal.returns-in-Timeline-clause-fault
+returns-in-Timeline-clause-fault g c = λ e. rose_earlier _ _ _ c.in_ok-end-in-Timeline.ensures.keeps.1 c.put_text-end.ensures.faults (c.put_text-end.ensures.fault (not_lost _ _ _ _ _ _ _ _ c.in_ok-end-in-Timeline.ensures.told) e)

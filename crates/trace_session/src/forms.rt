@@ -1,0 +1,105 @@
+//! A run, told in the form that is asked for.
+
+ghost use Rattle.std.specs.Prelude.{◌≡◌, ◌≤◌, IfOk, OnErr};
+ghost use Rattle.wind_base.specs.Limits.{most_steps};
+ghost use Rattle.wind_outside.specs.Counts.{Rose};
+ghost use Rattle.wind_session.specs.Keeping.{KeepsFiles};
+ghost use Rattle.wind_session.specs.BoardPlayerSeen.{seen};
+ghost use Rattle.wind_session.specs.declared.run.RunEnd.TheVariants as ends;
+ghost use Rattle.trace_session.specs.Forms.{TellsForm, TellsLess};
+ghost use Rattle.trace_session.specs.Traced.{Traced};
+
+use crate::events::tell_end;
+use crate::observer::Observer;
+use crate::run::tell_run;
+use crate::timeline::put_text;
+use crate::tracer::Tracer;
+use board_changes::Spans;
+use std::alloc::Global;
+use trace_state::state_text;
+use wind_base::NoMemory;
+use wind_outside::{Device, Folder, Sink};
+use wind_session::{Board, RunEnd, count_board};
+
+/// The form in which a run is told.
+#[derive(Clone, Copy, Debug, PartialEq, Eq)]
+pub enum Form {
+    /// One line for each thing that happened, and a last line.
+    Events,
+    /// A picture.
+    Timeline,
+    /// The board that is left.
+    State,
+}
+
+/// A run that was told.
+#[derive(Drop)]
+pub struct TracedRun {
+    /// How the run ended, or that a put failed.
+    pub end: RunEnd,
+    /// The spans of the tasks, which a timeline shows.
+    pub spans: Option<Spans>,
+}
+
+/// Makes steps, at most `limit`, and puts what happened in them in this form. The modules that the
+/// steps need are fetched from the folder.
+///
+/// # Errors
+///
+/// `NoMemory` if memory runs out for the trace. Then the run is given up.
+pub fn trace_board<F: Folder, O: Sink>(
+    alloc: Global,
+    form: Form,
+    board: &mut Board,
+    folder: &mut F,
+    modules: &str,
+    out: &mut O,
+    limit: u64,
+) -> Result<TracedRun, NoMemory>
+    requires fresh { (seen ⟦<dyn Device as Device>⟧ board.old).steps ≡ 0 }
+    requires bound { limit ≤ most_steps }
+    ensures told { IfOk result (λ t. Traced
+        (TellsForm form t.spans t.end (seen ⟦<dyn Device as Device>⟧ board.old) (O.bytes out.old) (O.bytes out.new))
+        (record { files = F.files folder.old; name = modules.now }) (seen ⟦<dyn Device as Device>⟧ board.old) limit
+        (seen ⟦<dyn Device as Device>⟧ board.new) (F.requests folder.old) (F.requests folder.new)) }
+    ensures given_up { OnErr result (Traced
+        (TellsLess form (seen ⟦<dyn Device as Device>⟧ board.old) (O.bytes out.old) (O.bytes out.new))
+        (record { files = F.files folder.old; name = modules.now }) (seen ⟦<dyn Device as Device>⟧ board.old) limit
+        (seen ⟦<dyn Device as Device>⟧ board.new) (F.requests folder.old) (F.requests folder.new)) }
+    ensures read_fault { IfOk result (λ t. t.end ≡ ends.ReadFault → Rose (F.faults folder.old) (F.faults folder.new)) }
+    ensures fault { IfOk result (λ t. t.end ≡ ends.WriteFault → Rose (O.faults out.old) (O.faults out.new)) }
+    ensures keeps { KeepsFiles ⟦<F as Folder>⟧ ⟦<O as Sink>⟧ folder.old out.old folder.new out.new }
+{
+    match form {
+        Form::Events => {
+            let mut tracer = Tracer::new(alloc, board)?;
+            let end = tell_run(alloc, board, folder, modules, out, limit, &mut tracer)?;
+            match end {
+                RunEnd::WriteFault => Ok(TracedRun { end, spans: None }),
+                _ => {
+                    let last = tell_end(board, out, end, &mut tracer)?;
+                    Ok(TracedRun {
+                        end: last,
+                        spans: None,
+                    })
+                }
+            }
+        }
+        Form::Timeline => {
+            let mut observer = Observer::new(alloc, board)?;
+            let end = tell_run(alloc, board, folder, modules, out, limit, &mut observer)?;
+            observer.close(board)?;
+            let mut text = Vec::new(alloc);
+            observer.draw(&mut text, board.time())?;
+            let end = put_text(out, &text, end);
+            let spans = Some(observer.spans);
+            Ok(TracedRun { end, spans })
+        }
+        Form::State => {
+            let end = count_board(alloc, board, folder, modules, limit).end;
+            let text = state_text(alloc, board)?;
+            let end = put_text(out, &text, end);
+            Ok(TracedRun { end, spans: None })
+        }
+    }
+}

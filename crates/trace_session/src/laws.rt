@@ -1,0 +1,21 @@
+//! Laws of the lines of a run, each as the clause of a function.
+
+ghost use Rattle.trace_session.specs.Bursts.{SilentLinesLaw};
+ghost use Rattle.trace_session.specs.Laws.{LinesLaw};
+
+use trace_text::joining_law;
+use wind_machine::silent_law;
+
+/// Instructions that follow others of the same task or routine are one line with them.
+pub(crate) fn silent_lines_law()
+    ensures { SilentLinesLaw }
+{
+    joining_law();
+    silent_law();
+}
+
+/// Joining lines of instructions keeps the number of instructions and all other lines. What the
+/// lines say is written is what the steps write.
+pub fn lines_law()
+    ensures { LinesLaw }
+{}

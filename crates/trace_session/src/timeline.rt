@@ -1,0 +1,54 @@
+//! A run, told as a picture.
+
+ghost use Rattle.std.specs.Prelude.{◌≡◌, ◌≢◌, ◌⊎◌, ◌≤◌};
+ghost use Rattle.wind_outside.specs.Counts.{Rose};
+ghost use Rattle.wind_session.specs.declared.run.RunEnd.TheVariants as ends;
+
+use crate::observer::Observer;
+use crate::run::Teller;
+use board_trace::BeforeStep;
+use wind_base::NoMemory;
+use wind_machine::silent_law;
+use wind_outside::{Put, Sink};
+use wind_session::{Board, RunEnd};
+
+impl Teller for Observer {
+    ghost use Rattle.trace_session.specs.Traced.{SeesSteps};
+
+    ghost tells = { λ o first now. SeesSteps o.spans };
+
+    ghost lost = { λ first now said s k. ⊥ };
+
+    ghost part = { λ first now said s k. Unit {0} };
+
+    ghost ready = { λ o s. Unit {0} };
+
+    fn part_law(&self) {}
+
+    fn burst(&mut self, board: &mut Board, most: u64) -> Result<u64, NoMemory> {
+        silent_law();
+        Ok(board.burst(most))
+    }
+
+    fn tell<O: Sink>(
+        &mut self,
+        board: &Board,
+        before_step: &BeforeStep,
+        _: &mut O,
+    ) -> Result<Put, NoMemory> {
+        self.look(board, before_step)?;
+        Ok(Put::Done)
+    }
+}
+
+/// Puts a text. The run before it ended like this.
+pub(crate) fn put_text<O: Sink>(out: &mut O, text: &[u8], end: RunEnd) -> RunEnd
+    ensures same { (result ≡ end) ⊎ (result ≡ ends.WriteFault) }
+    ensures fault { end ≢ ends.WriteFault → result ≡ ends.WriteFault → Rose (O.faults out.old) (O.faults out.new) }
+    ensures faults { O.faults out.old ≤ O.faults out.new }
+{
+    match out.put(text) {
+        Put::Done => end,
+        Put::Failed => RunEnd::WriteFault,
+    }
+}

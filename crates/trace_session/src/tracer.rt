@@ -1,0 +1,149 @@
+//! The lines that a trace makes of steps.
+
+ghost use Rattle.std.specs.Prelude.{◌≡◌, ◌≤◌, ◌<◌, ◌+◌, ◌++◌, ◌^◌, ℕ, List, [], None, OnOk, IfOk, map};
+ghost use Rattle.std.specs.List.{sum_by};
+ghost use Rattle.wind_machine.specs.State.{State};
+ghost use Rattle.wind_session.specs.BoardPlayerSeen.{seen};
+ghost use Rattle.board_trace.specs.Before.{before_step as before_step_lem};
+ghost use Rattle.board_trace.specs.Runs.{Line, step_lines, with_line, with_lines};
+ghost use Rattle.board_trace.specs.Snapshots.{snapshot_of};
+ghost use Rattle.board_trace.specs.Subjects.{name_of, subject_actor};
+ghost use Rattle.board_trace.specs.Views.{snapshot_state};
+ghost use Rattle.trace_text.specs.Lines.{lines_text};
+ghost use Rattle.trace_text.specs.Pages.{Ends, count_in, count_of};
+ghost use Rattle.trace_session.specs.Steps.{line_of};
+ghost use Rattle.trace_session.specs.Traced.{how_text, last_line_of};
+
+use crate::reader::StepReader;
+use board_trace::{BeforeStep, Happening, Snapshot, actor_name, subject_name};
+use kernel_world::Actor;
+use std::alloc::Global;
+use trace_text::Page;
+use wind_base::NoMemory;
+use wind_outside::Device;
+use wind_session::{Board, RunEnd};
+
+/// What a trace keeps between steps.
+#[derive(Drop)]
+pub(crate) struct Tracer {
+    /// The lines that were not put yet.
+    pub(crate) page: Page,
+    /// What reads the next step.
+    pub(crate) reader: StepReader,
+}
+
+// Adds the lines of what happened in a step.
+fn add_lines(
+    page: &mut Page,
+    list: &[Happening],
+    before_step: &BeforeStep,
+    before: &Snapshot,
+    after: &Snapshot,
+) -> Result<(), NoMemory>
+    requires { count_in page.old.growing + sum_by count_of list.now < 2 ^ 64 }
+    ensures lines { OnOk result ((given : List ℕ) (made : List Line) → Ends given page.old made → Ends given page.new
+        (with_lines
+        (map (line_of before_step.now (snapshot_state before.now) (snapshot_state after.now)) list.now) made)) }
+    ensures waits { OnOk result (count_in page.new.growing ≤ count_in page.old.growing + sum_by count_of list.now) }
+{
+    for happening in list {
+        let name = subject_name(before, after, happening);
+        page.add(before_step.time, before_step.step, name, happening)?;
+    }
+    Ok(())
+}
+
+// What the last line says of how a run ended.
+fn how(end: RunEnd) -> &'static [u8]
+    ensures { result.now ≡ how_text end }
+{
+    match end {
+        RunEnd::Quiet => b"no step is left",
+        RunEnd::Limit => b"the limit of steps is reached",
+        RunEnd::ReadFault => b"a file could not be read",
+        RunEnd::WriteFault => b"writing failed",
+        RunEnd::NoMemory => b"host memory ran out",
+    }
+}
+
+impl Tracer {
+    /// A trace of a board before its first step.
+    pub(crate) fn new(alloc: Global, board: &Board) -> Result<Tracer, NoMemory>
+        ensures page { IfOk result (λ t. t.page ≡ record { text = []; growing = None }) }
+        ensures before { IfOk result (λ t. snapshot_state t.reader.before
+            ≡ snapshot_of (seen ⟦<dyn Device as Device>⟧ board.now).world) }
+    {
+        let page = Page::new(alloc)?;
+        let reader = StepReader::new(alloc, board)?;
+        Ok(Tracer { page, reader })
+    }
+
+    /// Instructions of a task or routine were made at once: the first in the step with this number,
+    /// which began at this board time.
+    pub(crate) fn tell_instructions(
+        &mut self,
+        board: &Board,
+        who: &Actor,
+        count: u64,
+        time: u128,
+        step: u64,
+    ) -> Result<(), NoMemory>
+        requires { count_in self.old.page.growing + count < 2 ^ 64 }
+        ensures lines { OnOk result ((given : List ℕ) (made : List Line) → Ends given self.old.page made
+            → Ends given self.new.page (with_line (record {
+              time = time;
+              step = step;
+              name = name_of (snapshot_state self.old.reader.before) (subject_actor who.now);
+              what = Happening.Instructions who.now count;
+            }) made)) }
+        ensures waits { OnOk result (count_in self.new.page.growing ≤ count_in self.old.page.growing + count) }
+        ensures before { OnOk result (snapshot_state self.new.reader.before
+            ≡ snapshot_of (seen ⟦<dyn Device as Device>⟧ board.now).world) }
+    {
+        let name = actor_name(&self.reader.before, *who);
+        self.page.add_instructions(*who, count, time, step, name)?;
+        self.reader.skip(board)
+    }
+
+    /// A step was made: adds the lines of what happened in it.
+    pub(crate) fn add_step(
+        &mut self,
+        board: &Board,
+        before_step: &BeforeStep,
+    ) -> Result<(), NoMemory>
+        requires { count_in self.old.page.growing + 1 < 2 ^ 64 }
+        ensures lines { OnOk result ((s : State) (given : List ℕ) (made : List Line)
+            → before_step.now ≡ before_step_lem s → snapshot_state self.old.reader.before ≡ snapshot_of s.world
+            → Ends given self.old.page made → Ends given self.new.page
+            (with_lines (step_lines s (seen ⟦<dyn Device as Device>⟧ board.now)) made)) }
+        ensures waits { OnOk result (count_in self.new.page.growing ≤ count_in self.old.page.growing + 1) }
+        ensures before { OnOk result (snapshot_state self.new.reader.before
+            ≡ snapshot_of (seen ⟦<dyn Device as Device>⟧ board.now).world) }
+    {
+        let reader = &mut self.reader;
+        reader.read(board, before_step)?;
+        add_lines(
+            &mut self.page,
+            &reader.list,
+            before_step,
+            &reader.before,
+            &reader.after,
+        )?;
+        reader.go_on();
+        Ok(())
+    }
+
+    /// The run has ended: tells how, and what each task does.
+    pub(crate) fn tell_end(&mut self, board: &Board, end: RunEnd) -> Result<(), NoMemory>
+        requires { snapshot_state self.old.reader.before
+            ≡ snapshot_of (seen ⟦<dyn Device as Device>⟧ board.now).world }
+        ensures { OnOk result ((given : List ℕ) (made : List Line) → Ends given self.old.page made
+            → given ++ self.new.page.text
+            ≡ lines_text made ++ last_line_of end (seen ⟦<dyn Device as Device>⟧ board.now)) }
+    {
+        self.page.finish()?;
+        let (time, steps, left) = (board.time(), board.steps(), board.left().len() as u64);
+        self.page
+            .add_last(time, steps, how(end), &self.reader.before.tasks, left)
+    }
+}

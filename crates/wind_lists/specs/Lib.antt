@@ -1,4 +1,0 @@
-pub mod Sorting
-pub mod Records
-pub mod Laws
-pub mod Arrivals
