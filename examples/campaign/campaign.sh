@@ -6,8 +6,10 @@
 #        campaign.sh play PROGRAM PHASE      plays a phase, and writes the session
 #        campaign.sh case PROGRAM PHASE..    plays phases, and writes a line for each: the phase, and the tasks in the order in
 #                                            which they end
-#        campaign.sh all PROGRAM [PHASES]    plays the phases from 0 on, 1,000 or fewer, side by side on all cores; writes a line
-#                                            for each range of phases with one order
+#        campaign.sh ranges [PHASES]         reads the lines of the phases from 0 on, in any order, and writes a line for each
+#                                            range of phases with one order; it refuses if a phase is missing or stands twice
+#        campaign.sh all PROGRAM [PHASES]    plays the phases from 0 on, 1,000 or fewer, side by side on all cores, and writes
+#                                            their ranges
 set -eu
 here=$(cd "$(dirname "$0")" && pwd)
 period=1000
@@ -55,7 +57,7 @@ side_by_side() {
 }
 
 # Joins the lines of phases that follow one another and have one order.
-ranges() {
+join_ranges() {
     awk 'function tell() { print (first == last ? "phase " first : "phases " first " to " last) ": " order }
         { phase = $1; sub(/^[0-9]+ /, ""); sub(/ $/, "") }
         $0 != order { if (NR > 1) tell(); first = phase; order = $0 }
@@ -63,12 +65,19 @@ ranges() {
         END { tell() }'
 }
 
+# Writes the ranges of the phases 0 to $1 - 1, whose lines stand in any order on standard input.
+ranges() {
+    sort -n >"$work/lines"
+    faults=$(awk -v count="$1" '{ lines[$1]++ }
+        END { for (k = 0; k < count; k++) if (lines[k] != 1) { printf " %d", k; delete lines[k] }
+            for (k in lines) if (k !~ /^[0-9]+$/ || k + 0 >= count) printf " %s", k }' "$work/lines")
+    [ -z "$faults" ] || refuse "not one line for each of $1 phases:$faults"
+    join_ranges <"$work/lines"
+}
+
 all() {
-    count=${2:-$period}
-    check_number "$count" 1 "$period"
-    seq 0 $((count - 1)) | side_by_side "$1" >"$work/lines" || refuse 'a phase could not be played'
-    [ "$(wc -l <"$work/lines")" -eq "$count" ] || refuse "not all of $count phases were played"
-    sort -n "$work/lines" | ranges
+    seq 0 $(($2 - 1)) | side_by_side "$1" >"$work/told" || refuse 'a phase could not be played'
+    ranges "$2" <"$work/told"
 }
 
 work=$(mktemp -d)
@@ -79,6 +88,13 @@ case $form:$# in
 ticks:1) ticks "$1" ;;
 play:2) play "$1" "$2" ;;
 case:[2-9] | case:[1-9][0-9]*) cases "$@" ;;
-all:1 | all:2) all "$1" "${2:-}" ;;
-*) sed -n '5,10s/^# //p' "$0" >&2; exit 2 ;;
+ranges:[01])
+    check_number "${1:-$period}" 1 "$period"
+    ranges "${1:-$period}"
+    ;;
+all:[12])
+    check_number "${2:-$period}" 1 "$period"
+    all "$1" "${2:-$period}"
+    ;;
+*) sed -n '/^# usage/,/^set/s/^# //p' "$0" >&2; exit 2 ;;
 esac

@@ -1,14 +1,14 @@
 /* Two tasks that take two mutexes, each in its own order. */
 
-extern int semTake(int id, int timeout);
-extern int semGive(int id);
-extern int taskDelay(int ticks);
+#include <vxWorks.h>
+#include <semLib.h>
+#include <taskLib.h>
 
-void worker(int first, int second)
+void worker(SEM_ID first, SEM_ID second)
 {
-    semTake(first, -1);
+    semTake(first, WAIT_FOREVER);
     taskDelay(1);
-    semTake(second, -1);
+    semTake(second, WAIT_FOREVER);
     semGive(second);
     semGive(first);
 }

@@ -3,25 +3,23 @@
  * readings and keeps the sum of each channel. A macro makes the channels, so that the module has the size, the symbols and
  * the debug sections of a grown one.
  */
-typedef unsigned int word;
 
-int msgQSend(word queue, const void *buffer, word bytes, word timeout, int priority);
-int msgQReceive(word queue, void *buffer, word bytes, word timeout);
-int taskDelay(word ticks);
+#include <vxWorks.h>
+#include <msgQLib.h>
+#include <taskLib.h>
 
-#define WAIT_FOREVER 0xffffffffu
 #define CHANNELS 256u
 
 struct reading {
-    word channel;
-    word value;
+    UINT channel;
+    UINT value;
 };
 
 struct channel {
-    word gain;
-    word offset;
-    word sum;
-    word count;
+    UINT gain;
+    UINT offset;
+    UINT sum;
+    UINT count;
 };
 
 int served;
@@ -29,14 +27,14 @@ struct reading last;
 
 #define CHANNEL(n)                                                                                                     \
     struct channel channel_##n = {0x##n + 1, 0x##n * 3, 0, 0};                                                         \
-    word calibrated_##n(const struct reading *reading)                                                                 \
+    UINT calibrated_##n(const struct reading *reading)                                                                 \
     {                                                                                                                  \
-        word scaled = reading->value * channel_##n.gain;                                                               \
+        UINT scaled = reading->value * channel_##n.gain;                                                               \
         return scaled + channel_##n.offset;                                                                            \
     }                                                                                                                  \
     void keep_##n(const struct reading *reading)                                                                       \
     {                                                                                                                  \
-        word value = calibrated_##n(reading);                                                                          \
+        UINT value = calibrated_##n(reading);                                                                          \
         channel_##n.sum += value;                                                                                      \
         channel_##n.count += 1;                                                                                        \
     }
@@ -53,21 +51,21 @@ ALL(CHANNEL)
 
 static void (*const keep[CHANNELS])(const struct reading *reading) = {ALL(ENTRY)};
 
-void serverTask(word queue)
+void serverTask(MSG_Q_ID queue)
 {
     for (;;) {
-        if (msgQReceive(queue, &last, sizeof last, WAIT_FOREVER) == sizeof last) {
+        if (msgQReceive(queue, (char *)&last, sizeof last, WAIT_FOREVER) == sizeof last) {
             keep[last.channel % CHANNELS](&last);
             served += 1;
         }
     }
 }
 
-void clientTask(word queue)
+void clientTask(MSG_Q_ID queue)
 {
     struct reading reading = {0, 1000};
     for (;;) {
-        msgQSend(queue, &reading, sizeof reading, WAIT_FOREVER, 0);
+        msgQSend(queue, (const char *)&reading, sizeof reading, WAIT_FOREVER, MSG_PRI_NORMAL);
         reading.channel += 1;
         reading.value += 7;
         taskDelay(1);

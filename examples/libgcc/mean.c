@@ -1,8 +1,10 @@
 /* The mean of the last 64 readings, in thousandths. The sum has 64 bits, whose division the compiler
  * leaves to libgcc. */
 
-static int readings[64];
-static int count;
+#include <vxWorks.h>
+
+LOCAL int readings[64];
+LOCAL int count;
 
 int add(int value)
 {
@@ -10,7 +12,7 @@ int add(int value)
     return ++count;
 }
 
-static int held(void)
+LOCAL int held(void)
 {
     return count < 64 ? count : 64;
 }

@@ -1,17 +1,14 @@
 /* A server and a client that exchange one message a tick. */
-typedef unsigned int word;
 
-int msgQSend(word queue, const char *buffer, word bytes, word timeout, int priority);
-int msgQReceive(word queue, char *buffer, word bytes, word timeout);
-int taskDelay(word ticks);
-
-#define WAIT_FOREVER 0xffffffffu
+#include <vxWorks.h>
+#include <msgQLib.h>
+#include <taskLib.h>
 
 int served;
 char last[8];
 static const char greeting[] = "tick";
 
-void server(word queue)
+void server(MSG_Q_ID queue)
 {
     for (;;) {
         int bytes = msgQReceive(queue, last, sizeof last, WAIT_FOREVER);
@@ -19,10 +16,10 @@ void server(word queue)
     }
 }
 
-void client(word queue)
+void client(MSG_Q_ID queue)
 {
     for (;;) {
-        msgQSend(queue, greeting, sizeof greeting, WAIT_FOREVER, 0);
+        msgQSend(queue, greeting, sizeof greeting, WAIT_FOREVER, MSG_PRI_NORMAL);
         taskDelay(1);
     }
 }

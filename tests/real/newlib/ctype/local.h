@@ -1,0 +1,2 @@
+/* What newlib's strings take from its ctype: a type. */
+#include <wchar.h>
