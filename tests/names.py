@@ -1,5 +1,5 @@
 #!/usr/bin/env python3
-"""Checks that what README.md and the pages of docs, examples and tests name exists.
+"""Checks that what README.md, the other pages beside it and those of docs, examples and tests name exists.
 
 It reads the links of each page and the words in backticks outside blocks of code:
 
@@ -8,10 +8,10 @@ It reads the links of each page and the words in backticks outside blocks of cod
 - `ensures NAME` is a clause of the function that was named last before it;
 - a path that begins with a folder of the repository or a crate is a file or folder (`out/`, which builds make, aside), and
   a name such as `order.rt` is one;
-- any other name, as `KeepsIds`, `run_board` or `semTake`, is a word of the sources, comments aside, or of an example.
+- any other name, as `KeepsIds`, `run_board` or `semTake`, is a word of the sources, comments aside, or of an example or a C header.
 
-README.md and docs/crates.md name each crate of crates.txt, and README.md links to each page of docs and to each example. It
-prints what is missing, and a line that counts. It ends with 1 if something is missing, and with 2 if it finds no page.
+README.md and docs/crates.md name each crate of crates.txt. README.md links to each page of docs, and examples/README.md to each
+example. It prints what is missing, and a line that counts. It ends with 1 if something is missing, and with 2 if it finds no page.
 
 usage: tests/names.py
 """
@@ -37,7 +37,7 @@ def code_of(path):
 
 CRATES = re.findall(r"^(\w+)[^:#\n]*:", read(TOP / "crates.txt"), flags=re.M)
 SOURCES = {p: code_of(p) for c in CRATES for p in (TOP / "crates" / c).rglob("*") if p.suffix in (".rt", ".antt") and "out" not in p.parts}
-EXAMPLES = [read(p) for p in (TOP / "examples").rglob("*") if p.suffix in (".c", ".txt", ".sh", ".s")]
+EXAMPLES = [read(p) for folder in ("examples", "include") for p in (TOP / folder).rglob("*") if p.suffix in (".c", ".h", ".txt", ".sh", ".s")]
 WORDS = {w for text in [*SOURCES.values(), *EXAMPLES] for w in re.findall(r"\w+", text)}
 FOLDERS = {p.name for p in TOP.iterdir() if p.is_dir()}
 
@@ -137,13 +137,15 @@ def check_lists():
     readme, crates = read(TOP / "README.md"), read(TOP / "docs" / "crates.md")
     found = [f"{page}: crate {c} isn't named" for page, text in (("README.md", readme), ("docs/crates.md", crates))
              for c in CRATES if not re.search(rf"\b{c}\b", text)]
-    pages = [p for p in sorted((TOP / "docs").glob("*.md"))] + [p for p in sorted((TOP / "examples").iterdir()) if p.is_dir()]
-    found += [f"README.md: no link to {p.relative_to(TOP)}" for p in pages if f"({p.relative_to(TOP)})" not in readme]
+    examples = read(TOP / "examples" / "README.md")
+    found += [f"README.md: no link to docs/{p.name}" for p in sorted(TOP.glob("docs/*.md")) if f"(docs/{p.name})" not in readme]
+    found += [f"examples/README.md: no link to {p.parent.name}" for p in sorted(TOP.glob("examples/*/README.md"))
+              if f"({p.parent.name})" not in examples]
     return found
 
 
 def main():
-    pages = [TOP / "README.md", *sorted(TOP.glob("docs/*.md")), *sorted(TOP.glob("examples/**/*.md")), *sorted(TOP.glob("tests/*.md"))]
+    pages = [*sorted(TOP.glob("*.md")), *sorted(TOP.glob("docs/*.md")), *sorted(TOP.glob("examples/**/*.md")), *sorted(TOP.glob("tests/*.md"))]
     if len(pages) < 2 or not CRATES:
         print("names: no pages", file=sys.stderr)
         return 2

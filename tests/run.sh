@@ -1,17 +1,21 @@
 #!/bin/sh
 # Plays the cases of the folder `cases` with PROGRAM. It prints a line for each case that differs, and one that counts
-# them. It ends with 1 if a case differs, and with 2 if there is none or not all could be played.
+# all. It ends with 1 if a case differs, and with 2 if there is none or not all could be played.
 #
 # With BOARD 2 it plays them on a board of that kind. They have to end the same, with the same outputs but for addresses: each number
 # of five digits or more counts as one. Cases that are of board 1 alone say so, and are left out.
 #
-# usage: tests/run.sh PROGRAM [BOARD]
+# With a file CHOICE it plays the cases that it names alone, `SUBJECT: NAME` in a line, and prints a line for each. It ends with 2 if
+# one of them isn't there.
+#
+# usage: tests/run.sh PROGRAM [BOARD [CHOICE]]
 set -eu
-if [ $# -lt 1 ] || [ $# -gt 2 ]; then
-    echo "usage: $0 PROGRAM [BOARD]" >&2
+if [ $# -lt 1 ] || [ $# -gt 3 ]; then
+    echo "usage: $0 PROGRAM [BOARD [CHOICE]]" >&2
     exit 2
 fi
 board=${2:-1}
+choice=${3:-}
 program=$(command -v "$1") || { echo "$0: $1: no such program" >&2; exit 2; }
 case $program in /*) ;; *) program=$PWD/$program ;; esac
 here=$(cd "$(dirname "$0")" && pwd)
@@ -24,8 +28,18 @@ ln -s "$program" "$work/windplay"
 # What the session writes with which each case begins.
 output='-> 1+2\nvalue = 3 = 0x3\n-> '
 
+# Whether a case, or any case of a subject, is chosen.
+is_chosen() {
+    [ -z "$choice" ] || grep -qxF -e "$1: $2" "$choice"
+}
+
+has_chosen() {
+    [ -z "$choice" ] || grep -q "^$1: " "$choice"
+}
+
 cases=0
 left_out=0
+without_tools=0
 differing=0
 told=yes
 
@@ -37,19 +51,35 @@ shows() {
     skipped=no
     unset status
     cases=$((cases + 1))
+    is_chosen "$subject" "$name" || leave_out
     rm -rf "$work/session"
     mkdir "$work/session"
     console '1+2\n'
     ticks ''
 }
 
+leave_out() {
+    [ "$skipped" = no ] || return 0
+    skipped=yes
+    cases=$((cases - 1))
+    left_out=$((left_out + 1))
+}
+
 # The case is of board 1 alone: it names a board, or where RAM or the gates are, or it takes all blocks or all memory.
 of_board_1() {
-    [ "$board" = 1 ] || {
-        skipped=yes
-        cases=$((cases - 1))
-        left_out=$((left_out + 1))
-    }
+    [ "$board" = 1 ] || leave_out
+}
+
+# The case needs these tools of the host. It is left out where one isn't there.
+needs() {
+    for tool in "$@"; do
+        [ "$skipped" = yes ] || command -v "$tool" >"$work/log" || {
+            skipped=yes
+            cases=$((cases - 1))
+            without_tools=$((without_tools + 1))
+            return 0
+        }
+    done
 }
 
 # Each case has to say how it ends.
@@ -215,6 +245,8 @@ tell() {
     if [ -n "$difference" ]; then
         printf '%s\n' "$subject: $name: $difference"
         differing=$((differing + 1))
+    elif [ -n "$choice" ]; then
+        printf '%s\n' "$subject: $name: as expected"
     fi
 }
 
@@ -305,16 +337,23 @@ refuses() {
 for path in "$here"/cases/*.sh; do
     [ -f "$path" ] || { echo "$0: no cases" >&2; exit 2; }
     subject=$(basename "$path" .sh)
-    before=$((cases + left_out))
+    has_chosen "$subject" || continue
+    before=$((cases + left_out + without_tools))
     . "$path"
     ended
-    [ "$((cases + left_out))" -gt "$before" ] || { echo "$subject: no case" >&2; exit 2; }
+    [ "$((cases + left_out + without_tools))" -gt "$before" ] || { echo "$subject: no case" >&2; exit 2; }
 done
 
+chosen=$cases
+[ -z "$choice" ] || chosen=$(grep -c . "$choice")
+[ "$cases" -eq "$chosen" ] || { echo "$0: $choice: $chosen cases, $cases of them are there" >&2; exit 2; }
 all_played=yes
-if [ "$board" = 1 ]; then
+if [ -n "$choice" ]; then
+    :
+elif [ "$board" = 1 ]; then
     echo "$cases cases, $differing of them differ"
 else
     echo "$cases cases on board $board, $differing of them differ; $left_out are of board 1 alone"
 fi
+[ "$without_tools" -eq 0 ] || echo "$without_tools cases are left out: their tools aren't installed"
 [ "$differing" -eq 0 ]

@@ -1,11 +1,18 @@
-# The script `play`, in a folder with this program, one source, and an `rt` that only writes its words.
+# The script `play`, in a folder with this program and one source, and an `rt` that runs this program as `rt try` does.
 
-mkdir -p "$work/top/crates/windplay/out" "$work/top/crates/windplay/src" "$work/top/crates/windplay/specs" \
-    "$work/top/crates/windplay/proofs" "$work/bin"
-cp "$here/../play" "$work/top/play"
+mkdir -p "$work/top/crates/windplay/out" "$work/top/crates/windplay/src" "$work/bin"
+cp -R "$here/../play" "$here/../tools" "$work/top"
+echo 'windplay:' >"$work/top/crates.txt"
 touch -t 200001010000 "$work/top/crates.txt" "$work/top/crates/windplay/src/main.rt"
 cp "$program" "$work/top/crates/windplay/out/windplay"
-printf '#!/bin/sh\nprintf "%%s\\n" "$@"\n' >"$work/bin/rt"
+cat >"$work/bin/rt" <<RT
+#!/bin/sh
+[ "\$1" != version ] || { echo kit; exit; }
+while [ "\$1" != -- ]; do shift; done
+shift
+cp "$program" "\$TMPDIR/program"
+"\$TMPDIR/program" "\$@"
+RT
 chmod +x "$work/bin/rt"
 
 # Runs `play` with these words, the first of which is the folder to run it in.
@@ -15,7 +22,8 @@ plays_in() {
 }
 
 proved='play: the proved program, crates/windplay/out/windplay\n'
-tried='play: by rt try, without proof: a minute to build; what the session writes comes when it has ended\n'
+tried='play: without proof, some 500 to 1,000 times slower than the proved program (./build windplay)\n'
+building='play: building it takes about a minute, once\n'
 
 shows 'play plays a folder with the proved program'
 plays_in "$work" session
@@ -38,17 +46,35 @@ compare stdout ''
 grep -q '^usage: play FOLDER' "$work/stderr" || differs 'no usage'
 tell
 
-touch -t 209901010000 "$work/top/crates/windplay/src/main.rt"
+shows 'play tells what it is'
+plays_in "$work" --version
+ends 0 'windplay of no commit\nkit\nno proofs.log\n' ''
 
-shows 'play hands rt try a copy of each file that the session needs, if a source is newer'
-console 'ld < m.o\n'
-file m.o ''
-file n.o ''
-plays_in "$work/session" . --limit 9
-ends 0 "try\n--data\nm.o=$work/session/./m.o\n--data\nticks.txt=$work/session/ticks.txt\n--data\nconsole.txt=$work/session/console.txt\n--\n--limit\n9\n" "$tried"
+echo log >"$work/top/out.log"
+mkdir -p "$work/top/out"
+mv "$work/top/out.log" "$work/top/out/proofs.log"
 
-shows 'play hands rt try the files of its words under the usual names'
-file c '1\n'
-file t ''
-plays_in "$work" --console session/c --ticks=session/t
-ends 0 "try\n--data\nticks.txt=$work/session/t\n--data\nconsole.txt=$work/session/c\n--\n" "$tried"
+shows 'play tells the digest of what the proofs printed'
+plays_in "$work" --version
+ends 0 "windplay of no commit\nkit\nproofs.log $(sha256sum <"$work/top/out/proofs.log" | cut -c 1-64)\n" ''
+
+touch "$work/top/crates/windplay/src/main.rt"
+touch -t 200101010000 "$work/top/crates/windplay/out/windplay"
+
+shows 'play builds a program without its proof if a source is newer'
+plays_in "$work" session
+ends 0 "$output" "$tried$building"
+
+shows 'play keeps what it built'
+plays_in "$work/session" .
+ends 0 "$output" "$tried"
+
+shows 'play tells that a program without its proof is not proved'
+plays_in "$work" --version
+ends 0 "windplay of no commit\nkit\nwindplay isn't proved\n" ''
+
+shows 'play ends with 1 if nothing can be built'
+rm "$work/top/out/tried/windplay"
+printf '#!/bin/sh\nexit 1\n' >"$work/bin/rt"
+plays_in "$work" session
+ends 1 '' "$tried${building}tried: windplay wasn't built; out/tried/windplay.log has all that rt said\n"
