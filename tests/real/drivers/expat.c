@@ -7,6 +7,14 @@
 #include "real.h"
 #include <expat.h>
 
+#if !__STDC_HOSTED__
+/* The board has no environment; expat looks there for levels of debugging. */
+char *getenv(const char *name)
+{
+    return NULL;
+}
+#endif
+
 static unsigned seen = 1, starts, ends, bytes;
 
 static void start(void *data, const XML_Char *name, const XML_Char **attributes)
