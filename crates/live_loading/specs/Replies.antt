@@ -16,7 +16,7 @@ abbrev pub verdict_reply : WorldState → Result Places LoadErr → Reply
 verdict_reply w (Ok at) = Answer w.kern.next_id
 verdict_reply w (Err e) = Refusal errors.LoadFailed
 
--- in a mode, given what is said of the file
+-- in a mode, by what the folder answered of the file
 abbrev pub reply_in : WorldState → ℕ → FileSaid → Reply
 reply_in w mode (Held file) = verdict_reply w (file_verdict (loader_state w) file mode)
 reply_in w mode Missing = Refusal errors.LoadFailed

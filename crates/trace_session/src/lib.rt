@@ -1,5 +1,5 @@
-//! A traced session: what the arguments ask for, the run of a board and what is told of it, as lines,
-//! as a picture or as the board that it leaves, and how the run ended.
+//! A traced session: what the arguments ask for, the run of a board, its trace as lines, as a
+//! picture or as the board that it leaves, and how the run ended.
 #![tactic(auto)]
 
 mod command;
