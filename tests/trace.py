@@ -5,8 +5,15 @@ import pathlib
 import re
 import subprocess
 import sys
+import tempfile
 import xml.dom.minidom
 
+# Lines of a console, and the call and reply that its trace has to tell, by the table in docs/calls.md.
+REPLIES = [
+    (b"ld < none.o\n", rb"ld\(0, 0, 0x[0-9a-f]+\) = 0 LOAD_FAILED"),
+    (b"ld 0, 0, 0xfffffff0\n", rb"ld\(0, 0, 0xfffffff0\) = -1 BAD_ADDRESS"),
+    (b"errnoSet 0xffffffff\nerrnoGet\n", rb"errnoGet\(\) = 0xffffffff"),
+]
 WRITES = re.compile(rb'^ *\d+ +\d+  .{16}  writes "(.*)"$')
 ESCAPED = re.compile(rb"\\x([0-9a-f]{2})")
 
@@ -47,6 +54,18 @@ def faults(session, windtrace, windplay):
         yield f"the timeline is no XML: {error}"
 
 
+def replies(windtrace):
+    """The replies that the trace of a console doesn't tell."""
+    for console, wanted in REPLIES:
+        with tempfile.TemporaryDirectory() as folder:
+            session = pathlib.Path(folder)
+            (session / "console.txt").write_bytes(console)
+            (session / "ticks.txt").write_bytes(b"")
+            _, events = run(windtrace, session)
+        if not re.search(rb"  " + wanted + rb"\n", events):
+            yield console
+
+
 def main():
     folder, windtrace, windplay = (pathlib.Path(it).resolve() for it in sys.argv[1:])
     sessions = sorted(it.parent for it in folder.glob("*/stdout"))
@@ -56,8 +75,11 @@ def main():
         wrong += bool(found)
         for fault in found:
             print(f"{session.name}: {fault}")
-    print(f"{len(sessions)} sessions, {wrong} differ")
-    return 1 if wrong or not sessions else 0
+    untold = list(replies(windtrace))
+    for console in untold:
+        print(f"{console}: its reply isn't told")
+    print(f"{len(sessions)} sessions, {wrong} differ; {len(REPLIES)} replies, {len(untold)} untold")
+    return 1 if wrong or untold or not sessions else 0
 
 
 if __name__ == "__main__":

@@ -24,10 +24,20 @@ cp "$work/stdout" "$work/session/f.o"
 assembles --list f.o
 ends 0 '00000000 38600007 addi r3, r0, 7\n00000004 4e800020 bclr 20, 0\n' ''
 
-shows 'the first bad line is named with its cause'
+shows 'the first bad line is named with its cause, the column and the reason'
 file bad.s 'nop\nf:\nlwzu r3, 0(r0)\n'
 assembles bad.s
-ends 7 '' 'ppcasm: bad.s: line 3: no such instruction\n'
+ends 7 '' "ppcasm: bad.s: line 3: no such instruction, column 1: 'lwzu' is no instruction of the processor with these operands\n"
+
+shows 'a line that is not understood is named with its first bad token'
+file bad.s 'f: li r3, 7\n ori r3, r4, 70000\n'
+assembles bad.s
+ends 7 '' 'ppcasm: bad.s: line 2: not understood, column 14: 70000 is above 65535\n'
+
+shows 'a file that can not be read is named'
+mkdir "$work/session/folder.s"
+assembles folder.s
+ends 4 '' 'ppcasm: reading failed: folder.s\n'
 
 shows 'a call for help is told both forms'
 assembles --help

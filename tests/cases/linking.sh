@@ -63,7 +63,7 @@ shows 'a module later in the list binds nothing'
 modules
 file image.lst 'c.o 0 00015e70 00000000 00000000\na.o 0 00015e30 00000000 00000000\nb.o 0 00015e50 00000000 00000000\n'
 links image.lst .
-ends 0 '38600001\n4e800020\n00000000\n00000000\n00000000\n00000000\n00000000\n00000000\n38600002\n4e800020\n00000000\n00000000\n00000000\n00000000\n00000000\n00000000\n7fe802a6\n4bfea18d\n7fe803a6\n4e800020\n' ''
+ends 0 '38600001\n4e800020\n00000000\n00000000\n00000000\n00000000\n00000000\n00000000\n38600002\n4e800020\n00000000\n00000000\n00000000\n00000000\n00000000\n00000000\n7fe802a6\n4bfea18d\n7fe803a6\n4e800020\n' 'windlink: image.lst: line 1: undefined symbol: f\n'
 
 shows 'a list without a line gives no byte'
 file image.lst ''
@@ -130,13 +130,13 @@ modules
 module far ' bl f+0x4000000\n .align 16\n'
 file image.lst 'a.o 0 00015e30 00000000 00000000\nfar.o 0 00015e50 00000000 00000000\nc.o 0 00015e70 00000000 00000000\n'
 links image.lst .
-ends 11 '' 'windlink: image.lst: line 2: relocation 0 out of range\n'
+ends 11 '' 'windlink: image.lst: line 2: relocation 0 out of range (type 10, f)\n'
 
 shows 'a module that can not be read is a fault of reading'
 mkdir "$work/session/folder.o"
 file image.lst 'folder.o 0 00015e30 00000000 00000000\n'
 links image.lst .
-ends 4 '' 'windlink: reading failed\n'
+ends 4 '' 'windlink: reading failed: ./folder.o\n'
 
 shows 'an image that can not be written is a fault of writing'
 modules
@@ -145,6 +145,28 @@ status=0
 : >"$work/stdout"
 (cd "$work/session" && exec "$windlink" image.lst .) >/dev/full 2>"$work/stderr" || status=$?
 ends 5 '' 'windlink: writing failed\n'
+
+# The names are those of two modules, in symbol order; a weak one is left out, and so is a call of the kernel.
+shows 'each undefined name is told, and the image stays'
+module a '.globl f\nf: bl g\n bl h\n bl taskDelay\n .align 16\n'
+module b ' bl f\n bl g\n .align 16\n'
+file image.lst 'a.o 0 00015e30 00000000 00000000\nb.o 0 00015e50 00000000 00000000\n'
+links image.lst .
+: >"$work/stdout"
+ends 0 '' "$(printf 'windlink: image.lst: line %s: undefined symbol: %s\\n' 1 g 1 h 2 g)"
+
+# 200 sections over the same 1,000,000 bytes: their places are refused before any of them is copied.
+shows 'a module that needs more memory than a board has is refused within 64 MiB'
+python3 "$here/many_sections.py" 200 1000000 >"$work/session/many.o"
+file image.lst 'many.o 0 00015e30 00000000 00000000\n'
+status=0
+(ulimit -v 65536 && cd "$work/session" && exec "$windlink" image.lst .) >"$work/stdout" 2>"$work/stderr" || status=$?
+ends 12 '' 'windlink: image.lst: line 1: bad place of text\n'
+
+shows 'and is listed within 64 MiB'
+status=0
+(ulimit -v 65536 && cd "$work/session" && exec "$ppcasm" --list many.o) >"$work/stdout" 2>"$work/stderr" || status=$?
+ends 0 '00000000 60000000 ori r0, r0, 0\n' ''
 
 shows 'a list has at most 256 lines'
 awk 'BEGIN { for (i = 0; i < 257; i++) print "none.o 0 00000000 00000000 00000000" }' >"$work/session/image.lst"

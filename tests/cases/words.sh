@@ -5,13 +5,13 @@ help="Plays a session of a wind kernel's shell on a modelled board
 Usage: windplay [OPTIONS]
 
 Options:
-      --console <FILE>  The console file [default: console.txt]
-      --ticks <FILE>    The tick file [default: ticks.txt]
-      --modules <DIR>   The folder of modules [default: .]
+      --console <FILE>  The console file: the lines for the shell [default: console.txt]
+      --ticks <FILE>    The tick file: when ticks, bytes and interrupts come [default: ticks.txt]
       --limit <N>       The most steps to make, up to 1000000000000 [default: 1000000]
-      --generate <N>    Plays a session of N generated rounds, up to 10000, in place of the files [default: 0]
-      --profile <N>     The rule by which owners of mutexes inherit priorities, 1 or 2 [default: 1]
-      --board <N>       The kind of board, 1 or 2 [default: 1]
+      --generate <N>    Plays N generated rounds (a sum, a mutex, a delay), up to 10000, in place of the files, and sums them up in one line; 0 plays the files [default: 0]
+      --modules <DIR>   The folder of the modules that ld loads [default: .]
+      --profile <N>     An inherited priority lasts until its owner gives back all mutexes (1), or until its cause stops waiting (2) [default: 1]
+      --board <N>       The board: with 16 MiB of RAM (1) or 64 MiB (2) [default: 1]
   -h, --help            Print help
 "
 

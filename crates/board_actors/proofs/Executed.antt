@@ -18,7 +18,8 @@ use Rattle.live_loading.specs.KernelWorldActor.TheVariants.{Task, Interrupt}
 use Rattle.wind_machine.specs.Part.{with_kern}
 use Rattle.wind_machine.specs.Processor.{bus_of, regs_of}
 use Rattle.wind_machine.proofs.Reserving.{own_regs}
-use Rattle.board_actors.specs.Instructions.{executed_to, outcome_kind}
+use Rattle.board_actors.specs.Instructions.{executed_to, outcome_kind, word_kind}
+use Rattle.board_actors.specs.StepReply.{reply_of}
 use Rattle.board_actors.specs.declared.step_kind.StepKind.TheVariants as kinds
 use Rattle.board_actors.specs.Running.{IsThere, Ran, OnlyRegs}
 
@@ -59,7 +60,7 @@ pub instruction_so : (o : Outcome BusState) (r : Result (Unit {0}) Trap) (who : 
 instruction_so (Done regs bus) r who old new ran ok = refl
 instruction_so (Trapped trap) r who old new ran ok = absurd (cc)
 
-pub other_so : (o : Outcome BusState) (r : Result (Unit {0}) Trap) (who : Actor) (old new : WorldState) (trap : Trap) → Ran o r who old new → r ≡ Err trap → outcome_kind o ≡ kinds.Other
+pub other_so : (o : Outcome BusState) (r : Result (Unit {0}) Trap) (who : Actor) (old new : WorldState) (trap : Trap) → Ran o r who old new → r ≡ Err trap → outcome_kind o ≡ kinds.Other None
 other_so (Done regs bus) r who old new trap ran bad = absurd (cc)
 other_so (Trapped other) r who old new trap ran bad = refl
 
@@ -67,3 +68,8 @@ other_so (Trapped other) r who old new trap ran bad = refl
 pub there_acts : (w : WorldState) (who : Actor) → IsThere w who → Acts w.kern who
 there_acts w (Task who) there = there
 there_acts w Interrupt there = tt
+
+-- ---- an instruction and an exception have no reply
+pub word_reply : (word : Option ℕ) (r : Regs) (b : BusState) → None ≡ reply_of (word_kind word r b)
+word_reply None r b = refl
+word_reply (Some word) r b = elim (exec_of board_meaning r word b) as (λ o. None ≡ reply_of (outcome_kind o)) [ Done after bus ↦ refl | Trapped trap ↦ refl ]

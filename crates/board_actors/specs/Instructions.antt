@@ -15,10 +15,10 @@ use Rattle.board_actors.specs.declared.step_kind.StepKind.TheVariants as kinds
 -- the kind of a step at this word, if one can be fetched: an instruction, unless its effect is a trap
 abbrev pub outcome_kind : Outcome BusState → StepKind
 outcome_kind (Done regs bus) = kinds.Instruction
-outcome_kind (Trapped trap) = kinds.Other
+outcome_kind (Trapped trap) = kinds.Other None
 
 abbrev pub word_kind : Option ℕ → Regs → BusState → StepKind
-word_kind None regs bus = kinds.Other
+word_kind None regs bus = kinds.Other None
 word_kind (Some word) regs bus = outcome_kind (exec_of board_meaning regs word bus)
 
 -- one instruction leads from these registers and this bus to those: no gate, among those from a start on, is at the

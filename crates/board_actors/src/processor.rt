@@ -1,7 +1,7 @@
 //! A step of an actor, a task or the active interrupt routine: what it does at a gate, or one
 //! instruction.
 
-ghost use Rattle.std.specs.Prelude.{◌≡◌, ◌+◌, ◌^◌, ◌<◌, ◌≤◌, [], true, false, None, OnOk, OnErr, is_some, slice_index};
+ghost use Rattle.std.specs.Prelude.{◌≡◌, ◌+◌, ◌^◌, ◌<◌, ◌≤◌, [], true, false, None, IfOk, OnOk, OnErr, is_some, slice_index};
 ghost use Rattle.wind_base.specs.OutBuf.{KeepsSpace};
 ghost use Rattle.wind_core.specs.State.{Lives, IsKern, task_of};
 ghost use Rattle.board_bus.specs.Access.{board_meaning, fetched};
@@ -9,14 +9,16 @@ ghost use Rattle.ppc_core.specs.Instructions.{exec_of};
 ghost use Rattle.live_loading.specs.KernelWorldActors.{Acts, MayCall, is_interrupt};
 ghost use Rattle.live_loading.specs.KernelWorldSeen.{world_seen, world_with};
 ghost use Rattle.live_loading.specs.KernelWorldAllowed.{may_exhaust_memory};
-ghost use Rattle.wind_machine.specs.KernelCallsCalls.{file_wanted};
+ghost use Rattle.wind_machine.specs.KernelCallsCalls.{file_wanted, made};
 ghost use Rattle.live_loading.specs.KernelWorldActor.TheVariants as actors;
 ghost use Rattle.wind_machine.specs.KernelCallsSpace.{HoldsSpace};
 ghost use Rattle.wind_machine.specs.Part.{part_of, writing};
 ghost use Rattle.wind_machine.specs.Processor.{trapped, trap_text, bus_of, own_return as own_return_lem, is_return as is_return_lem, return_part, without_own, called as called_lem, gate_part, word_part, regs_of, actor_part};
-ghost use Rattle.wind_machine.specs.declared.phase.Phase.TheVariants as phases;
+ghost use Rattle.wind_machine.specs.Replies.{actor_reply, gate_reply};
+ghost use Rattle.wind_machine.specs.ActorSteps.{IsOnProcessor};
 ghost use Rattle.board_actors.specs.Instructions.{word_kind};
 ghost use Rattle.board_actors.specs.Running.{IsThere, Ran, OnlyRegs};
+ghost use Rattle.board_actors.specs.StepReply.{reply_of};
 ghost use Rattle.board_actors.specs.StepStart.{IsEarlyWorld};
 ghost use Rattle.board_actors.specs.declared.step_kind.StepKind.TheVariants as kinds;
 
@@ -27,7 +29,7 @@ use crate::shell_task::abort;
 use crate::step_kind::StepKind;
 use crate::text::{add_exception, add_routine_exception};
 use id_table::Ident;
-use live_loading::{Actor, World, end_task, gate_at, is_call, make_call};
+use live_loading::{Actor, Reply, World, end_task, gate_at, is_call, make_call};
 use ppc_core::{Trap, exec};
 use std::alloc::Global;
 use wind_base::{Gate, NoMemory};
@@ -151,7 +153,7 @@ fn answer_of(world: &World, who: Ident) -> u32
 // A call of the shell returns with r3 as its value; any other task ends.
 fn return_of_task(shell: &mut Shell, world: &mut World, who: Ident)
     requires live { Lives world.old.kern who }
-    requires phase { who ≡ 1 → shell.old.phase ≡ phases.Call }
+    requires phase { IsOnProcessor shell.old.phase (actors.Task who) }
     requires since { world.old.kern.next_since < 2 ^ 63 }
     ensures part { part_of shell.new (world_seen ⟦<dyn Device as Device>⟧ world.new)
         ≡ return_part shell.old (world_seen ⟦<dyn Device as Device>⟧ world.old) (actors.Task who) }
@@ -168,7 +170,7 @@ fn return_of_task(shell: &mut Shell, world: &mut World, who: Ident)
 // What an actor does at its own return: a task as above; an interrupt routine is done.
 fn return_from(shell: &mut Shell, world: &mut World, who: &Actor)
     requires live { Acts world.old.kern who.now }
-    requires phase { who.now ≡ actors.Task 1 → shell.old.phase ≡ phases.Call }
+    requires phase { IsOnProcessor shell.old.phase who.now }
     requires since { world.old.kern.next_since < 2 ^ 63 }
     ensures part { part_of shell.new (world_seen ⟦<dyn Device as Device>⟧ world.new)
         ≡ return_part shell.old (world_seen ⟦<dyn Device as Device>⟧ world.old) who.now }
@@ -192,8 +194,8 @@ fn drop_of(world: &mut World, who: &Actor)
     }
 }
 
-// Makes a kernel call. If memory runs out, nothing changes.
-fn call(alloc: Global, world: &mut World, who: &Actor, gate: Gate) -> Result<(), NoMemory>
+// Makes a kernel call, and returns its reply. If memory runs out, nothing changes.
+fn call(alloc: Global, world: &mut World, who: &Actor, gate: Gate) -> Result<Reply, NoMemory>
     requires unasked { file_wanted gate (world_seen ⟦<dyn Device as Device>⟧ world.old) who.now ≡ None }
     requires live { Acts world.old.kern who.now }
     requires ready { MayCall world.old.kern who.now }
@@ -201,27 +203,29 @@ fn call(alloc: Global, world: &mut World, who: &Actor, gate: Gate) -> Result<(),
     requires room { 4096 ≤ world.old.out.room }
     ensures ok { OnOk result (world_seen ⟦<dyn Device as Device>⟧ world.new
         ≡ called_lem gate (world_seen ⟦<dyn Device as Device>⟧ world.old) who.now) }
+    ensures reply { IfOk result
+        (λ r. r ≡ (made gate (world_seen ⟦<dyn Device as Device>⟧ world.old) who.now).reply) }
     ensures memory { OnErr result (may_exhaust_memory gate ≡ true) }
     ensures task { OnErr result (is_interrupt who.now ≡ false) }
     ensures err { OnErr result (world_seen ⟦<dyn Device as Device>⟧ world.new
         ≡ world_seen ⟦<dyn Device as Device>⟧ world.old) }
     ensures space { HoldsSpace world.old.out world.new.out }
 {
-    make_call(alloc, world, gate, who)?;
+    let reply = make_call(alloc, world, gate, who)?;
     drop_of(world, who);
-    Ok(())
+    Ok(reply)
 }
 
-/// What an actor does at a gate. Host memory may run out only if the gate's call may run out of it
-/// and a task makes it; nothing changes then.
+/// What an actor does at a gate. A kernel call returns its reply. Host memory may run out only if
+/// the gate's call may run out of it and a task makes it; nothing changes then.
 pub fn at_gate(
     alloc: Global,
     shell: &mut Shell,
     world: &mut World,
     who: &Actor,
     gate: Gate,
-) -> Result<(), NoMemory>
-    requires phase { who.now ≡ actors.Task 1 → shell.old.phase ≡ phases.Call }
+) -> Result<Option<Reply>, NoMemory>
+    requires phase { IsOnProcessor shell.old.phase who.now }
     requires unasked { file_wanted gate (world_seen ⟦<dyn Device as Device>⟧ world.old) who.now ≡ None }
     requires live { Acts world.old.kern who.now }
     requires ready { MayCall world.old.kern who.now }
@@ -229,6 +233,8 @@ pub fn at_gate(
     requires room { 4096 ≤ world.old.out.room }
     ensures ok { OnOk result (part_of shell.new (world_seen ⟦<dyn Device as Device>⟧ world.new)
         ≡ gate_part gate shell.old (world_seen ⟦<dyn Device as Device>⟧ world.old) who.now) }
+    ensures reply { IfOk result
+        (λ r. r ≡ gate_reply gate (world_seen ⟦<dyn Device as Device>⟧ world.old) who.now) }
     ensures memory { OnErr result (may_exhaust_memory gate ≡ true) }
     ensures task { OnErr result (is_interrupt who.now ≡ false) }
     ensures err { OnErr result (world_seen ⟦<dyn Device as Device>⟧ world.new
@@ -238,13 +244,14 @@ pub fn at_gate(
 {
     if is_return(gate, who) {
         return_from(shell, world, who);
-        return Ok(());
+        return Ok(None);
     }
     if is_call(gate) {
-        return call(alloc, world, who, gate);
+        let reply = call(alloc, world, who, gate)?;
+        return Ok(Some(reply));
     }
     fault(shell, world, *who, Trap::Access);
-    Ok(())
+    Ok(None)
 }
 
 // Executes one instruction of an actor. A trap changes nothing.
@@ -281,19 +288,20 @@ pub fn execute(shell: &mut Shell, world: &mut World, who: &Actor, at: u32) -> St
     ensures kind { result ≡ word_kind (fetched (bus_of (world_seen ⟦<dyn Device as Device>⟧ world.old)) at)
         (regs_of (world_seen ⟦<dyn Device as Device>⟧ world.old) who.now)
         (bus_of (world_seen ⟦<dyn Device as Device>⟧ world.old)) }
+    ensures reply { None ≡ reply_of result }
     ensures registers { result ≡ kinds.Instruction → OnlyRegs (world_seen ⟦<dyn Device as Device>⟧ world.old)
         (world_seen ⟦<dyn Device as Device>⟧ world.new) who.now }
     ensures space { KeepsSpace world.old.out world.new.out }
 {
     let Some(word) = world.bus.fetch(at) else {
         fault(shell, world, *who, Trap::Access);
-        return StepKind::Other;
+        return StepKind::Other(None);
     };
     match run_word(world, who, word) {
         Ok(()) => StepKind::Instruction,
         Err(trap) => {
             fault(shell, world, *who, trap);
-            StepKind::Other
+            StepKind::Other(None)
         }
     }
 }
@@ -301,13 +309,15 @@ pub fn execute(shell: &mut Shell, world: &mut World, who: &Actor, at: u32) -> St
 /// Makes a step of the active interrupt routine: a call, if it is at a gate, else an instruction.
 /// After an instruction that caused no exception, only the routine's registers and the bus have
 /// changed.
-#[tactic(auto, unfolding(wind_machine::specs::Processor::actor_part))]
+#[tactic(auto, unfolding(wind_machine::specs::Processor::actor_part, wind_machine::specs::Replies::actor_reply))]
 pub fn run_routine(alloc: Global, shell: &mut Shell, world: &mut World) -> StepKind
     requires active { is_some world.old.watch.level ≡ true }
     requires early { IsEarlyWorld (world_with [] world.old) }
     requires room { 4096 ≤ world.old.out.room }
     ensures part { part_of shell.new (world_seen ⟦<dyn Device as Device>⟧ world.new)
         ≡ actor_part shell.old (world_seen ⟦<dyn Device as Device>⟧ world.old) actors.Interrupt }
+    ensures reply { reply_of result
+        ≡ actor_reply (world_seen ⟦<dyn Device as Device>⟧ world.old) actors.Interrupt }
     ensures registers { result ≡ kinds.Instruction → OnlyRegs (world_seen ⟦<dyn Device as Device>⟧ world.old)
         (world_seen ⟦<dyn Device as Device>⟧ world.new) actors.Interrupt }
     ensures space { HoldsSpace world.old.out world.new.out }
@@ -317,7 +327,7 @@ pub fn run_routine(alloc: Global, shell: &mut Shell, world: &mut World) -> StepK
         return execute(shell, world, &Actor::Interrupt, at);
     };
     match at_gate(alloc, shell, world, &Actor::Interrupt, gate) {
-        Ok(()) => StepKind::Other,
+        Ok(reply) => StepKind::Other(reply),
         Err(NoMemory) => unreachable!(),
     }
 }

@@ -1,5 +1,7 @@
 //! What a step was.
 
+use live_loading::Reply;
+
 /// What a step of a task or of an interrupt routine was.
 #[derive(Clone, Copy, Debug, PartialEq, Eq)]
 pub enum StepKind {
@@ -7,6 +9,6 @@ pub enum StepKind {
     /// bus have changed.
     Instruction,
     /// Anything else: a step at a gate, an exception, or a step of the shell. Another task may run
-    /// next.
-    Other,
+    /// next. A kernel call has its reply.
+    Other(Option<Reply>),
 }

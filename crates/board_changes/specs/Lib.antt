@@ -5,3 +5,4 @@ pub mod Listed
 pub mod Tasks
 pub mod Watchdogs
 pub mod Modules
+pub mod Walks

@@ -11,6 +11,10 @@ pub record SpanState : Type 0 where
   pub going : List Open
   pub done : List Span
 
+-- the task of a span that goes on
+abbrev pub open_task : Open → ℕ
+open_task o = o.who
+
 -- the span of this task that goes on
 abbrev pub going_of : List Open → ℕ → Option Open
 going_of going who = find (λ o. o.who == who) going

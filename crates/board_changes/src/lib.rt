@@ -12,6 +12,7 @@ mod spans;
 mod tasks;
 mod view;
 mod waits;
+mod walk;
 mod watchdogs;
 
 pub use awaited::Awaited;

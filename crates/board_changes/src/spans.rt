@@ -1,10 +1,13 @@
 //! The spans of a run.
 
 ghost use Rattle.std.specs.Prelude.{◌≡◌, ◌++◌, [], OnOk, map, option_copied};
-ghost use Rattle.board_changes.specs.Spans.{all_ended, all_ends, closed, ended, ends, goes_on as goes_on_lem, observed, going_after as going_after_lem, going_of as going_of_lem, view_of as view_of_lem};
+ghost use Rattle.board_changes.specs.Spans.{all_ended, all_ends, closed, ended, ends, goes_on as goes_on_lem, observed, open_task, going_after as going_after_lem, view_of as view_of_lem};
+ghost use Rattle.board_changes.specs.Views.{task_id};
+ghost use Rattle.board_changes.specs.Walks.{HasPassed};
 
 use crate::TaskView;
 use crate::look::{Look, is_same, look_of};
+use crate::walk::{Identified, START, Walk, found};
 use id_table::Ident;
 use std::alloc::Global;
 use std::marker::Model;
@@ -20,6 +23,14 @@ pub struct Open {
     pub look: Look,
     /// Since when.
     pub from: u128,
+}
+
+impl Identified for Open {
+    ghost number = { open_task };
+
+    fn ident(&self) -> Ident {
+        self.who
+    }
 }
 
 /// A span that has ended.
@@ -59,18 +70,13 @@ struct Moment<'a> {
     runner: Option<Ident>,
 }
 
-// The span of this task that goes on.
-fn going_of(going: &[Open], who: Ident) -> Option<&Open>
-    ensures { option_copied result ≡ going_of_lem going.now who }
+// The view of a task, sought from where the walk stands.
+fn view_of<'a>(views: &'a [TaskView], walk: &mut Walk, who: Ident) -> Option<&'a TaskView>
+    requires { HasPassed task_id views.now walk.old.place walk.old.bound }
+    ensures value { option_copied result ≡ view_of_lem views.now who }
+    ensures passed { HasPassed task_id views.now walk.new.place walk.new.bound }
 {
-    going.iter().find(|span| span.who == who)
-}
-
-// The view of this task.
-fn view_of(views: &[TaskView], who: Ident) -> Option<&TaskView>
-    ensures { option_copied result ≡ view_of_lem views.now who }
-{
-    views.iter().find(|view| view.id == who)
+    found(views, walk, who)
 }
 
 // The span of a task goes on if its look is the same as before; else a new one begins.
@@ -87,12 +93,14 @@ fn goes_on(going: Option<&Open>, who: Ident, time: u128, look: &Look) -> Open
     }
 }
 
-// The span of a task after a moment.
-fn going_after(going: &[Open], moment: &Moment, view: &TaskView) -> Open
-    ensures { result ≡ going_after_lem going.now moment.now.time moment.now.runner view.now }
+// The span of a task after a moment, sought among those before it from where the walk stands.
+fn going_after(going: &[Open], walk: &mut Walk, moment: &Moment, view: &TaskView) -> Open
+    requires { HasPassed open_task going.now walk.old.place walk.old.bound }
+    ensures value { result ≡ going_after_lem going.now moment.now.time moment.now.runner view.now }
+    ensures passed { HasPassed open_task going.now walk.new.place walk.new.bound }
 {
     let look = look_of(moment.runner, view);
-    goes_on(going_of(going, view.id), view.id, moment.time, &look)
+    goes_on(found(going, walk, view.id), view.id, moment.time, &look)
 }
 
 // Collects the spans of the tasks after a moment.
@@ -101,8 +109,10 @@ fn collect_going(next: &mut Vec<Open>, going: &[Open], moment: &Moment) -> Resul
     ensures { OnOk result (next.new.items
         ≡ map (going_after_lem going.now moment.now.time moment.now.runner) moment.now.views.now) }
 {
+    let mut walk = START;
     for view in moment.views {
-        if next.push(going_after(going, moment, view)).is_err() {
+        let span = going_after(going, &mut walk, moment, view);
+        if next.push(span).is_err() {
             return Err(NoMemory);
         }
     }
@@ -149,8 +159,10 @@ fn add_ends(done: &mut Vec<Span>, moment: &Moment, going: &[Open]) -> Result<(),
     ensures { OnOk result (done.new.items
         ≡ done.old.items ++ all_ends moment.now.views.now moment.now.runner moment.now.time going.now) }
 {
+    let mut walk = START;
     for span in going {
-        add_end(done, view_of(moment.views, span.who), moment, span)?;
+        let view = view_of(moment.views, &mut walk, span.who);
+        add_end(done, view, moment, span)?;
     }
     Ok(())
 }

@@ -2,21 +2,15 @@
 
 ghost use Rattle.std.specs.Prelude.{◌≡◌, ◌++◌, OnOk, option_copied};
 ghost use Rattle.board_changes.specs.Listed.{listed};
-ghost use Rattle.board_changes.specs.Tasks.{found as found_lem, suspension_changes, priority_changes, kept_changes, changes_of, live_changes, deletion, deletions, task_changes};
+ghost use Rattle.board_changes.specs.Tasks.{suspension_changes, priority_changes, kept_changes, changes_of, live_changes, deletion, deletions, task_changes};
 
 use crate::change::Change;
 use crate::list::{add, add_if};
 use crate::view::{TaskView, Views};
 use crate::waits::wait_change;
+use crate::walk::{START, found};
 use id_table::Ident;
 use wind_base::NoMemory;
-
-// The view of the task with this id.
-fn found(views: &[TaskView], id: Ident) -> Option<&TaskView>
-    ensures { option_copied result ≡ found_lem views.now id }
-{
-    views.iter().find(|view| view.id == id)
-}
 
 // The beginning or the end of a suspension.
 fn suspension_change(who: Ident, before: bool, after: bool) -> Option<Change>
@@ -86,8 +80,10 @@ fn add_live(list: &mut Vec<Change>, results: bool, views: &Views<TaskView>) -> R
     ensures { OnOk result (list.new.items
         ≡ list.old.items ++ live_changes results views.now.before.now views.now.after.now) }
 {
+    let mut walk = START;
     for view in views.after {
-        add_changes_of(list, results, found(views.before, view.id), view)?;
+        let before = found(views.before, &mut walk, view.id);
+        add_changes_of(list, results, before, view)?;
     }
     Ok(())
 }
@@ -107,8 +103,10 @@ fn add_deletions(list: &mut Vec<Change>, views: &Views<TaskView>) -> Result<(), 
     ensures { OnOk result (list.new.items
         ≡ list.old.items ++ deletions views.now.after.now views.now.before.now) }
 {
+    let mut walk = START;
     for view in views.before {
-        add_if(list, deletion_change(view.id, found(views.after, view.id)))?;
+        let after = found(views.after, &mut walk, view.id);
+        add_if(list, deletion_change(view.id, after))?;
     }
     Ok(())
 }

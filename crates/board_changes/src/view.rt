@@ -1,9 +1,10 @@
 //! What a trace sees of a task and of a watchdog.
 
 ghost use Rattle.std.specs.Prelude.{◌≡◌};
-ghost use Rattle.board_changes.specs.Views.{view_of_task, view_of_watchdog};
+ghost use Rattle.board_changes.specs.Views.{task_id, watchdog_id, view_of_task, view_of_watchdog};
 
 use crate::awaited::Awaited;
+use crate::walk::Identified;
 use id_table::Ident;
 use isr_watch::{Timer, Watchdog};
 use task_block::Task;
@@ -32,6 +33,14 @@ pub struct TaskView {
     pub errno: u32,
 }
 
+impl Identified for TaskView {
+    ghost number = { task_id };
+
+    fn ident(&self) -> Ident {
+        self.id
+    }
+}
+
 /// Views before a step, and after it.
 #[derive(Drop)]
 pub(crate) struct Views<'a, V> {
@@ -48,6 +57,14 @@ pub struct WatchdogView {
     pub id: Ident,
     /// When it is due, if it is running.
     pub timer: Option<Timer>,
+}
+
+impl Identified for WatchdogView {
+    ghost number = { watchdog_id };
+
+    fn ident(&self) -> Ident {
+        self.id
+    }
 }
 
 /// The view of a task, given what it waits for.

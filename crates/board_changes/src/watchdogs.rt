@@ -2,27 +2,21 @@
 
 ghost use Rattle.std.specs.Prelude.{◌≡◌, ◌++◌, OnOk, option_copied};
 ghost use Rattle.board_changes.specs.Listed.{listed};
-ghost use Rattle.board_changes.specs.Watchdogs.{found as found_lem, timer_in as timer_in_lem, timer_changes, live_changes, gone_change, gone_changes, watchdog_changes, stopped as stopped_lem};
+ghost use Rattle.board_changes.specs.Watchdogs.{timer_of as timer_of_lem, timer_changes, live_changes, gone_change, gone_changes, watchdog_changes, stopped as stopped_lem};
 
 use crate::change::Change;
 use crate::list::add_if;
 use crate::view::{Views, WatchdogView};
+use crate::walk::{START, found};
 use id_table::Ident;
 use isr_watch::Timer;
 use wind_base::NoMemory;
 
-// The view of the watchdog with this id.
-fn found(views: &[WatchdogView], id: Ident) -> Option<&WatchdogView>
-    ensures { option_copied result ≡ found_lem views.now id }
+// The timer of a watchdog, if it is there and running.
+fn timer_of(view: Option<&WatchdogView>) -> Option<Timer>
+    ensures { result ≡ timer_of_lem (option_copied view.entry) }
 {
-    views.iter().find(|view| view.id == id)
-}
-
-// The timer of the watchdog with this id, if it is there and running.
-fn timer_in(views: &[WatchdogView], id: Ident) -> Option<Timer>
-    ensures { result ≡ timer_in_lem views.now id }
-{
-    match found(views, id) {
+    match view {
         Some(view) => view.timer,
         None => None,
     }
@@ -72,8 +66,9 @@ fn add_live(list: &mut Vec<Change>, tick: u64, views: &Views<WatchdogView>) -> R
     ensures { OnOk result (list.new.items
         ≡ list.old.items ++ live_changes tick views.now.before.now views.now.after.now) }
 {
+    let mut walk = START;
     for view in views.after {
-        let before = timer_in(views.before, view.id);
+        let before = timer_of(found(views.before, &mut walk, view.id));
         add_if(list, timer_change(tick, view.id, before, view.timer))?;
     }
     Ok(())
@@ -94,8 +89,10 @@ fn add_ends(list: &mut Vec<Change>, tick: u64, views: &Views<WatchdogView>) -> R
     ensures { OnOk result (list.new.items
         ≡ list.old.items ++ gone_changes tick views.now.after.now views.now.before.now) }
 {
+    let mut walk = START;
     for view in views.before {
-        add_if(list, end_change(tick, *view, found(views.after, view.id)))?;
+        let after = found(views.after, &mut walk, view.id);
+        add_if(list, end_change(tick, *view, after))?;
     }
     Ok(())
 }

@@ -19,9 +19,8 @@ use Rattle.wind_machine.specs.LiveLoadingLoading.{shell}
 use Rattle.wind_machine.specs.State.{State}
 use Rattle.wind_machine.specs.Good.{Good}
 use Rattle.wind_machine.specs.Processor.{regs_of, gate_under}
-use Rattle.wind_machine.specs.ActorSteps.{at_step_start, shell_world, file_at, file_in, file_for}
+use Rattle.wind_machine.specs.ActorSteps.{IsOnProcessor, at_step_start, shell_world, file_at, file_in, file_for}
 use Rattle.wind_machine.specs.Machine.{file_asked}
-use Rattle.wind_machine.specs.declared.phase.Phase.TheVariants as phases
 use Rattle.wind_machine.proofs.Free.{own_found}
 use Rattle.wind_machine.proofs.Asking.{shells, shell_ready, at_load}
 
@@ -50,7 +49,7 @@ same_wanted s gates.Ld = ap (λ r. file_name (string_at s.world.ram (slice_index
 same_wanted s g = refl
 
 pub unasked_call : (s : State) (who at : ℕ) (g : Gate) (v : WorldState) → v ≡ at_step_start s.world who → at ≡ (regs_of s.world (by_task who)).pc → gate_at (board_rules s.world.board).gates_start at ≡ Some g
-    → file_for s who ≡ None → (who ≡ 1 → s.shell.phase ≡ phases.Call) → file_wanted g v (by_task who) ≡ None
+    → file_for s who ≡ None → IsOnProcessor s.shell.phase (by_task who) → file_wanted g v (by_task who) ≡ None
 unasked_call s who at g v said_no here some none call =
     elim (eqb who shell_id) as (λ b. eqb who shell_id ≡ b → cond b (file_in s.shell.phase s.world) None ≡ None → file_wanted g v (by_task who) ≡ None) [
       | true ↦ λ own asks.

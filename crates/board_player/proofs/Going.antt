@@ -23,7 +23,7 @@ use Rattle.board_actors.specs.Running.{OnlyRegs}
 use Rattle.board_player.specs.Going.{IsRunner, IsKnown, OnlyStepped}
 use Rattle.board_player.specs.declared.order.Running.{Running}
 use Rattle.board_player.specs.declared.order.Known.{Known}
-use Rattle.board_player.specs.declared.order.Known.TheVariants.{Nothing, Runner, Routine}
+use Rattle.board_player.specs.declared.order.Known.TheVariants.{Nothing, Called, Runner, Routine}
 
 -- ---- a list in which each element is changed, if that keeps the order and the test
 module _ {X : Type 0} (f : X → X) where
@@ -168,6 +168,7 @@ only_stepped k began done new who dropped only ended =
 pub stays_known : (old new : KernState) (watch then : WatchState) (who : ℕ) (known : Known) → Rising task_id old.tasks → is_some watch.level ≡ false → Some who ≡ runner old
     → IsKnown old watch.level known → OnlyStepped old new who → then ≡ watch → IsKnown new then.level known
 stays_known old new watch then who Nothing up idle runs is only same = tt
+stays_known old new watch then who (Called reply) up idle runs is only same = tt
 stays_known old new watch then who (Runner r) up idle runs is only same =
     subst (λ (w : WatchState). IsRunner new w.level r) (sym same) (goes_on old new watch.level r who up is (is.who ∙ sym runs) only)
 stays_known old new watch then who Routine up idle runs is only same = let bad : true ≡ false = sym is.active ∙ idle in absurd (cc)

@@ -1,6 +1,5 @@
 -- The board keeps the invariant.
-use Rattle.std.proofs.Common.{◌≡◌, ◌≢◌, ℕ, ◌<◌, ◌^◌, List, Option, None, Some, IfSome, Result, Ok, Err, refl, sym, ap, ◌∙◌, subst}
-use Rattle.std.specs.Prelude.{OnOk, OnErr}
+use Rattle.std.proofs.Common.{◌≡◌, ◌≢◌, ℕ, ◌<◌, ◌^◌, List, Option, None, Some, IfSome, refl, sym, ap, subst}
 use Rattle.std.specs.Option.{option_map}
 use Rattle.wind_base.specs.declared.board_kind.BoardKind.{BoardKind}
 use Rattle.wind_base.specs.declared.profile.Profile.{Profile}
@@ -16,7 +15,6 @@ use Rattle.wind_machine.specs.Shell.{at_prompt}
 use Rattle.wind_machine.specs.Good.{Good}
 use Rattle.wind_machine.specs.Laws.{StartLaw, StepLaw}
 use Rattle.wind_machine.specs.LiveLoadingSaid.{FileSaid, Missing}
-use Rattle.wind_base.specs.declared.NoMemory.{NoMemory}
 use Rattle.wind_machine.specs.Events.{next_event}
 use Rattle.wind_machine.specs.ActorSteps.{load_step}
 use Rattle.wind_machine.specs.Next.{next}
@@ -25,7 +23,7 @@ use Rattle.wind_machine.specs.declared.next.Next.{Next}
 use Rattle.board_player.specs.declared.Step.{Step}
 use Rattle.board_player.specs.declared.Step.TheVariants as steps
 use Rattle.board_player.specs.Settling.{Makes}
-use Rattle.board_player.proofs.Answering.{steps_on, loads}
+use Rattle.board_player.proofs.Answering.{steps_on, loaded_step}
 
 -- the board at the start
 pub booted : StartLaw → (console : List ℕ) (slots : List (Option DeviceState)) (profile : Profile) (board : BoardKind) (left : List ℕ) (screen : ConsoleState) (shell : ShellState) (w : WorldState) (schedule : Timetable) (time made : ℕ)
@@ -47,9 +45,8 @@ kept law steps.Stepped s t n early good e stepped same = law Missing s t early g
 kept law r s t n early good e stepped same = subst Good (sym (same (λ q. cc))) good
 
 -- a step that loads a file
-pub kept_loading : StepLaw → (said : FileSaid) (r : Result Unit NoMemory) (s t : State) (name : List ℕ) → IfSome (next_event s) IsEarly → Good s → file_asked s ≡ Some name → OnOk r (t ≡ settled_state (load_step said s name)) → OnErr r (t ≡ s) → Good t
-kept_loading law said (Ok u) s t name early good asked ok err = law said s t early good (loads said s name asked ∙ ap Some (sym ok))
-kept_loading law said (Err e) s t name early good asked ok err = subst Good (sym err) good
+pub kept_loading : StepLaw → (said : FileSaid) (s t : State) (name : List ℕ) → IfSome (next_event s) IsEarly → Good s → file_asked s ≡ Some name → t ≡ settled_state (load_step said s name) → Good t
+kept_loading law said s t name early good asked is = law said s t early good (loaded_step said s t name asked is)
 
 -- the next event comes before 2^64
 pub early_some : (o : Option Timed) (time : ℕ) (event : Event) → Some (time, event) ≡ option_map at o → time < 2 ^ 64 → IfSome o IsEarly

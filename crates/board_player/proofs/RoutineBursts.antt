@@ -22,7 +22,7 @@ use Rattle.wind_machine.specs.Processor.{bus_of, regs_of, actor_part}
 use Rattle.wind_machine.specs.ActorSteps.{after_part, routine_step}
 use Rattle.wind_machine.specs.Events.{cleared, unreserved_world}
 use Rattle.wind_machine.specs.Next.{next}
-use Rattle.wind_machine.specs.Machine.{actor_of, file_of, file_asked, settled_state, Steps}
+use Rattle.wind_machine.specs.Machine.{actor_of, settled_state, Steps}
 use Rattle.wind_machine.specs.declared.next.Next.TheVariants.{Routine}
 use Rattle.wind_machine.proofs.Reserving.{all_none}
 use Rattle.board_actors.specs.Instructions.{Executes}
@@ -69,10 +69,6 @@ module _ (s : State) (is : IsKern s.world.kern) (exact : HasExact s.world) (on :
   comes : Routine ≡ next s
   comes = routine_next s on.active
 
-  unasked : file_asked s ≡ None
-  unfolding file_asked
-  unasked = ap file_of (sym comes)
-
   module _ (r : Regs) (b : BusState) (ex : Executes (board_rules s.world.board).gates_start (regs_of s.world Interrupt) (bus_of s.world) r b) where
     made : routine_step s ≡ moved s Interrupt r b 1
     made =
@@ -89,10 +85,8 @@ module _ (s : State) (is : IsKern s.world.kern) (exact : HasExact s.world) (on :
       instruction = record { comes = ap actor_of (sym comes); in_call = λ e. absurd (cc); no_gate = ex.no_gate };
       goes_on = refl;
       last_stays = refl;
-      unasked = unasked;
       steps = steps;
       silent = on.silent;
-      counted = refl;
       uneventful = refl;
     }
 

@@ -38,9 +38,10 @@ use Rattle.wind_machine.specs.Processor.{bus_of, with_bus, regs_of, gate_under, 
 use Rattle.wind_machine.specs.Silent.{IsSilentStep, SilentSteps, last_actor}
 use Rattle.board_actors.specs.Instructions.{Executes, executed_to}
 use Rattle.wind_machine.specs.Events.{next_event}
-use Rattle.wind_machine.specs.ActorSteps.{at_step_start, stepped, file_at, file_in, file_for, shell_step, task_step, step_of}
+use Rattle.wind_machine.specs.ActorSteps.{at_step_start, stepped, file_at, file_in, file_for, task_step}
+use Rattle.wind_machine.proofs.Asking.{as_task}
 use Rattle.wind_machine.specs.Next.{event_of, holds_back, is_open, is_active, due_at, due_event, next}
-use Rattle.wind_machine.specs.Machine.{actor_of, file_of, file_asked, settled_state, Steps}
+use Rattle.wind_machine.specs.Machine.{actor_of, settled_state, Steps}
 use Rattle.wind_machine.specs.declared.next.Next.TheVariants.{Act}
 use Rattle.wind_machine.proofs.Reserving.{last_own, own_regs}
 use Rattle.board_player.specs.declared.order.Running.{Running}
@@ -159,16 +160,6 @@ module _ (s : State) (who : ℕ) (is : IsKern s.world.kern) (exact : HasExact s.
         ap (stepped s who) part
         ∙ ap (λ l. record s { world = with_kern (executed_to s.world (by_task who) r b) (record (set_regs s.world.kern who r) { last = l }); time = s.time + 1; steps = s.steps + 1 }) (sym on.last)
 
-    -- its step is that of its task, also in a call of the shell
-    own_step : step_of s who ≡ task_step s who
-    own_step =
-        elim (eqb who shell_id) as (λ b. eqb who shell_id ≡ b → cond b (shell_step s.shell.phase s) (task_step s who) ≡ task_step s who) [
-          | true ↦ λ e.
-              let one : who ≡ shell_id = eqb-true who shell_id e in
-              ap (λ p. shell_step p s) (on.calls one) ∙ ap (task_step s) (sym one)
-          | false ↦ λ e. refl
-        ] refl
-
     -- it needs no file, because it is at no gate
     file_none : file_for s who ≡ None
     file_none =
@@ -183,16 +174,12 @@ module _ (s : State) (who : ℕ) (is : IsKern s.world.kern) (exact : HasExact s.
     comes : Act who ≡ next s
     comes = comes_alone s (Act who) (left_to_tasks s on.idle (none_due s on.delivery) none on.console, sym on.runs, file_none)
 
-    unasked : file_asked s ≡ None
-    unfolding file_asked
-    unasked = ap file_of (sym comes)
-
     -- it leaves priorities settled
     stays : settled_state (moved s (by_task who) r b 1) ≡ moved s (by_task who) r b 1
     stays = still_settled s (moved s (by_task who) r b 1) (regs_keep s.world.kern who r is) refl (regs_lend s.world.kern.tasks who r) exact
 
     steps : Steps s (moved s (by_task who) r b 1)
-    steps = steps_on s (moved s (by_task who) r b 1) (Act who) comes (λ said. ap (λ t. Some (settled_state t)) (own_step ∙ made) ∙ ap Some stays)
+    steps = steps_on s (moved s (by_task who) r b 1) (Act who) comes (λ said. ap (λ t. Some (settled_state t)) (as_task s who on.calls ∙ made) ∙ ap Some stays)
 
     one_step : IsSilentStep s (moved s (by_task who) r b 1)
     one_step = record {
@@ -201,10 +188,8 @@ module _ (s : State) (who : ℕ) (is : IsKern s.world.kern) (exact : HasExact s.
       instruction = record { comes = ap actor_of (sym comes); in_call = λ e. on.calls (eqb-true who shell_id e); no_gate = ex.no_gate };
       goes_on = last;
       last_stays = refl;
-      unasked = unasked;
       steps = steps;
       silent = on.silent;
-      counted = refl;
       uneventful = refl;
     }
 

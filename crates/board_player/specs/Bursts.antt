@@ -4,12 +4,12 @@ use Rattle.wind_base.specs.declared.regs.Regs.{Regs}
 use Rattle.board_bus.specs.BusState.{BusState}
 use Rattle.tick_file.specs.Schedule.{Timed}
 use Rattle.wind_core.specs.Orders.{runner}
-use Rattle.id_table.specs.Idents.{shell_id}
 use Rattle.live_loading.specs.KernelWorldActor.{Actor}
+use Rattle.live_loading.specs.KernelWorldActor.TheVariants.{Task as by_task}
 use Rattle.wind_machine.specs.State.{State}
 use Rattle.wind_machine.specs.Reserving.{drop_others, drop_all}
+use Rattle.wind_machine.specs.ActorSteps.{IsOnProcessor}
 use Rattle.wind_machine.specs.Next.{is_active, console_is_due}
-use Rattle.wind_machine.specs.declared.phase.Phase.TheVariants as phases
 use Rattle.board_player.specs.Knowing.{may_deliver}
 use Rattle.board_actors.specs.Instructions.{executed_to}
 
@@ -18,8 +18,7 @@ use Rattle.board_actors.specs.Instructions.{executed_to}
 pub record RunsOn (s : State) (who : ℕ) : Type 0 where
   pub idle : is_active s.world ≡ false
   pub runs : Some who ≡ runner s.world.kern
-  -- for the shell, the steps of its task are such only during a call
-  pub calls : who ≡ shell_id → s.shell.phase ≡ phases.Call
+  pub calls : IsOnProcessor s.shell.phase (by_task who)
   pub last : s.world.kern.last ≡ Some who
   pub alone : drop_others s.world.kern who ≡ s.world.kern
   pub silent : s.world.output ≡ []

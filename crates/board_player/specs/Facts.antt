@@ -16,7 +16,7 @@ use Rattle.msg_queue.specs.State.{QueueState, ask_of, lies_in}
 use Rattle.msg_queue.specs.Kept.{IsServable}
 use Rattle.board_player.specs.Going.{IsRunner, IsRoutine, IsKnown}
 use Rattle.board_player.specs.declared.order.Known.{Known}
-use Rattle.board_player.specs.declared.order.Known.TheVariants.{Nothing, Runner, Routine}
+use Rattle.board_player.specs.declared.order.Known.TheVariants.{Nothing, Called, Runner, Routine}
 
 -- that blocks are in order is a proposition
 pub Laid-prop : (lo hi : ℕ) (bs : List Block) → IsProp (Laid lo hi bs)
@@ -51,5 +51,6 @@ IsServable-prop size asks t place q s u =
 -- what is known of who makes the next step is a proposition
 pub IsKnown-prop : (k : KernState) (level : Option Regs) (known : Known) → IsProp (IsKnown k level known)
 IsKnown-prop k level Nothing = Unit-prop
+IsKnown-prop k level (Called reply) = Unit-prop
 IsKnown-prop k level (Runner r) = let one : IsProp (IsRunner k level r) = hlevel props in one
 IsKnown-prop k level Routine = let one : IsProp (IsRoutine k level) = hlevel props in one

@@ -12,13 +12,12 @@ use Rattle.live_loading.specs.KernelWorldObjects.{IsReady}
 use Rattle.live_loading.specs.KernelWorldActor.TheVariants.{Task as by_task}
 use Rattle.wind_machine.specs.State.{State}
 use Rattle.wind_machine.specs.Processor.{regs_of}
-use Rattle.wind_machine.specs.ActorSteps.{file_for}
-use Rattle.wind_machine.specs.declared.phase.Phase.TheVariants as phases
+use Rattle.wind_machine.specs.ActorSteps.{IsOnProcessor, file_for}
 use Rattle.wind_machine.specs.Reserving.{drop_others}
 use Rattle.wind_machine.specs.Next.{holds_back}
 use Rattle.board_player.specs.declared.order.Running.{Running}
 use Rattle.board_player.specs.declared.order.Known.{Known}
-use Rattle.board_player.specs.declared.order.Known.TheVariants.{Nothing, Runner, Routine}
+use Rattle.board_player.specs.declared.order.Known.TheVariants.{Nothing, Called, Runner, Routine}
 
 -- this is the task that runs, and whether interrupts may come meanwhile; no interrupt routine is active
 pub record IsRunner (k : KernState) (level : Option Regs) (r : Running) : Type 0 where
@@ -34,6 +33,7 @@ pub record IsRoutine (k : KernState) (level : Option Regs) : Type 0 where
 -- what is known holds
 abbrev pub IsKnown : KernState → Option Regs → Known → Type 0
 IsKnown k level Nothing = Unit {0}
+IsKnown k level (Called reply) = Unit {0}
 IsKnown k level (Runner r) = IsRunner k level r
 IsKnown k level Routine = IsRoutine k level
 
@@ -47,7 +47,7 @@ OnlyStepped old new who = (regs : Regs) × (new ≡ record (set_regs (drop_other
 pub record StandsAt (s : State) (who at : ℕ) (gate : Gate) : Type 0 where
   pub live : Lives s.world.kern who
   pub ready : IsReady s.world.kern who
-  pub phase : who ≡ 1 → s.shell.phase ≡ phases.Call
+  pub phase : IsOnProcessor s.shell.phase (by_task who)
   pub counter : at ≡ (regs_of s.world (by_task who)).pc
   pub there : gate_at (board_rules s.world.board).gates_start at ≡ Some gate
   pub asks : file_for s who ≡ None

@@ -1,7 +1,8 @@
 -- The parts of a board as a state.
-use Rattle.std.specs.Prelude.{ℕ, ◌+◌, ◌≤◌, List, [], Option, length}
+use Rattle.std.specs.Prelude.{ℕ, ◌+◌, ◌*◌, ◌≤◌, List, [], Option, length}
 use Rattle.std.specs.declared.dyn_box.DynBox.{DynBox}
 use Rattle.std.specs.declared.alloc.Global.{Global}
+use Rattle.wind_base.specs.Limits.{longest_chunk}
 use Rattle.wind_outside.specs.Devices.{DeviceState, slots_of}
 use Rattle.wind_outside.specs.declared.device.Device.{Ghosts}
 use Rattle.wind_outside.specs.declared.device.DeviceKind.{DeviceKind}
@@ -33,8 +34,15 @@ parts_by kind_of words_of p = parts_with (slots_of kind_of words_of p.world.bus.
 abbrev pub parts_seen : {I : Type 0} {X : I → Type 0} → ((i : I) → Ghosts (X i)) → Parts I X → State
 parts_seen devices p = parts_by (λ d. (devices d.vtable).kind_of d.value) (λ d. (devices d.vtable).words_of d.value) p
 
--- each of the two buffers has room for what a step writes: a byte of the console echoes at most three bytes, and a
--- newline may be supplied after a chunk
+-- the most that a step writes: each byte of a chunk echoes at most three bytes, and a newline may be supplied after it
+abbrev pub most_output : ℕ
+most_output = 3 * (longest_chunk + 1)
+
+-- the most order numbers that a chunk takes: two for each byte, and for a newline that is supplied
+abbrev pub chunk_sinces : ℕ
+chunk_sinces = 2 * (longest_chunk + 1)
+
+-- each of the two buffers has room for what a step writes
 pub record IsSpacious {I : Type 0} {X : I → Type 0} (p : Parts I X) : Type 0 where
-  pub out : 12291 ≤ p.world.out.room + length p.world.out.bytes
-  pub spare : 12291 ≤ p.spare.room + length p.spare.bytes
+  pub out : most_output ≤ p.world.out.room + length p.world.out.bytes
+  pub spare : most_output ≤ p.spare.room + length p.spare.bytes

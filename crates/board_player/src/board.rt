@@ -13,7 +13,7 @@ use crate::order::{Known, is_early, make, next};
 use crate::parts::Parts;
 use board_actors::{Feed, Shell};
 use con_line::Console;
-use live_loading::{FileAnswer, World};
+use live_loading::{FileAnswer, Reply, World};
 use std::alloc::Global;
 use tick_file::{Event, Schedule};
 use wind_base::limits::CHUNK_BYTES;
@@ -29,7 +29,7 @@ const OUTPUT_BYTES: u32 = 3 * (CHUNK_BYTES as u32 + 1);
 #[derive(Drop)]
 pub struct Board {
     parts: Parts,
-    // who makes the next step, if that is known from the step before
+    // who makes the next step, if that is known from the step before, and that step's reply
     known: Known,
     ghost good: { Good (inside parts) } by { Prim.hlevel (props, Laid-prop, IsServable-prop) },
     ghost space: { IsSpacious parts },
@@ -37,10 +37,10 @@ pub struct Board {
 }
 
 impl Board {
-    ghost use Rattle.std.specs.Prelude.{IfOk, IfErr};
+    ghost use Rattle.std.specs.Prelude.{IfOk, IfErr, None};
     ghost use Rattle.wind_outside.specs.Devices.{slots_of};
     ghost use Rattle.live_loading.specs.KernelWorldSeen.{world_seen};
-    ghost use Rattle.board_player.specs.Seen.{seen};
+    ghost use Rattle.board_player.specs.Seen.{seen, last_reply};
     ghost use Rattle.wind_machine.specs.Machine.{opening};
     ghost use Rattle.wind_base.specs.Limits.{most_slots};
 
@@ -58,6 +58,7 @@ impl Board {
         requires { length slots.items ≤ most_slots }
         ensures ok { IfOk result (λ made. seen ⟦<dyn Device as Device>⟧ made
             ≡ opening console.items schedule (slots_of kind_of words_of slots.items) profile board) }
+        ensures reply { IfOk result (λ made. last_reply made ≡ None) }
         ensures err { IfErr result (λ back. back ≡ slots) }
     {
         step_law();
@@ -102,12 +103,13 @@ impl Board {
     ghost use Rattle.std.specs.Prelude.{◌≢◌, ◌↔◌, ◌<◌, ◌≤◌, ◌-◌, ◌^◌, ℕ, Some, None, IfSome, OnOk, OnErr, true};
     ghost use Rattle.std.specs.List.{All};
     ghost use Rattle.wind_base.specs.Limits.{most_steps};
-    ghost use Rattle.wind_machine.specs.{LiveLoadingSaid.said_of, Extending.{extended, more_of}, Silent.SilentSteps, Interrupts.StepsSlot, Machine.{file_asked, machine_step, Steps, IsOver, may_exhaust_memory}};
-    ghost use Rattle.board_player.specs.{Asking.needed, Seen.seen};
+    ghost use Rattle.wind_machine.specs.{LiveLoadingSaid.{FileSaid, said_of}, Extending.{extended, more_of}, Silent.SilentSteps, Interrupts.{IsRemoval, OnlyRemovesIn, StepsSlot}, Next.{next as next_lem}, Machine.{file_asked, machine_step, Steps, IsOver, may_exhaust_memory}, Replies.step_reply};
+    ghost use Rattle.board_player.specs.{Asking.needed, Seen.{seen, last_reply}};
     ghost use Rattle.board_player.specs.declared.Step.TheVariants as steps;
 
     /// Makes the next step, if there is one and it needs no file. Host memory may run out only if
-    /// the state permits it. Unless the step is made, nothing changes.
+    /// the state permits it. Unless the step is made, nothing changes, except that the board has no
+    /// reply.
     #[tactic(auto, using(crate::proofs::Answering::is_over, crate::proofs::Answering::asked_is))]
     #[inline(always)]
     pub fn step(&mut self) -> Step
@@ -118,6 +120,12 @@ impl Board {
             ≡ (seen ⟦<dyn Device as Device>⟧ self.old).steps + 1 }
         ensures slots { result ≡ steps.Stepped → (i : ℕ) → StepsSlot (seen ⟦<dyn Device as Device>⟧ self.old)
             (seen ⟦<dyn Device as Device>⟧ self.new) i }
+        ensures removal { result ≡ steps.Stepped → (who i : ℕ)
+            → IsRemoval (seen ⟦<dyn Device as Device>⟧ self.old) (next_lem (seen ⟦<dyn Device as Device>⟧ self.old)) who i
+            → OnlyRemovesIn (seen ⟦<dyn Device as Device>⟧ self.old) (seen ⟦<dyn Device as Device>⟧ self.new) who i }
+        ensures reply { result ≡ steps.Stepped → (said : FileSaid)
+            → last_reply self.new ≡ step_reply said (seen ⟦<dyn Device as Device>⟧ self.old) }
+        ensures no_reply { result ≢ steps.Stepped → last_reply self.new ≡ None }
         ensures quiet { (result ≡ steps.Quiet) ↔ IsOver (seen ⟦<dyn Device as Device>⟧ self.old) }
         ensures file { IfSome (needed result)
             (λ name. file_asked (seen ⟦<dyn Device as Device>⟧ self.old) ≡ Some name) }
@@ -137,9 +145,9 @@ impl Board {
         make(&mut self.parts, &mut self.known, next)
     }
 
-    /// Makes at most `most` steps at once: instructions of the task or routine that is known to make
-    /// the next steps. They need no file and write nothing. Returns how many it made, which may
-    /// always be 0; only `step` tells what the next step is.
+    /// Makes at most `most` steps at once: instructions of the task or routine that is known to
+    /// make the next steps. They need no file and write nothing. Returns how many it made, which
+    /// may always be 0; only `step` tells what the next step is. The board has no reply afterwards.
     #[tactic(auto, using(crate::proofs::TaskBursts::holds_on))]
     #[inline(always)]
     pub fn burst(&mut self, most: u64) -> u64
@@ -147,8 +155,10 @@ impl Board {
         ensures made { SilentSteps result (seen ⟦<dyn Device as Device>⟧ self.old)
             (seen ⟦<dyn Device as Device>⟧ self.new) }
         ensures within { result ≤ most }
+        ensures reply { last_reply self.new ≡ None }
     {
-        if matches!(self.known, Known::Nothing) {
+        if !self.known.is_of_next() {
+            self.known = Known::Nothing;
             return 0;
         }
         step_law();
@@ -157,7 +167,7 @@ impl Board {
     }
 
     /// Makes the next step, which loads the file with this name, given what is said of that file.
-    /// If host memory runs out, nothing changes.
+    /// If host memory runs out, nothing changes, except that the board has no reply.
     pub fn step_load(&mut self, name: &Name, file: &FileAnswer) -> Result<(), NoMemory>
         requires few { (seen ⟦<dyn Device as Device>⟧ self.old).steps < most_steps }
         requires asked { file_asked (seen ⟦<dyn Device as Device>⟧ self.old) ≡ Some name.now }
@@ -167,6 +177,9 @@ impl Board {
             ≡ (seen ⟦<dyn Device as Device>⟧ self.old).steps + 1) }
         ensures slots { OnOk result ((i : ℕ) → StepsSlot (seen ⟦<dyn Device as Device>⟧ self.old)
             (seen ⟦<dyn Device as Device>⟧ self.new) i) }
+        ensures reply { OnOk result (last_reply self.new
+            ≡ step_reply (said_of file.now) (seen ⟦<dyn Device as Device>⟧ self.old)) }
+        ensures no_reply { OnErr result (last_reply self.new ≡ None) }
         ensures no_memory { OnErr result (may_exhaust_memory (seen ⟦<dyn Device as Device>⟧ self.old) ≡ true) }
         ensures unchanged { OnErr result (seen ⟦<dyn Device as Device>⟧ self.new
             ≡ seen ⟦<dyn Device as Device>⟧ self.old) }
@@ -176,7 +189,11 @@ impl Board {
         is_early(&self.parts);
         self.parts.world.irqs.facts();
         self.known = Known::Nothing;
-        load(&mut self.parts, name, file)
+        let Ok(reply) = load(&mut self.parts, name, file) else {
+            return Err(NoMemory);
+        };
+        self.known = Known::Called(reply);
+        Ok(())
     }
 
     /// Adds bytes to the console, after those that are left, and the event that line `line` of a
@@ -197,6 +214,7 @@ impl Board {
             (seen ⟦<dyn Device as Device>⟧ self.old)) }
         ensures err { OnErr result (seen ⟦<dyn Device as Device>⟧ self.new
             ≡ seen ⟦<dyn Device as Device>⟧ self.old) }
+        ensures reply { last_reply self.new ≡ last_reply self.old }
     {
         self.parts.feed.add(bytes)?;
         if self.parts.schedule.add(line, time, event).is_err() {
@@ -204,6 +222,14 @@ impl Board {
             return Err(NoMemory);
         }
         Ok(())
+    }
+
+    /// The reply to the last step's kernel call, if it made one. For a call that pends it is
+    /// `Later`, since the caller is answered at the end of its wait.
+    pub fn reply(&self) -> Option<Reply>
+        ensures { result ≡ last_reply self.now }
+    {
+        self.known.reply()
     }
 
     /// The bytes that the last step wrote.

@@ -8,7 +8,8 @@ ghost use Rattle.wind_machine.specs.Good.{Good};
 ghost use Rattle.wind_machine.specs.Silent.{SilentSteps};
 ghost use Rattle.wind_machine.specs.Events.{next_event};
 ghost use Rattle.wind_machine.specs.Next.{is_open as is_open_lem, console_is_due as console_is_due_lem};
-ghost use Rattle.wind_machine.specs.declared.phase.Phase.TheVariants as phases;
+ghost use Rattle.wind_machine.specs.ActorSteps.{IsOnProcessor};
+ghost use Rattle.live_loading.specs.KernelWorldActor.TheVariants as actors;
 ghost use Rattle.board_player.specs.Inside.{inside, parts_seen, IsSpacious};
 ghost use Rattle.board_player.specs.Bursts.{RunsOn, RoutineRunsOn, HasRoom};
 ghost use Rattle.board_player.specs.Knowing.{may_deliver as may_deliver_lem};
@@ -26,7 +27,7 @@ use wind_outside::Device;
 // Whether a task's steps are instructions and kernel calls. For the shell's task, they are only
 // during a call.
 fn makes_instructions(parts: &Parts, who: Ident) -> bool
-    ensures { result ≡ true → who ≡ 1 → parts.now.shell.phase ≡ phases.Call }
+    ensures { result ≡ true → IsOnProcessor parts.now.shell.phase (actors.Task who) }
 {
     who != Ident::shell() || matches!(parts.shell.phase(), Phase::Call)
 }
@@ -173,7 +174,7 @@ pub(crate) fn burst(parts: &mut Parts, known: Known, most: u64) -> u64
     ensures known { IsKnown parts.new.world.kern parts.new.world.watch.level known }
 {
     match known {
-        Known::Nothing => 0,
+        Known::Nothing | Known::Called(_) => 0,
         Known::Runner(now) => burst_of_task(parts, now, most),
         Known::Routine => burst_of_routine(parts, most),
     }

@@ -7,8 +7,9 @@ ghost use Rattle.live_loading.specs.KernelWorldActor.TheVariants as actors;
 ghost use Rattle.wind_machine.specs.LiveLoadingSaid.{said_of};
 ghost use Rattle.wind_machine.specs.Good.{Good};
 ghost use Rattle.wind_machine.specs.declared.phase.Phase.TheVariants as phases;
-ghost use Rattle.wind_machine.specs.ActorSteps.{file_in, file_for as file_for_lem, load_step};
+ghost use Rattle.wind_machine.specs.ActorSteps.{file_in, file_for as file_for_lem, load_step, shell_world};
 ghost use Rattle.wind_machine.specs.Machine.{file_asked, settled_state};
+ghost use Rattle.wind_machine.specs.LiveLoadingReplies.{load_reply};
 ghost use Rattle.wind_machine.specs.Processor.{gate_under};
 ghost use Rattle.board_player.specs.Inside.{inside, parts_seen, IsSpacious};
 ghost use Rattle.board_player.specs.Settling.{CanSettle};
@@ -18,7 +19,7 @@ use crate::settling::settle;
 use crate::task_steps::end;
 use board_actors::{counter, drop_own, give_back, start_revocable_step};
 use id_table::Ident;
-use live_loading::{Actor, FileAnswer, file_wanted, gate_at, kernel_load};
+use live_loading::{Actor, FileAnswer, Reply, file_wanted, gate_at, kernel_load};
 use wind_base::{Gate, Name, NoMemory};
 use wind_machine::Phase;
 use wind_outside::Device;
@@ -82,33 +83,35 @@ pub(crate) fn file_for(parts: &Parts, who: Ident) -> Result<Option<Name>, NoMemo
     }
 }
 
-// The shell's task loads the file with this name, given what is said of that file. If memory runs
-// out, nothing changes.
+// The shell's task loads the file with this name, given what is said of that file. Returns the
+// reply. If memory runs out, nothing changes.
 #[tactic(auto, using(crate::proofs::Beginning::good_world, crate::proofs::Asked::wanted, crate::proofs::Asked::asker_ready))]
-fn load_file(parts: &mut Parts, name: &Name, file: &FileAnswer) -> Result<(), NoMemory>
+fn load_file(parts: &mut Parts, name: &Name, file: &FileAnswer) -> Result<Reply, NoMemory>
     requires good { Good (inside parts.old) }
     requires few { parts.old.clock.steps < most_steps }
     requires space { IsSpacious parts.old }
     requires asked { file_asked (parts_seen ⟦<dyn Device as Device>⟧ parts.old) ≡ Some name.now }
     ensures ok { OnOk result (parts_seen ⟦<dyn Device as Device>⟧ parts.new
         ≡ load_step (said_of file.now) (parts_seen ⟦<dyn Device as Device>⟧ parts.old) name.now) }
+    ensures reply { IfOk result (λ r. r ≡ load_reply
+        (shell_world (parts_seen ⟦<dyn Device as Device>⟧ parts.old)) (said_of file.now)) }
     ensures err { OnErr result (parts_seen ⟦<dyn Device as Device>⟧ parts.new
         ≡ parts_seen ⟦<dyn Device as Device>⟧ parts.old) }
     ensures space { IsSpacious parts.new }
 {
     let kept = start_revocable_step(&mut parts.world, &mut parts.spare, Ident::shell());
-    if kernel_load(parts.alloc, &mut parts.world, name, file).is_err() {
+    let Ok(reply) = kernel_load(parts.alloc, &mut parts.world, name, file) else {
         give_back(&mut parts.world, &mut parts.spare, kept);
         return Err(NoMemory);
-    }
+    };
     drop_own(&mut parts.world.kern, Ident::shell());
     end(parts, Ident::shell());
-    Ok(())
+    Ok(reply)
 }
 
 /// The shell's task loads the file with this name, given what is said of that file, and priorities
-/// are settled. If memory runs out, nothing changes.
-pub(crate) fn load(parts: &mut Parts, name: &Name, file: &FileAnswer) -> Result<(), NoMemory>
+/// are settled. Returns the reply. If memory runs out, nothing changes.
+pub(crate) fn load(parts: &mut Parts, name: &Name, file: &FileAnswer) -> Result<Reply, NoMemory>
     requires good { Good (inside parts.old) }
     requires few { parts.old.clock.steps < most_steps }
     requires space { IsSpacious parts.old }
@@ -116,11 +119,13 @@ pub(crate) fn load(parts: &mut Parts, name: &Name, file: &FileAnswer) -> Result<
     requires left { CanSettle (load_step (said_of file.now) (parts_seen ⟦<dyn Device as Device>⟧ parts.old) name.now) }
     ensures ok { OnOk result (parts_seen ⟦<dyn Device as Device>⟧ parts.new
         ≡ settled_state (load_step (said_of file.now) (parts_seen ⟦<dyn Device as Device>⟧ parts.old) name.now)) }
+    ensures reply { IfOk result (λ r. r ≡ load_reply
+        (shell_world (parts_seen ⟦<dyn Device as Device>⟧ parts.old)) (said_of file.now)) }
     ensures err { OnErr result (parts_seen ⟦<dyn Device as Device>⟧ parts.new
         ≡ parts_seen ⟦<dyn Device as Device>⟧ parts.old) }
     ensures space { IsSpacious parts.new }
 {
-    load_file(parts, name, file)?;
+    let reply = load_file(parts, name, file)?;
     settle(parts);
-    Ok(())
+    Ok(reply)
 }

@@ -1,9 +1,10 @@
 //! What comes next, and making that step.
 
-ghost use Rattle.std.specs.Prelude.{◌≡◌, ◌≢◌, ◌↔◌, ◌^◌, ◌<◌, true, None, Some, Ok, IfOk, IfSome, IsSome, nat_le, if◌then◌else◌, not, option_map, OnOk, OnErr};
+ghost use Rattle.std.specs.Prelude.{◌≡◌, ◌≢◌, ◌↔◌, ◌^◌, ◌<◌, true, None, Some, Option, Ok, IfOk, IfSome, IsSome, nat_le, if◌then◌else◌, not, option_map, OnOk, OnErr};
 ghost use Rattle.wind_base.specs.Limits.{most_steps};
 ghost use Rattle.tick_file.specs.Laws.{IsEarly};
-ghost use Rattle.wind_core.specs.State.{Lives, task_id};
+ghost use Rattle.wind_base.specs.declared.regs.Regs.{Regs};
+ghost use Rattle.wind_core.specs.State.{KernState, Lives, task_id};
 ghost use Rattle.wind_core.specs.Orders.{running as running_lem};
 ghost use Rattle.live_loading.specs.KernelWorldObjects.{IsReady};
 ghost use Rattle.wind_machine.specs.LiveLoadingSaid.{FileSaid};
@@ -12,14 +13,17 @@ ghost use Rattle.wind_machine.specs.Events.{next_event};
 ghost use Rattle.wind_machine.specs.ActorSteps.{step_of, routine_step as routine_step_lem, file_for as file_for_lem};
 ghost use Rattle.wind_machine.specs.Next.{due_delivery as due_delivery_lem, occupied as occupied_lem, due_event as due_event_lem, event_of, console_is_due as console_is_due_lem, is_open as is_open_lem, is_active as is_active_lem, holds_back, task_next as task_next_lem, next as next_lem};
 ghost use Rattle.wind_machine.specs.Machine.{state_after, settled_state, file_of, who_may, next_may, may_exhaust_memory};
+ghost use Rattle.wind_machine.specs.Replies.{act_reply, reply_after, routine_reply};
 ghost use Rattle.wind_machine.specs.declared.next.Next.TheVariants as nexts;
 ghost use Rattle.board_bus.specs.Seen.{bus_seen};
 ghost use Rattle.dev_irq.specs.State.{next as next_delivery};
+ghost use Rattle.board_actors.specs.StepReply.{reply_of};
 ghost use Rattle.board_actors.specs.declared.step_kind.StepKind.TheVariants as kinds;
 ghost use Rattle.board_player.specs.Inside.{inside, parts_seen, IsSpacious};
 ghost use Rattle.board_player.specs.Asking.{needed};
 ghost use Rattle.board_player.specs.Going.{IsKnown, OnlyStepped};
 ghost use Rattle.board_player.specs.Knowing.{jump_or_over as jump_or_over_lem, may_deliver as may_deliver_lem};
+ghost use Rattle.board_player.specs.Replies.{reply_known};
 ghost use Rattle.board_player.specs.Settling.{CanSettle, Makes};
 ghost use Rattle.board_player.specs.declared.Step.TheVariants as steps;
 
@@ -34,6 +38,7 @@ use crate::task_steps::run;
 use board_actors::{StepKind, waits_for_console};
 use board_bus::BoardBus;
 use id_table::Ident;
+use live_loading::Reply;
 use tick_file::Event;
 use wind_base::NoMemory;
 use wind_base::limits::SLOTS;
@@ -58,15 +63,47 @@ pub struct Running {
     pub(crate) is_open: bool,
 }
 
-/// What is known, from the step before, about who makes the next step.
+/// What is known from the step before: who makes the next step, and how its call was answered.
 #[derive(Clone, Copy, Debug, PartialEq, Eq)]
 pub enum Known {
     /// Nothing.
     Nothing,
+    /// The step before was a kernel call with this reply. Who makes the next step is unknown.
+    Called(Reply),
     /// No interrupt routine is active, and this task runs.
     Runner(Running),
     /// An interrupt routine is active, and no task has a reservation.
     Routine,
+}
+
+impl Known {
+    // What is known after a step that isn't an instruction; a call has a reply.
+    fn after(reply: Option<Reply>) -> Known
+        ensures reply { reply_known result ≡ reply }
+        ensures known { (k : KernState) (level : Option Regs) → IsKnown k level result }
+    {
+        match reply {
+            Some(reply) => Known::Called(reply),
+            None => Known::Nothing,
+        }
+    }
+
+    /// Whether it says who makes the next step.
+    pub(crate) fn is_of_next(self) -> bool
+        ensures { result ≡ true → reply_known self ≡ None }
+    {
+        matches!(self, Known::Runner(_) | Known::Routine)
+    }
+
+    /// The reply of the step before, if it was a kernel call.
+    pub(crate) fn reply(self) -> Option<Reply>
+        ensures { result ≡ reply_known self }
+    {
+        match self {
+            Known::Called(reply) => Some(reply),
+            Known::Nothing | Known::Runner(_) | Known::Routine => None,
+        }
+    }
 }
 
 // Finds which task runs, when that isn't known. If no task is ready, nobody runs.
@@ -102,7 +139,7 @@ fn who_runs(parts: &Parts, known: &Known) -> Running
 {
     match known {
         Known::Runner(now) => *now,
-        Known::Nothing | Known::Routine => ask(parts),
+        Known::Nothing | Known::Called(_) | Known::Routine => ask(parts),
     }
 }
 
@@ -187,6 +224,8 @@ fn run_task(parts: &mut Parts, who: Ident) -> Result<StepKind, NoMemory>
     requires asks { file_for_lem (parts_seen ⟦<dyn Device as Device>⟧ parts.old) who ≡ None }
     ensures ok { OnOk result (parts_seen ⟦<dyn Device as Device>⟧ parts.new
         ≡ step_of (parts_seen ⟦<dyn Device as Device>⟧ parts.old) who) }
+    ensures reply { IfOk result (λ kind. reply_of kind
+        ≡ act_reply (parts_seen ⟦<dyn Device as Device>⟧ parts.old) who) }
     ensures memory { OnErr result (who_may (parts_seen ⟦<dyn Device as Device>⟧ parts.old) who ≡ true) }
     ensures err { OnErr result (parts_seen ⟦<dyn Device as Device>⟧ parts.new
         ≡ parts_seen ⟦<dyn Device as Device>⟧ parts.old) }
@@ -212,14 +251,15 @@ fn act_routine(parts: &mut Parts) -> Known
     requires left { CanSettle (routine_step_lem (parts_seen ⟦<dyn Device as Device>⟧ parts.old)) }
     ensures step { parts_seen ⟦<dyn Device as Device>⟧ parts.new
         ≡ settled_state (routine_step_lem (parts_seen ⟦<dyn Device as Device>⟧ parts.old)) }
+    ensures reply { reply_known result ≡ routine_reply (parts_seen ⟦<dyn Device as Device>⟧ parts.old) }
     ensures known { IsKnown parts.new.world.kern parts.new.world.watch.level result }
     ensures space { IsSpacious parts.new }
 {
     match step_routine(parts) {
         StepKind::Instruction => Known::Routine,
-        StepKind::Other => {
+        StepKind::Other(reply) => {
             settle(parts);
-            Known::Nothing
+            Known::after(reply)
         }
     }
 }
@@ -247,7 +287,7 @@ fn is_active(parts: &Parts, known: &Known) -> bool
     ensures { result ≡ is_active_lem (parts_seen ⟦<dyn Device as Device>⟧ parts.now).world }
 {
     match known {
-        Known::Nothing => parts.world.watch.active(),
+        Known::Nothing | Known::Called(_) => parts.world.watch.active(),
         Known::Runner(_) => false,
         Known::Routine => true,
     }
@@ -283,6 +323,7 @@ pub(crate) fn next(parts: &Parts, known: &mut Known) -> Result<Next, NoMemory>
     ensures next { IfOk result (λ n. n ≡ next_lem (parts_seen ⟦<dyn Device as Device>⟧ parts.now)) }
     ensures memory { OnErr result (may_exhaust_memory (parts_seen ⟦<dyn Device as Device>⟧ parts.now) ≡ true) }
     ensures known { IsKnown parts.now.world.kern parts.now.world.watch.level known.new }
+    ensures unreplied { result ≢ Ok nexts.Routine → reply_known known.new ≡ None }
 {
     if is_active(parts, known) {
         return Ok(Next::Routine);
@@ -316,8 +357,12 @@ fn act(parts: &mut Parts, known: &mut Known, who: Ident) -> Step
     requires next { nexts.Act who ≡ next_lem (parts_seen ⟦<dyn Device as Device>⟧ parts.old) }
     requires left { CanSettle (step_of (parts_seen ⟦<dyn Device as Device>⟧ parts.old) who) }
     requires known { IsKnown parts.old.world.kern parts.old.world.watch.level known.old }
+    requires unreplied { reply_known known.old ≡ None }
     ensures stepped { result ≡ steps.Stepped → parts_seen ⟦<dyn Device as Device>⟧ parts.new
         ≡ settled_state (step_of (parts_seen ⟦<dyn Device as Device>⟧ parts.old) who) }
+    ensures reply { result ≡ steps.Stepped → reply_known known.new
+        ≡ act_reply (parts_seen ⟦<dyn Device as Device>⟧ parts.old) who }
+    ensures no_reply { result ≢ steps.Stepped → reply_known known.new ≡ None }
     ensures either { result ≢ steps.Quiet }
     ensures file { needed result ≡ None }
     ensures no_memory { result ≡ steps.NoMemory → who_may (parts_seen ⟦<dyn Device as Device>⟧ parts.old) who ≡ true }
@@ -328,8 +373,8 @@ fn act(parts: &mut Parts, known: &mut Known, who: Ident) -> Step
 {
     match run_task(parts, who) {
         Ok(StepKind::Instruction) => Step::Stepped,
-        Ok(StepKind::Other) => {
-            *known = Known::Nothing;
+        Ok(StepKind::Other(reply)) => {
+            *known = Known::after(reply);
             settle(parts);
             Step::Stepped
         }
@@ -341,7 +386,7 @@ fn act(parts: &mut Parts, known: &mut Known, who: Ident) -> Step
 }
 
 /// Makes the step that comes next, unless it is a load or the run is over. Unless the step is made,
-/// nothing changes. Notes what is known of who makes the step after it.
+/// nothing changes. Notes what is known of who makes the step after it, and the reply of a call.
 #[inline(always)]
 pub(crate) fn make(parts: &mut Parts, known: &mut Known, next: Next) -> Step
     requires good { Good (inside parts.old) }
@@ -351,8 +396,12 @@ pub(crate) fn make(parts: &mut Parts, known: &mut Known, next: Next) -> Step
     requires left { (said : FileSaid)
         → IfSome (state_after said (parts_seen ⟦<dyn Device as Device>⟧ parts.old) next) CanSettle }
     requires known { IsKnown parts.old.world.kern parts.old.world.watch.level known.old }
+    requires unreplied { next ≢ nexts.Routine → reply_known known.old ≡ None }
     ensures stepped { result ≡ steps.Stepped → Makes (parts_seen ⟦<dyn Device as Device>⟧ parts.old) next
         (parts_seen ⟦<dyn Device as Device>⟧ parts.new) }
+    ensures reply { result ≡ steps.Stepped → (said : FileSaid) → reply_known known.new
+        ≡ reply_after said (parts_seen ⟦<dyn Device as Device>⟧ parts.old) next }
+    ensures no_reply { result ≢ steps.Stepped → reply_known known.new ≡ None }
     ensures quiet { (result ≡ steps.Quiet) ↔ (next ≡ nexts.Over) }
     ensures file { needed result ≡ file_of next }
     ensures no_memory { result ≡ steps.NoMemory

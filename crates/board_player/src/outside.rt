@@ -7,7 +7,7 @@ ghost use Rattle.wind_machine.specs.Good.{Good};
 ghost use Rattle.board_bus.specs.Seen.{bus_seen};
 ghost use Rattle.wind_machine.specs.Events.{arrival, ticked, received, lines_raised, interrupted, event_step, delivery_step, jump as jump_lem};
 ghost use Rattle.wind_machine.specs.Next.{is_active, due_delivery};
-ghost use Rattle.board_player.specs.Inside.{inside, parts_seen, IsSpacious};
+ghost use Rattle.board_player.specs.Inside.{chunk_sinces, inside, parts_seen, IsSpacious};
 ghost use Rattle.board_player.specs.Moves.{heard_bytes};
 
 use crate::parts::Parts;
@@ -21,7 +21,7 @@ use wind_outside::Device;
 // Hears the next `len` bytes, and then a newline if one is supplied.
 fn hear_bytes(parts: &mut Parts, len: usize, is_unended: bool)
     requires live { Lives parts.old.world.kern 1 }
-    requires since { parts.old.world.kern.next_since + 8194 < 2 ^ 64 }
+    requires since { parts.old.world.kern.next_since + chunk_sinces < 2 ^ 64 }
     requires space { IsSpacious parts.old }
     requires short { len ≤ longest_chunk }
     requires within { len ≤ length parts.old.feed }
@@ -77,7 +77,7 @@ fn tick(parts: &mut Parts)
 // `n` bytes arrive, as the tick file asks.
 fn receive(parts: &mut Parts, n: u32)
     requires live { Lives parts.old.world.kern 1 }
-    requires since { parts.old.world.kern.next_since + 8194 < 2 ^ 64 }
+    requires since { parts.old.world.kern.next_since + chunk_sinces < 2 ^ 64 }
     requires few { parts.old.clock.steps < most_steps }
     requires space { IsSpacious parts.old }
     ensures step { parts_seen ⟦<dyn Device as Device>⟧ parts.new

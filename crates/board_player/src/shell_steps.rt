@@ -1,6 +1,6 @@
 //! A step of the shell's task, by the shell's phase.
 
-ghost use Rattle.std.specs.Prelude.{◌≡◌, ◌<◌, ◌≤◌, true, None, Ok, take, OnOk, OnErr};
+ghost use Rattle.std.specs.Prelude.{◌≡◌, ◌<◌, ◌≤◌, true, None, Ok, take, IfOk, OnOk, OnErr};
 ghost use Rattle.wind_base.specs.Limits.{most_steps, longest_line};
 ghost use Rattle.con_line.specs.Lines.{first_line};
 ghost use Rattle.live_loading.specs.KernelWorldObjects.{IsReady};
@@ -9,7 +9,9 @@ ghost use Rattle.wind_machine.specs.Good.{Good};
 ghost use Rattle.wind_machine.specs.Processor.{gate_under};
 ghost use Rattle.wind_machine.specs.ActorSteps.{prompt_step, read_step, eval_step, shell_step, file_for as file_for_lem};
 ghost use Rattle.wind_machine.specs.Machine.{gate_may, phase_may};
+ghost use Rattle.wind_machine.specs.Replies.{shell_reply};
 ghost use Rattle.wind_machine.specs.declared.phase.Phase.TheVariants as phases;
+ghost use Rattle.board_actors.specs.StepReply.{reply_of};
 ghost use Rattle.board_actors.specs.declared.step_kind.StepKind.TheVariants as kinds;
 ghost use Rattle.board_player.specs.Inside.{inside, parts_seen, IsSpacious};
 ghost use Rattle.board_player.specs.Going.{OnlyStepped};
@@ -116,6 +118,8 @@ pub(crate) fn run_shell(parts: &mut Parts) -> Result<StepKind, NoMemory>
     requires asks { file_for_lem (parts_seen ⟦<dyn Device as Device>⟧ parts.old) 1 ≡ None }
     ensures ok { OnOk result (parts_seen ⟦<dyn Device as Device>⟧ parts.new
         ≡ shell_step parts.old.shell.phase (parts_seen ⟦<dyn Device as Device>⟧ parts.old)) }
+    ensures reply { IfOk result (λ kind. reply_of kind
+        ≡ shell_reply parts.old.shell.phase (parts_seen ⟦<dyn Device as Device>⟧ parts.old)) }
     ensures memory { OnErr result (phase_may parts.old.shell.phase
         (gate_may (gate_under (parts_seen ⟦<dyn Device as Device>⟧ parts.old).world (actors.Task 1))) ≡ true) }
     ensures err { OnErr result (parts_seen ⟦<dyn Device as Device>⟧ parts.new
@@ -128,15 +132,15 @@ pub(crate) fn run_shell(parts: &mut Parts) -> Result<StepKind, NoMemory>
     match parts.shell.phase() {
         Phase::Prompt => {
             prompt(parts);
-            Ok(StepKind::Other)
+            Ok(StepKind::Other(None))
         }
         Phase::Read => {
             read(parts)?;
-            Ok(StepKind::Other)
+            Ok(StepKind::Other(None))
         }
         Phase::Eval => {
             evaluate(parts)?;
-            Ok(StepKind::Other)
+            Ok(StepKind::Other(None))
         }
         Phase::Call => run(parts, Ident::shell()),
     }

@@ -1,6 +1,6 @@
 //! A step of a task: what it does at a gate, or an instruction.
 
-ghost use Rattle.std.specs.Prelude.{◌≡◌, ◌^◌, ◌<◌, true, false, None, Ok, OnOk, OnErr};
+ghost use Rattle.std.specs.Prelude.{◌≡◌, ◌^◌, ◌<◌, true, false, None, Ok, IfOk, OnOk, OnErr};
 ghost use Rattle.wind_base.specs.Limits.{most_steps};
 ghost use Rattle.wind_base.specs.Boards.{board_rules};
 ghost use Rattle.wind_base.specs.Gates.{gate_at as gate_at_lem};
@@ -10,9 +10,10 @@ ghost use Rattle.live_loading.specs.KernelWorldActor.TheVariants as actors;
 ghost use Rattle.live_loading.specs.KernelWorldAllowed.{may_exhaust_memory as may_exhaust_memory_lem};
 ghost use Rattle.wind_machine.specs.Good.{Good};
 ghost use Rattle.wind_machine.specs.Processor.{gate_under, regs_of};
-ghost use Rattle.wind_machine.specs.ActorSteps.{task_step, file_for};
+ghost use Rattle.wind_machine.specs.ActorSteps.{IsOnProcessor, task_step, file_for};
 ghost use Rattle.wind_machine.specs.Machine.{gate_may};
-ghost use Rattle.wind_machine.specs.declared.phase.Phase.TheVariants as phases;
+ghost use Rattle.wind_machine.specs.Replies.{task_reply};
+ghost use Rattle.board_actors.specs.StepReply.{reply_of};
 ghost use Rattle.board_actors.specs.declared.step_kind.StepKind.TheVariants as kinds;
 ghost use Rattle.board_player.specs.Inside.{inside, parts_seen, IsSpacious};
 ghost use Rattle.board_player.specs.Going.{OnlyStepped, StandsAt};
@@ -23,7 +24,7 @@ use board_actors::{
     StepKind, at_gate, counter, execute, give_back, start_revocable_step, start_step,
 };
 use id_table::Ident;
-use live_loading::{Actor, gate_at, may_exhaust_memory};
+use live_loading::{Actor, Reply, gate_at, may_exhaust_memory};
 use wind_base::{Gate, NoMemory};
 use wind_outside::Device;
 
@@ -52,6 +53,7 @@ fn run_word(parts: &mut Parts, who: Ident, at: u32) -> StepKind
     requires gate { gate_at_lem (board_rules parts.old.world.board).gates_start at ≡ None }
     ensures step { parts_seen ⟦<dyn Device as Device>⟧ parts.new
         ≡ task_step (parts_seen ⟦<dyn Device as Device>⟧ parts.old) who }
+    ensures reply { reply_of result ≡ task_reply (parts_seen ⟦<dyn Device as Device>⟧ parts.old) who }
     ensures only { result ≡ kinds.Instruction → OnlyStepped parts.old.world.kern parts.new.world.kern who }
     ensures watch { result ≡ kinds.Instruction → parts.new.world.watch ≡ parts.old.world.watch }
     ensures objects { result ≡ kinds.Instruction → parts.new.world.objects ≡ parts.old.world.objects }
@@ -63,10 +65,10 @@ fn run_word(parts: &mut Parts, who: Ident, at: u32) -> StepKind
     kind
 }
 
-// What a task does at a gate whose call can't run out of memory.
+// What a task does at a gate whose call can't run out of memory. A call returns its reply.
 #[tactic(auto, using(crate::proofs::Beginning::good_world))]
 #[inline(never)]
-fn run_sure_gate(parts: &mut Parts, who: Ident, at: u32, gate: Gate)
+fn run_sure_gate(parts: &mut Parts, who: Ident, at: u32, gate: Gate) -> Option<Reply>
     requires good { Good (inside parts.old) }
     requires few { parts.old.clock.steps < most_steps }
     requires space { IsSpacious parts.old }
@@ -74,28 +76,38 @@ fn run_sure_gate(parts: &mut Parts, who: Ident, at: u32, gate: Gate)
     requires sure { may_exhaust_memory_lem gate ≡ false }
     ensures step { parts_seen ⟦<dyn Device as Device>⟧ parts.new
         ≡ task_step (parts_seen ⟦<dyn Device as Device>⟧ parts.old) who }
+    ensures reply { result ≡ task_reply (parts_seen ⟦<dyn Device as Device>⟧ parts.old) who }
     ensures space { IsSpacious parts.new }
 {
     let _ = at;
     let task = Actor::Task(who);
     start_step(&mut parts.world, who);
     match at_gate(parts.alloc, &mut parts.shell, &mut parts.world, &task, gate) {
-        Ok(()) => end(parts, who),
+        Ok(reply) => {
+            end(parts, who);
+            reply
+        }
         Err(NoMemory) => unreachable!(),
     }
 }
 
-// What a task does at a gate whose call may run out of memory. If it does, nothing changes: what
-// undoes the call is held until then.
+// What a task does at a gate whose call may run out of memory. A call returns its reply. If memory
+// runs out, nothing changes: what undoes the call is held until then.
 #[tactic(auto, using(crate::proofs::Beginning::good_world))]
 #[inline(never)]
-fn run_revocable_gate(parts: &mut Parts, who: Ident, at: u32, gate: Gate) -> Result<(), NoMemory>
+fn run_revocable_gate(
+    parts: &mut Parts,
+    who: Ident,
+    at: u32,
+    gate: Gate,
+) -> Result<Option<Reply>, NoMemory>
     requires good { Good (inside parts.old) }
     requires few { parts.old.clock.steps < most_steps }
     requires space { IsSpacious parts.old }
     requires stands { StandsAt (parts_seen ⟦<dyn Device as Device>⟧ parts.old) who at gate }
     ensures ok { OnOk result (parts_seen ⟦<dyn Device as Device>⟧ parts.new
         ≡ task_step (parts_seen ⟦<dyn Device as Device>⟧ parts.old) who) }
+    ensures reply { IfOk result (λ r. r ≡ task_reply (parts_seen ⟦<dyn Device as Device>⟧ parts.old) who) }
     ensures memory { OnErr result (may_exhaust_memory_lem gate ≡ true) }
     ensures err { OnErr result (parts_seen ⟦<dyn Device as Device>⟧ parts.new
         ≡ parts_seen ⟦<dyn Device as Device>⟧ parts.old) }
@@ -105,9 +117,9 @@ fn run_revocable_gate(parts: &mut Parts, who: Ident, at: u32, gate: Gate) -> Res
     let task = Actor::Task(who);
     let kept = start_revocable_step(&mut parts.world, &mut parts.spare, who);
     match at_gate(parts.alloc, &mut parts.shell, &mut parts.world, &task, gate) {
-        Ok(()) => {
+        Ok(reply) => {
             end(parts, who);
-            Ok(())
+            Ok(reply)
         }
         Err(NoMemory) => {
             give_back(&mut parts.world, &mut parts.spare, kept);
@@ -125,10 +137,12 @@ pub(crate) fn run(parts: &mut Parts, who: Ident) -> Result<StepKind, NoMemory>
     requires space { IsSpacious parts.old }
     requires live { Lives parts.old.world.kern who }
     requires ready { IsReady parts.old.world.kern who }
-    requires phase { who ≡ 1 → parts.old.shell.phase ≡ phases.Call }
+    requires phase { IsOnProcessor parts.old.shell.phase (actors.Task who) }
     requires asks { file_for (parts_seen ⟦<dyn Device as Device>⟧ parts.old) who ≡ None }
     ensures ok { OnOk result (parts_seen ⟦<dyn Device as Device>⟧ parts.new
         ≡ task_step (parts_seen ⟦<dyn Device as Device>⟧ parts.old) who) }
+    ensures reply { IfOk result (λ kind. reply_of kind
+        ≡ task_reply (parts_seen ⟦<dyn Device as Device>⟧ parts.old) who) }
     ensures memory { OnErr result (gate_may
         (gate_under (parts_seen ⟦<dyn Device as Device>⟧ parts.old).world (actors.Task who)) ≡ true) }
     ensures err { OnErr result (parts_seen ⟦<dyn Device as Device>⟧ parts.new
@@ -143,9 +157,8 @@ pub(crate) fn run(parts: &mut Parts, who: Ident) -> Result<StepKind, NoMemory>
         return Ok(run_word(parts, who, at));
     };
     if may_exhaust_memory(gate) {
-        run_revocable_gate(parts, who, at, gate)?;
-        return Ok(StepKind::Other);
+        let reply = run_revocable_gate(parts, who, at, gate)?;
+        return Ok(StepKind::Other(reply));
     }
-    run_sure_gate(parts, who, at, gate);
-    Ok(StepKind::Other)
+    Ok(StepKind::Other(run_sure_gate(parts, who, at, gate)))
 }

@@ -1,3 +1,4 @@
 mod Collecting
 mod Taking
 mod Reading
+mod InterruptKey

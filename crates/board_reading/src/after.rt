@@ -2,7 +2,7 @@
 
 ghost use Rattle.std.specs.Prelude.{◌≡◌, option_copied};
 ghost use Rattle.std.specs.Option.{option_map};
-ghost use Rattle.board_player.specs.Seen.{seen};
+ghost use Rattle.board_player.specs.Seen.{last_reply, seen};
 ghost use Rattle.board_trace.specs.Snapshots.{level_of as level_of_lem, after_step as after_step_lem};
 
 use crate::before::owner_named;
@@ -18,7 +18,7 @@ fn level_of(regs: Option<&Regs>) -> Option<Level>
     match regs {
         Some(regs) => Some(Level {
             pc: regs.pc,
-            answer: regs.gpr[3],
+            param: regs.gpr[3],
         }),
         None => None,
     }
@@ -26,7 +26,8 @@ fn level_of(regs: Option<&Regs>) -> Option<Level>
 
 /// Reads what a trace needs of a board after a step, besides its snapshot.
 pub fn look_after(before_step: &BeforeStep, board: &Board) -> AfterStep
-    ensures { result ≡ after_step_lem before_step.now (seen ⟦<dyn Device as Device>⟧ board.now) }
+    ensures { result ≡ after_step_lem before_step.now (last_reply board.now)
+        (seen ⟦<dyn Device as Device>⟧ board.now) }
 {
     let world = board.world();
     AfterStep {
@@ -34,7 +35,7 @@ pub fn look_after(before_step: &BeforeStep, board: &Board) -> AfterStep
         left: board.left().len() as u64,
         phase: board.phase(),
         level: level_of(world.watch.regs()),
-        errno: world.int_errno,
+        reply: board.reply(),
         owner: owner_named(world, &before_step.call),
     }
 }

@@ -1,16 +1,19 @@
 //! What is read of a board before its next step.
 
-ghost use Rattle.std.specs.Prelude.{◌≡◌, ◌<◌, IfOk, OnErr, true};
+ghost use Rattle.std.specs.Prelude.{◌≡◌, ◌<◌, ◌==◌, IfOk, OnErr, true};
+ghost use Rattle.std.specs.List.{list_any};
 ghost use Rattle.wind_base.specs.Limits.{most_steps};
 ghost use Rattle.kernel_world.specs.Seen.{world_seen};
 ghost use Rattle.board_trace.specs.WindMachineMachine.{actor_of, may_exhaust_memory};
 ghost use Rattle.board_player.specs.Seen.{seen};
-ghost use Rattle.board_trace.specs.Before.{before_step, call_there, counter_at, gate_there, is_on_processor as is_on_processor_lem, owner_named as owner_named_lem};
+ghost use Rattle.board_trace.specs.Before.{before_step, call_there, counter_at, gate_there, has_interrupt_key as has_interrupt_key_lem, is_on_processor as is_on_processor_lem, owner_named as owner_named_lem};
 
+use board_actors::{brought, chunk_len};
 use board_player::{Board, Next, Phase};
 use board_trace::{BeforeStep, mutex_of};
 use id_table::Ident;
 use kernel_world::{Actor, Call, World, caller_regs, gate_at, is_shell, read_call};
+use tick_file::Event;
 use wind_base::{Gate, NoMemory};
 use wind_outside::Device;
 
@@ -69,6 +72,34 @@ fn gate_there_at(world: &World, at: Option<u32>) -> Option<Gate>
     gate_at(world.board, at?)
 }
 
+// Whether one of these bytes is 0x03, the interrupt key's.
+fn has_interrupt(bytes: &[u8]) -> bool
+    ensures { result ≡ list_any (λ b. b == 3) bytes.now }
+{
+    bytes.iter().any(|byte| *byte == 0x03)
+}
+
+// Whether one of the bytes that an event brings is the interrupt key's. These bytes are left.
+fn brings_interrupt_key(event: Event, left: &[u8]) -> bool
+    ensures { result ≡ has_interrupt_key_lem (Next.Come event) left.now }
+{
+    match event {
+        Event::Rx(n) => has_interrupt(&left[..brought(left, n)]),
+        Event::Tick | Event::Irq(_) => false,
+    }
+}
+
+// Whether one of the bytes that arrive in a step is the interrupt key's. These bytes are left.
+fn has_interrupt_key(next: &Next, left: &[u8]) -> bool
+    ensures { result ≡ has_interrupt_key_lem next.now left.now }
+{
+    match next {
+        Next::Arrive => has_interrupt(&left[..chunk_len(left).0]),
+        Next::Come(event) => brings_interrupt_key(*event, left),
+        _ => false,
+    }
+}
+
 /// Reads what a trace needs of a board before its next step.
 pub fn look_before(board: &Board) -> Result<BeforeStep, NoMemory>
     requires { (seen ⟦<dyn Device as Device>⟧ board.now).steps < most_steps }
@@ -82,6 +113,8 @@ pub fn look_before(board: &Board) -> Result<BeforeStep, NoMemory>
     let gate = gate_there_at(world, at);
     let call = call_at(world, &next, gate);
     let owner = owner_named(world, &call);
+    let left = board.left();
+    let interrupt_key = has_interrupt_key(&next, left);
     Ok(BeforeStep {
         next,
         actor,
@@ -92,6 +125,7 @@ pub fn look_before(board: &Board) -> Result<BeforeStep, NoMemory>
         time: board.time(),
         step: board.steps() + 1,
         phase: board.phase(),
-        left: board.left().len() as u64,
+        left: left.len() as u64,
+        interrupt_key,
     })
 }

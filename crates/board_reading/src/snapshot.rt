@@ -1,20 +1,21 @@
 //! What a trace keeps of a state until the step after it is made.
 
-ghost use Rattle.std.specs.Prelude.{◌≡◌, ◌++◌, ◌∷◌, [], None, map, IfOk, OnOk};
+ghost use Rattle.std.specs.Prelude.{◌≡◌, ◌++◌, ◌∷◌, ◌+◌, ◌≤◌, [], None, true, map, take, length, max, IfOk, OnOk};
 ghost use Rattle.id_table.specs.Rows.{ids as ids_lem, objects as objects_lem};
 ghost use Rattle.kernel_world.specs.Seen.{world_seen};
-ghost use Rattle.board_changes.specs.Views.{view_of_watchdog};
+ghost use Rattle.board_changes.specs.Views.{view_of_task, view_of_watchdog};
 ghost use Rattle.board_trace.specs.Snapshots.{snapshot_of, view_in};
 ghost use Rattle.board_trace.specs.Views.{snapshot_state};
 
 use crate::waited::awaited_by;
-use board_changes::{TaskView, WatchdogView, task_view, watchdog_view};
+use board_changes::{Awaited, TaskView, WatchdogView, task_view, watchdog_view};
 use board_trace::Snapshot;
 use id_table::{Ident, Table};
 use isr_watch::Watchdog;
 use kernel_world::{Objects, World};
 use module_loader::Modules;
 use std::alloc::Global;
+use task_block::Task;
 use wind_base::NoMemory;
 use wind_base::limits::{MODULES, TASKS, WATCHDOGS};
 use wind_core::Kern;
@@ -30,14 +31,59 @@ fn add<T: Drop>(list: &mut Vec<T>, item: T) -> Result<(), NoMemory>
     Ok(())
 }
 
+// Whether this is the view of a task that waits for this.
+fn is_view_of(view: &TaskView, task: &Task, wait: &Option<Awaited>) -> bool
+    ensures { result ≡ true → view.now ≡ view_of_task wait.now task.now }
+{
+    view.id == task.id
+        && view.answer == task.regs.gpr[3]
+        && view.errno == task.errno
+        && view.pri == task.pri
+        && view.normal == task.normal
+        && view.suspended == task.suspended
+        && view.wake == task.wake
+        && view.wait == *wait
+        && view.name.bytes() == task.name.bytes()
+}
+
+// Makes this the view of a task that waits for this. Most views are it already, and a test costs less
+// than a copy.
+fn renew(view: &mut TaskView, task: &Task, wait: &Option<Awaited>)
+    ensures { view.new ≡ view_of_task wait.now task.now }
+{
+    if is_view_of(view, task, wait) {
+        return;
+    }
+    *view = task_view(task, *wait);
+}
+
+// Puts the view of a task at a place, which may be the one after the last.
+fn put_view(
+    views: &mut Vec<TaskView>,
+    place: usize,
+    task: &Task,
+    wait: &Option<Awaited>,
+) -> Result<(), NoMemory>
+    requires { place ≤ length views.old.items }
+    ensures put { OnOk result (take (place + 1) views.new.items
+        ≡ take place views.old.items ++ view_of_task wait.now task.now ∷ []) }
+    ensures len { OnOk result (length views.new.items ≡ max (length views.old.items) (place + 1)) }
+{
+    if place == views.len() {
+        return add(views, task_view(task, *wait));
+    }
+    renew(&mut views[place], task, wait);
+    Ok(())
+}
+
 // Takes the views of the tasks.
 fn take_tasks(views: &mut Vec<TaskView>, kern: &Kern, objects: &Objects) -> Result<(), NoMemory>
     ensures { OnOk result (views.new.items ≡ map (view_in objects.now) kern.now.tasks) }
 {
-    views.clear();
+    views.truncate(kern.live() as usize);
     for place in 0..kern.live() {
         let task = kern.task_at(place);
-        add(views, task_view(task, awaited_by(objects, task)))?;
+        put_view(views, place as usize, task, &awaited_by(objects, task))?;
     }
     Ok(())
 }

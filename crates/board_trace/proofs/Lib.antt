@@ -1,0 +1,3 @@
+mod Ending
+pub mod Naming
+pub mod Replying

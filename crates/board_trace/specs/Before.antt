@@ -1,9 +1,15 @@
 -- What is read of a state before the next step.
-use Rattle.std.specs.Prelude.{ℕ, ◌+◌, ◌||◌, not, Bool, true, false, if◌then◌else◌, length, Option, None, Some}
+use Rattle.std.specs.Prelude.{ℕ, ◌+◌, ◌||◌, not, Bool, true, false, if◌then◌else◌, List, [], length, take, Option, None, Some}
+use Rattle.std.specs.List.{list_any}
 use Rattle.wind_base.specs.Boards.{board_rules}
 use Rattle.wind_base.specs.Gates.{gate_at}
 use Rattle.wind_base.specs.declared.gate.Gate.{Gate}
 use Rattle.id_table.specs.Rows.{object_of}
+use Rattle.con_line.specs.State.{opening_console}
+use Rattle.con_line.specs.Keys.{byte_done}
+use Rattle.con_line.specs.declared.console.ByteDone.{ByteDone}
+use Rattle.con_line.specs.declared.console.ByteDone.TheVariants as done
+use Rattle.tick_file.specs.declared.event.Event.TheVariants.{Rx}
 use Rattle.inheritance.specs.Mutexes.{owner_in as owner_of}
 use Rattle.kernel_world.specs.State.{WorldState}
 use Rattle.kernel_world.specs.Actors.{is_shell}
@@ -12,9 +18,12 @@ use Rattle.kernel_world.specs.declared.actor.Actor.{Actor}
 use Rattle.kernel_world.specs.declared.call.Call.{Call}
 use Rattle.kernel_world.specs.declared.call.Call.TheVariants as calls
 use Rattle.wind_machine.specs.State.{State}
+use Rattle.wind_machine.specs.Feed.{chunk, brought}
 use Rattle.wind_machine.specs.Next.{next}
 use Rattle.wind_machine.specs.Machine.{actor_of}
 use Rattle.wind_machine.specs.Processor.{regs_of}
+use Rattle.wind_machine.specs.declared.next.Next.{Next}
+use Rattle.wind_machine.specs.declared.next.Next.TheVariants.{Come, Arrive}
 use Rattle.wind_machine.specs.declared.phase.Phase.{Phase}
 use Rattle.wind_machine.specs.declared.phase.Phase.TheVariants as phases
 use Rattle.board_trace.specs.declared.moment.BeforeStep.{BeforeStep}
@@ -70,6 +79,26 @@ owner_at w (Some id) = owner_in w id
 abbrev pub owner_named : WorldState → Option Call → Option ℕ
 owner_named w c = owner_at w (mutex_named c)
 
+-- the bytes that arrive in a step, of those that are left
+abbrev pub arriving : Next → List ℕ → List ℕ
+arriving Arrive left = chunk left
+arriving (Come (Rx n)) left = take (brought n) left
+arriving n left = []
+
+-- a byte did this: it aborted the shell
+abbrev pub has_aborted : ByteDone → Bool
+has_aborted done.Abort = true
+has_aborted done.Line = false
+has_aborted done.Kept = false
+
+-- the byte is the interrupt key's: it aborts the shell, as at any console, so at the opening one
+abbrev pub is_interrupt_byte : ℕ → Bool
+is_interrupt_byte b = has_aborted (byte_done opening_console b)
+
+-- one of the bytes that arrive is the interrupt key's
+abbrev pub has_interrupt_key : Next → List ℕ → Bool
+has_interrupt_key n left = list_any is_interrupt_byte (arriving n left)
+
 -- the same for what makes the next step of a state
 abbrev pub at_of : State → Option ℕ
 at_of s = counter_at s.shell.phase s.world (actor_of (next s))
@@ -93,4 +122,5 @@ before_step s = record {
   step = s.steps + 1;
   phase = s.shell.phase;
   left = length s.left;
+  interrupt_key = has_interrupt_key (next s) s.left;
 }

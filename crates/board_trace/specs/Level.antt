@@ -1,6 +1,5 @@
 -- Exceptions, aborts, and interrupt routines that begin and end.
-use Rattle.std.specs.Prelude.{ℕ, ◌==◌, ◌&&◌, ◌||◌, not, Bool, true, false, if◌then◌else◌, List, [], ◌∷◌, ◌++◌, Option, None, Some, is_some, is_none}
-use Rattle.wind_base.specs.Gates.{gate_number}
+use Rattle.std.specs.Prelude.{ℕ, ◌&&◌, ◌||◌, Bool, true, false, if◌then◌else◌, List, [], ◌∷◌, ◌++◌, Option, None, Some, is_some, is_none}
 use Rattle.wind_base.specs.declared.gate.Gate.{Gate}
 use Rattle.wind_base.specs.declared.gate.Gate.TheVariants as gates
 use Rattle.tick_file.specs.declared.event.Event.TheVariants.{Tick}
@@ -11,7 +10,6 @@ use Rattle.wind_machine.specs.declared.next.Next.{Next}
 use Rattle.wind_machine.specs.declared.next.Next.TheVariants.{Deliver, Come}
 use Rattle.wind_machine.specs.declared.phase.Phase.{Phase}
 use Rattle.wind_machine.specs.declared.phase.Phase.TheVariants as phases
-use Rattle.board_trace.specs.Outside.{is_hearing}
 use Rattle.board_trace.specs.declared.moment.BeforeStep.{BeforeStep}
 use Rattle.board_trace.specs.declared.moment.Level.{Level}
 use Rattle.board_trace.specs.declared.moment.AfterStep.{AfterStep}
@@ -37,10 +35,10 @@ abbrev pub is_of_shell : Option Actor → Bool
 is_of_shell None = false
 is_of_shell (Some who) = is_shell who
 
--- the shell's line is aborted, by bytes that arrive or by an exception of its task: the shell was not at its prompt
--- before, and is after
+-- the shell's line is aborted: bytes arrive and one of them is the interrupt key's, or the shell's task causes an
+-- exception, after which the shell is at its prompt
 abbrev pub is_abort : BeforeStep → AfterStep → Bool → Bool
-is_abort c r exception = not (is_idle c.phase) && (is_idle r.phase && (is_hearing c.next || (exception && is_of_shell c.actor)))
+is_abort c r exception = c.interrupt_key || (exception && (is_of_shell c.actor && is_idle r.phase))
 
 abbrev pub faults : BeforeStep → AfterStep → Bool → List Happening
 faults c r exception = (if exception then exception_told c.actor c.at else []) ++ (if is_abort c r exception then told.Abort ∷ [] else [])
@@ -55,7 +53,8 @@ is_of_level (Some Interrupt) = true
 -- the gate is the return of a routine
 abbrev pub is_return : Option Gate → Bool
 is_return None = false
-is_return (Some g) = gate_number g == gate_number gates.InterruptReturn
+is_return (Some gates.InterruptReturn) = true
+is_return (Some g) = false
 
 -- the active routine ends: it comes to its return, or causes an exception
 abbrev pub routine_ends : BeforeStep → Bool → Bool
@@ -71,7 +70,7 @@ may_begin n ends = ends
 abbrev pub begins : Bool → Option Level → List Happening
 begins false level = []
 begins true None = []
-begins true (Some l) = told.RoutineBegins l.pc l.answer ∷ []
+begins true (Some l) = told.RoutineBegins l.pc l.param ∷ []
 
 abbrev pub routines : BeforeStep → AfterStep → Bool → List Happening
 routines c r wrote =

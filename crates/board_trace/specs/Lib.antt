@@ -2,7 +2,7 @@ pub mod Views
 pub mod Waited
 pub mod Before
 pub mod Snapshots
-pub mod Replies
+pub mod Errors
 pub mod Outside
 pub mod Level
 pub mod Owners
@@ -10,6 +10,7 @@ pub mod Messages
 pub mod Steps
 pub mod Subjects
 pub mod Runs
+pub mod Laws
 pub mod Running
 pub use Rattle.wind_machine.specs.Silent as WindMachineSilent
 pub use Rattle.wind_machine.specs.Machine as WindMachineMachine

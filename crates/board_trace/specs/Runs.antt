@@ -2,6 +2,7 @@
 use Rattle.std.specs.Prelude.{ℕ, zero, suc, ◌+◌, ◌==◌, Bool, true, false, if◌then◌else◌, List, [], ◌∷◌, map, Option, None, Some}
 use Rattle.kernel_world.specs.declared.actor.Actor.{Actor}
 use Rattle.kernel_world.specs.declared.actor.Actor.TheVariants.{Task as by_task, Interrupt}
+use Rattle.wind_machine.specs.LiveLoadingSaid.{FileSaid}
 use Rattle.wind_machine.specs.State.{State}
 use Rattle.wind_machine.specs.Run.{Answers, after}
 use Rattle.board_trace.specs.Snapshots.{snapshot_of}
@@ -21,9 +22,9 @@ pub record Line : Type 0 where
 abbrev pub line_in : State → State → Happening → Line
 line_in s t h = record { time = s.time; step = s.steps + 1; name = subject_name (snapshot_of s.world) (snapshot_of t.world) h; what = h }
 
--- the lines of the step from one state to the next
-abbrev pub step_lines : State → State → List Line
-step_lines s t = map (line_in s t) (happenings s t)
+-- the lines of the step from one state to the next, given what was said of the file that it needs
+abbrev pub step_lines : FileSaid → State → State → List Line
+step_lines said s t = map (line_in s t) (happenings said s t)
 
 -- it is this task
 abbrev pub is_task : Actor → ℕ → Bool
@@ -60,4 +61,4 @@ with_lines (next ∷ others) made = with_lines others (with_line next made)
 -- the lines of the first k steps from s, the newest first
 abbrev pub lines_of : Answers → State → ℕ → List Line
 lines_of said s zero = []
-lines_of said s (suc k) = with_lines (step_lines (after said s k) (after said s (suc k))) (lines_of said s k)
+lines_of said s (suc k) = with_lines (step_lines (said k) (after said s k) (after said s (suc k))) (lines_of said s k)

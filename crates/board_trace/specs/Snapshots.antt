@@ -1,11 +1,12 @@
 -- The snapshot of a world, and what is read of a state after a step.
-use Rattle.std.specs.Prelude.{map, length, slice_index}
+use Rattle.std.specs.Prelude.{map, length, slice_index, Option}
 use Rattle.std.specs.Option.{option_map}
 use Rattle.id_table.specs.Rows.{ids}
 use Rattle.wind_base.specs.declared.regs.Regs.{Regs}
 use Rattle.task_block.specs.declared.task.Task.{Task}
 use Rattle.kernel_world.specs.State.{WorldState}
 use Rattle.kernel_world.specs.declared.objects.Objects.{Objects}
+use Rattle.kernel_world.specs.declared.reply.Reply.{Reply}
 use Rattle.wind_machine.specs.State.{State}
 use Rattle.board_changes.specs.Views.{view_of_task, view_of_watchdog}
 use Rattle.board_changes.specs.declared.view.TaskView.{TaskView}
@@ -31,15 +32,15 @@ snapshot_of w = record {
 
 -- the active routine, by its registers
 abbrev pub level_of : Regs → Level
-level_of r = record { pc = r.pc; answer = slice_index r.gpr 3 }
+level_of r = record { pc = r.pc; param = slice_index r.gpr 3 }
 
--- what is read of a state after the step
-abbrev pub after_step : BeforeStep → State → AfterStep
-after_step c t = record {
+-- what is read of a state after the step, with the reply to the step's call
+abbrev pub after_step : BeforeStep → Option Reply → State → AfterStep
+after_step c reply t = record {
   tick = t.world.kern.tick;
   left = length t.left;
   phase = t.shell.phase;
   level = option_map level_of t.world.watch.level;
-  errno = t.world.int_errno;
+  reply = reply;
   owner = owner_named t.world c.call;
 }

@@ -1,10 +1,11 @@
 -- What happens in a step, from what came next and the states before and after it.
 use Rattle.std.specs.Prelude.{ℕ, ◌&&◌, not, Bool, true, false, if◌then◌else◌, List, [], ◌∷◌, ◌++◌, map, Option, None, Some, is_some, is_none}
-use Rattle.wind_base.specs.declared.gate.Gate.{Gate}
 use Rattle.kernel_world.specs.declared.actor.Actor.{Actor}
 use Rattle.kernel_world.specs.declared.call.Call.{Call}
 use Rattle.kernel_world.specs.declared.reply.Reply.{Reply}
+use Rattle.wind_machine.specs.LiveLoadingSaid.{FileSaid}
 use Rattle.wind_machine.specs.State.{State}
+use Rattle.wind_machine.specs.Replies.{step_reply}
 use Rattle.wind_machine.specs.declared.next.Next.{Next}
 use Rattle.board_changes.specs.Tasks.{task_changes}
 use Rattle.board_changes.specs.Watchdogs.{watchdog_changes}
@@ -15,7 +16,6 @@ use Rattle.board_trace.specs.Level.{is_exception, faults, routines}
 use Rattle.board_trace.specs.Messages.{messages}
 use Rattle.board_trace.specs.Outside.{from_outside, is_hearing, switches}
 use Rattle.board_trace.specs.Owners.{owners}
-use Rattle.board_trace.specs.Replies.{reply_shown}
 use Rattle.board_trace.specs.Snapshots.{after_step, snapshot_of}
 use Rattle.board_trace.specs.Views.{SnapshotState, snapshot_state}
 use Rattle.board_trace.specs.declared.moment.BeforeStep.{BeforeStep}
@@ -33,15 +33,6 @@ changes n tick before after =
 -- the same, of what is read for a step
 abbrev pub changes_in : StepViews → List Change
 changes_in v = changes v.before_step.now.next v.after_step.now.tick (snapshot_state v.before.now) (snapshot_state v.after.now)
-
--- the reply to the call of the step, if it made one
-abbrev pub reply_by : Option Actor → Option Gate → SnapshotState → AfterStep → Option Reply
-reply_by (Some who) (Some g) after r = Some (reply_shown g who after r)
-reply_by None g after r = None
-reply_by (Some who) None after r = None
-
-abbrev pub reply_of : BeforeStep → SnapshotState → AfterStep → Option Reply
-reply_of c after r = reply_by c.actor c.gate after r
 
 -- the call with its words and its reply
 abbrev pub called : Option Actor → Option Call → Option Reply → List Happening
@@ -72,7 +63,7 @@ abbrev pub causes : BeforeStep → SnapshotState → SnapshotState → AfterStep
 causes c before after r written =
     from_outside c.next c r
     ++ (switches before.last after.last
-    ++ (called c.actor c.call (reply_of c after r)
+    ++ (called c.actor c.call r.reply
     ++ faults c r (is_exception c (has_written written))))
 
 -- the same, of what is read for a step
@@ -83,7 +74,7 @@ causes_in v = causes v.before_step.now (snapshot_state v.before.now) (snapshot_s
 abbrev pub effects : BeforeStep → SnapshotState → SnapshotState → AfterStep → List ℕ → List Happening
 effects c before after r written =
     owners c r
-    ++ (messages c (reply_of c after r) (changes c.next r.tick before after)
+    ++ (messages c r.reply (changes c.next r.tick before after)
     ++ (map told.Changed (changes c.next r.tick before after)
     ++ (routines c r (has_written written)
     ++ writes c.actor written)))
@@ -102,6 +93,7 @@ happenings_from c before after r written =
     if is_instruction c written then switches before.last after.last ++ instruction_of c.actor
     else step_happenings c before after r written
 
--- what happens in the step from one state to the next
-unfoldable pub happenings : State → State → List Happening
-happenings s t = happenings_from (before_step s) (snapshot_of s.world) (snapshot_of t.world) (after_step (before_step s) t) t.world.output
+-- what happens in the step from one state to the next, given what was said of the file that it needs
+unfoldable pub happenings : FileSaid → State → State → List Happening
+happenings said s t =
+    happenings_from (before_step s) (snapshot_of s.world) (snapshot_of t.world) (after_step (before_step s) (step_reply said s) t) t.world.output

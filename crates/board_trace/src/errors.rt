@@ -2,7 +2,7 @@
 
 ghost use Rattle.std.specs.Prelude.{◌≡◌, ◌==◌, find, option_copied};
 ghost use Rattle.wind_base.specs.Errno.{errno_number};
-ghost use Rattle.board_trace.specs.Replies.{errno_named as errno_named_lem};
+ghost use Rattle.board_trace.specs.Errors.{errno_named as errno_named_lem};
 
 use wind_base::Errno;
 

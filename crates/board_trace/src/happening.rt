@@ -1,9 +1,9 @@
 //! What happens in a step.
 
-use crate::bytes::Bytes;
 use board_changes::Change;
 use id_table::Ident;
 use kernel_world::{Actor, Call, Reply};
+use source_text::Text;
 use wind_base::Name;
 
 /// What happens in a step.
@@ -87,7 +87,7 @@ pub enum Happening {
     /// The step writes these bytes; a task or routine makes it, or bytes of the console arrive.
     Writes {
         who: Option<Actor>,
-        bytes: Bytes,
+        bytes: Text,
     },
     /// Consecutive instructions of one task or routine.
     Instructions {

@@ -79,9 +79,8 @@ fn is_of_shell(actor: Option<Actor>) -> bool
 pub(crate) fn is_abort(before_step: &BeforeStep, after_step: &AfterStep, exception: bool) -> bool
     ensures { result ≡ is_abort_lem before_step.now after_step.now exception }
 {
-    !is_idle(before_step.phase)
-        && is_idle(after_step.phase)
-        && (is_hearing(&before_step.next) || (exception && is_of_shell(before_step.actor)))
+    before_step.interrupt_key
+        || (exception && is_of_shell(before_step.actor) && is_idle(after_step.phase))
 }
 
 // Whether a step is one of the active routine.
@@ -95,10 +94,7 @@ fn is_of_level(actor: Option<Actor>) -> bool
 fn is_return(gate: Option<Gate>) -> bool
     ensures { result ≡ is_return_lem gate }
 {
-    match gate {
-        Some(gate) => gate.number() == Gate::InterruptReturn.number(),
-        None => false,
-    }
+    matches!(gate, Some(Gate::InterruptReturn))
 }
 
 // Whether the active routine ends: it comes to its return, or causes an exception.
@@ -128,7 +124,7 @@ fn add_begin(list: &mut Vec<Happening>, begins: bool, level: Option<Level>) -> R
             list,
             Happening::RoutineBegins {
                 entry: level.pc,
-                param: level.answer,
+                param: level.param,
             },
         ),
         (false, _) | (true, None) => Ok(()),

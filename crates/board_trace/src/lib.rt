@@ -2,10 +2,10 @@
 //! was read of the states before and after it.
 #![tactic(auto)]
 
-mod bytes;
 mod calls;
 mod errors;
 mod happening;
+mod laws;
 mod level;
 mod list;
 mod messages;
@@ -16,9 +16,9 @@ mod snapshot;
 mod step;
 mod who;
 
-pub use bytes::Bytes;
 pub use errors::errno_named;
 pub use happening::Happening;
+pub use laws::{error_law, reply_law, wait_end_law};
 pub use moment::{AfterStep, BeforeStep, Level, mutex_of};
 pub use snapshot::{Snapshot, view_of};
 pub use step::{StepViews, add_happenings, is_instruction};

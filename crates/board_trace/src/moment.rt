@@ -3,7 +3,7 @@
 ghost use Rattle.std.specs.Prelude.{◌≡◌};
 ghost use Rattle.board_trace.specs.Before.{mutex_of as mutex_of_lem};
 
-use kernel_world::{Actor, Call};
+use kernel_world::{Actor, Call, Reply};
 use wind_base::Gate;
 use wind_machine::{Next, Phase};
 
@@ -30,6 +30,8 @@ pub struct BeforeStep {
     pub phase: Phase,
     /// How many bytes of the console file haven't arrived yet.
     pub left: u64,
+    /// Whether bytes arrive in the step and one of them is the interrupt key's.
+    pub interrupt_key: bool,
 }
 
 /// The active interrupt routine.
@@ -37,8 +39,8 @@ pub struct BeforeStep {
 pub struct Level {
     /// Its program counter.
     pub pc: u32,
-    /// Its r3: after a call, the result.
-    pub answer: u32,
+    /// Its r3, which holds its parameter when it begins.
+    pub param: u32,
 }
 
 /// What is read of a state after the step, besides its snapshot.
@@ -52,8 +54,8 @@ pub struct AfterStep {
     pub phase: Phase,
     /// The active interrupt routine, if one is active.
     pub level: Option<Level>,
-    /// The last error number of the interrupt level.
-    pub errno: u32,
+    /// The reply to the step's call, if it made one.
+    pub reply: Option<Reply>,
     /// The owner of the mutex that the step's call names, if there is such a mutex and it has one.
     pub owner: Option<u32>,
 }

@@ -6,8 +6,7 @@ ghost use Rattle.board_trace.specs.Outside.{arrived, event_told, from_outside, i
 ghost use Rattle.board_trace.specs.Steps.{causes_in, changes_in, effects_in, happenings_from, has_written as has_written_lem, instruction_of, is_instruction as is_instruction_lem, writes};
 ghost use Rattle.board_trace.specs.declared.happening.Happening.TheVariants as told;
 
-use crate::bytes::Bytes;
-use crate::calls::{add_call, reply_of};
+use crate::calls::add_call;
 use crate::happening::Happening;
 use crate::level::{add_exception, add_if, add_routines, is_abort, is_exception, is_hearing};
 use crate::list::add;
@@ -18,6 +17,7 @@ use crate::snapshot::Snapshot;
 use board_changes::{Change, add_module_changes, add_task_changes, add_watchdog_changes};
 use id_table::Ident;
 use kernel_world::Actor;
+use source_text::Text;
 use std::alloc::Global;
 use tick_file::Event;
 use wind_base::NoMemory;
@@ -143,7 +143,7 @@ fn add_written(
     if written.is_empty() {
         return Ok(());
     }
-    let bytes = Bytes::copied(alloc, written)?;
+    let bytes = Text::new(alloc, written)?;
     add(list, Happening::Writes { who, bytes })
 }
 
@@ -183,11 +183,7 @@ fn add_causes(
     let (before_step, after_step) = (views.before_step, views.after_step);
     add_outside(alloc, list, before_step, after_step)?;
     add_switch(list, views.before, views.after)?;
-    add_call(
-        list,
-        before_step,
-        reply_of(before_step, views.after, after_step),
-    )?;
+    add_call(list, before_step, after_step.reply)?;
     let exception = is_exception(before_step, has_written(views.written));
     add_exception(list, exception, before_step)?;
     let aborts = is_abort(before_step, after_step, exception);
@@ -205,9 +201,8 @@ fn add_effects(
     ensures { OnOk result (list.new.items ≡ list.old.items ++ effects_in views.now) }
 {
     let (before_step, after_step) = (views.before_step, views.after_step);
-    let reply = reply_of(before_step, views.after, after_step);
     add_owners(list, before_step, after_step)?;
-    add_messages(list, before_step, reply, changes)?;
+    add_messages(list, before_step, after_step.reply, changes)?;
     add_changes(list, changes)?;
     add_routines(list, before_step, after_step, has_written(views.written))?;
     add_written(alloc, list, before_step.actor, views.written)

@@ -41,7 +41,9 @@ use Rattle.kernel_world.proofs.MsgQueueCalm.{calm_set, calm_then, calm_series}
 use Rattle.kernel_world.specs.Objects.{is_live, deletion_gate, WaitsRight, KeepsWaits, KeepsObjects, IsFree}
 use Rattle.kernel_world.specs.Actors.{MayCall}
 use Rattle.call_rows.specs.Ending as ending
-use Rattle.call_rows.specs.SafetyRows.{safe_row, unsafe_unless, unsafe_row, at_deletion, back_at_gate, deletes, meant, delete_row}
+use Rattle.call_rows.specs.TaskRows.{done, refused}
+use Rattle.call_rows.specs.Unless.{unless}
+use Rattle.call_rows.specs.SafetyRows.{safe_row, unsafe_row, at_deletion, back_at_gate, deletes, meant, delete_row}
 use Rattle.kernel_world.specs.declared.objects.Objects.{Objects}
 use Rattle.kernel_world.specs.declared.actor.Actor.{Actor}
 use Rattle.kernel_world.specs.declared.actor.Actor.TheVariants.{Task, Interrupt}
@@ -132,7 +134,7 @@ module _ {board : BoardKind} (k : KernState) (o : Objects) (is : IsKern k) (kept
   objects-safe_row Interrupt = kept
 
   pub objects-unsafe_row : (a : Actor) → KeepsObjects board (unsafe_row k a).kern o
-  objects-unsafe_row (Task who) = elim (unsafe_refusal (task_of k.tasks who)) as (λ r. KeepsObjects board (unsafe_unless r k who).kern o) [ Some e ↦ kept | None ↦ objects-lessen k o is kept who 1 ]
+  objects-unsafe_row (Task who) = elim (unsafe_refusal (task_of k.tasks who)) as (λ r. KeepsObjects board (unless r (refused k) (done (lessen k who 1))).kern o) [ Some e ↦ kept | None ↦ objects-lessen k o is kept who 1 ]
   objects-unsafe_row Interrupt = kept
 
   -- the end of a task

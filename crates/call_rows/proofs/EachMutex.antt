@@ -1,5 +1,5 @@
 -- What holds of each mutex after each row of semaphores and mutexes.
-use Rattle.std.proofs.Common.{◌≡◌, ℕ, ◌+◌, ◌-◌, true, false, not, cond, eqb, ltb, List, Option, None, Some, refl}
+use Rattle.std.proofs.Common.{◌≡◌, ℕ, ◌+◌, ◌-◌, true, not, eqb, List, Option, None, Some, refl}
 use Rattle.std.specs.List.{All}
 use Rattle.std.proofs.lemmas.List.Elements.{All-push, All-filter}
 use Rattle.wind_base.specs.declared.errno.Errno.{Errno}
@@ -14,6 +14,7 @@ use Rattle.kernel_world.specs.SemPlainCalls as plain
 use Rattle.kernel_world.specs.InheritanceMutex.{Mutex}
 use Rattle.kernel_world.specs.InheritanceMutexes.{mutex_place}
 use Rattle.kernel_world.specs.SemMutexCalls as mutex
+use Rattle.kernel_world.proofs.SemMutexDeeds.{TakeIs, take_is, GiveIs, give_is}
 use Rattle.kernel_world.specs.SemMutexMaking as making
 use Rattle.call_rows.specs.SemRows.{ObjectRow, refused, mutexes, is_mutex, binary_row, counting_row, mutex_row, take_row, give_row, flush_row, delete_row, priority_row}
 use Rattle.kernel_world.specs.declared.objects.Objects.{Objects}
@@ -56,24 +57,16 @@ module _ (k : KernState) (o : Objects) (L : ℕ → Type 0) (R : Mutex → Type 
   each-mutex options = on_mutex k o After stays options (λ v fine. All-push (λ (r : ℕ × Mutex). R r.1) o.mutexes.rows (k.next_id, making.new_mutex v) may.all (may.fresh v))
 
   -- ---- semTake: the caller may become an owner
-  taken_each : (who id m : ℕ) (v : Mutex) → L who → object_of o.mutexes.rows id ≡ Some v → (owner : Option ℕ) → Each (mutex.taken (mutexes k o) who id m v owner).mutexes
-  taken_each who id m v live found None = written id (mutex.owned who v) (may.taken who v live)
-  taken_each who id m v live found (Some x) =
-      elim (eqb x who) as (λ b. Each (cond b (mutex.deepen (mutexes k o) who id v) (mutex.await (mutexes k o) who id m v)).mutexes) [
-        | true ↦ written id (record v { depth = v.depth + 1 }) (may.deeper id v found)
-        | false ↦ may.all
-      ]
-
-  take_alone : (who id m : ℕ) → L who → Each (mutex.take_alone (mutexes k o) who id m (object_of o.mutexes.rows id)).mutexes
-  take_alone who id m live = go (object_of o.mutexes.rows id) refl where
-    go : (v : Option Mutex) → object_of o.mutexes.rows id ≡ v → Each (mutex.take_alone (mutexes k o) who id m v).mutexes
-    go None found = may.all
-    go (Some v) found = taken_each who id m v live found v.owner
+  taken_each : (who id m : ℕ) → L who → (d : mutex.TakeDeed) → TakeIs o.mutexes.rows who id m d → Each (mutex.after_take (mutexes k o) who id m d).mutexes
+  taken_each who id m live (mutex.declined e) said = may.all
+  taken_each who id m live (mutex.taken v) said = written id (mutex.owned who v) (may.taken who v live)
+  taken_each who id m live (mutex.retaken v) said = written id (record v { depth = v.depth + 1 }) (may.deeper id v said.0)
+  taken_each who id m live (mutex.starved v) said = may.all
 
   pub each-take : (a : Actor) (id m : ℕ) → ((who : ℕ) → a ≡ Task who → is_mutex o id ≡ true → L who) → After (take_row k o a id m)
   each-take a id m live =
       on_take k o After stays a id m
-      (λ who is there. on_mutex_take k o After stays who id m (λ fine. take_alone who id m (live who is there)))
+      (λ who is there. on_mutex_take k o After stays who id m (λ fine. taken_each who id m (live who is there) (mutex.take_deed who m (object_of o.mutexes.rows id)) (take_is o.mutexes.rows who id m)))
       (λ who other. on_plain_take k o After stays who id m (λ fine. may.all))
 
   -- ---- semGive: the first waiter may become an owner
@@ -81,20 +74,15 @@ module _ (k : KernState) (o : Objects) (L : ℕ → Type 0) (R : Mutex → Type 
   passed_each id v None first = written id (mutex.freed v) (may.freed v)
   passed_each id v (Some t) first = written id (mutex.owned t.id v) (may.passed id v t first)
 
-  give_alone : (who id : ℕ) → Each (mutex.give_alone (mutexes k o) who id (object_of o.mutexes.rows id)).mutexes
-  give_alone who id = go (object_of o.mutexes.rows id) refl where
-    go : (v : Option Mutex) → object_of o.mutexes.rows id ≡ v → Each (mutex.give_alone (mutexes k o) who id v).mutexes
-    go None found = may.all
-    go (Some v) found =
-        elim (ltb 1 v.depth) as (λ b. Each (cond b (mutex.shallow (mutexes k o) who id v) (mutex.give_up (mutexes k o) who id v)).mutexes) [
-          | true ↦ written id (record v { depth = v.depth - 1 }) (may.less id v found)
-          | false ↦ passed_each id v (first_waiter k.tasks (mutex_place id)) refl
-        ]
+  given_each : (who id : ℕ) (d : mutex.GiveDeed) → GiveIs o.mutexes.rows who id d → Each (mutex.after_give (mutexes k o) who id d).mutexes
+  given_each who id (mutex.denied e) said = may.all
+  given_each who id (mutex.lowered v) said = written id (record v { depth = v.depth - 1 }) (may.less id v said.0)
+  given_each who id (mutex.given_up v) said = passed_each id v (first_waiter k.tasks (mutex_place id)) refl
 
   pub each-give : (a : Actor) (id : ℕ) → After (give_row k o a id)
   each-give a id =
       on_give k o After stays a id
-      (λ who is there. on_mutex_give k o After stays who id (λ fine. give_alone who id))
+      (λ who is there. on_mutex_give k o After stays who id (λ fine. given_each who id (mutex.give_deed who (object_of o.mutexes.rows id)) (give_is o.mutexes.rows who id)))
       (λ other. on_plain_give k o After stays id (λ fine. may.all))
 
   -- ---- semFlush, semDelete and taskPrioritySet

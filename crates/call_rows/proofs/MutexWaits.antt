@@ -1,6 +1,5 @@
 -- What the calls on mutexes do to the kernel keeps its invariant and that of waits.
-use Rattle.std.proofs.Common.{◌≡◌, ℕ, ◌+◌, ◌-◌, ◌<◌, true, false, cond, not, ◌&&◌, eqb, ltb, List, Option, None, Some, is_some, refl, arith}
-use Rattle.std.proofs.lemmas.Bool.{eqb-false}
+use Rattle.std.proofs.Common.{◌≡◌, ℕ, ◌+◌, ◌-◌, ◌<◌, true, false, cond, not, eqb, List, Option, None, Some, is_some, refl, ap, arith}
 use Rattle.wind_base.specs.declared.board_kind.BoardKind.{BoardKind}
 use Rattle.wind_base.specs.declared.errno.Errno.{Errno}
 use Rattle.wind_base.specs.declared.errno.Errno.TheVariants as errors
@@ -20,7 +19,8 @@ use Rattle.kernel_world.specs.TaskSafetySafety.{safe_of, make_safe, lessen}
 use Rattle.kernel_world.specs.InheritanceMutex.{Mutex}
 use Rattle.kernel_world.specs.InheritanceMutexes.{MutexState, mutex_place}
 use Rattle.kernel_world.specs.InheritanceReach.{raised_kern}
-use Rattle.kernel_world.specs.SemMutexCalls.{at_once, followed, held_of, holding, guarded, eased, restored, less_held, dropped, letting_go, hand, deepen, await, taken, take_alone, take, is_others, take_refusal, freed, owned, pass_on, give_up, shallow, give_alone, give, ended, owner_ended, delete_alone, delete, pri_after, priority_alone, priority_set}
+use Rattle.kernel_world.specs.SemMutexCalls.{at_once, followed, held_of, holding, guarded, eased, restored, less_held, dropped, letting_go, hand, await, take, freed, owned, pass_on, give, ended, owner_ended, delete_alone, delete, pri_after, priority_alone, priority_set, TakeDeed, declined, taken, retaken, starved, take_deed, after_take, GiveDeed, denied, lowered, given_up, give_deed, after_give}
+use Rattle.kernel_world.proofs.SemMutexDeeds.{TakeIs, take_is}
 use Rattle.msg_queue.specs.Kept.{IsCalm}
 use Rattle.msg_queue.specs.Laws.{SparesQueues}
 use Rattle.msg_queue.proofs.Calm.{calms}
@@ -112,26 +112,17 @@ module _ {board : BoardKind} (o : Objects) where
       (record { may = may.0; lives = may.1; other = λ q. absurd (omega (arith, q)); console = λ q. absurd (omega (arith, q)) })
       (λ side. (refl, may.0.made, may.2))
 
-  pub still-take : (s : MutexState) (who id n : ℕ) → take_refusal who n (object_of s.mutexes id) ≡ None → (is_some (object_of s.mutexes id) ≡ true → MayAwait s.kern o id)
+  pub still-take : (s : MutexState) (who id n : ℕ) → (is_some (object_of s.mutexes id) ≡ true → MayAwait s.kern o id)
       → Still board s.kern o → Still board (take s who id n).kern o
-  still-take s who id n fine there still =
-      still-raised (take_alone s who id n (object_of s.mutexes id)).kern (row (object_of s.mutexes id) fine there) (take_alone s who id n (object_of s.mutexes id)).profile (take_alone s who id n (object_of s.mutexes id)).mutexes
+  still-take s who id n there still =
+      let t : MutexState = after_take s who id n (take_deed who n (object_of s.mutexes id)) in
+      still-raised t.kern (row (take_deed who n (object_of s.mutexes id)) (take_is s.mutexes who id n)) t.profile t.mutexes
     where
-      above : (i : ℕ) → cond (eqb i 0) (Some errors.ObjUnavailable) None ≡ None → 0 < i
-      above i g = elim (eqb i 0) as (λ b. eqb i 0 ≡ b → cond b (Some errors.ObjUnavailable) None ≡ None → 0 < i) [ true ↦ λ b q. absurd (cc) | false ↦ λ b q. let ne = eqb-false i 0 b in omega arith ] refl g
-
-      owner : (m : Mutex) (w : Option ℕ) → cond (is_others who w && eqb n 0) (Some errors.ObjUnavailable) None ≡ None → MayAwait s.kern o id
-          → Still board (taken s who id n m w).kern o
-      owner m None g may = still-hand s who id m still
-      owner m (Some x) g may =
-          elim (eqb x who) as (λ b. cond (not b && eqb n 0) (Some errors.ObjUnavailable) None ≡ None → Still board (cond b (deepen s who id m) (await s who id n m)).kern o) [
-            | true ↦ λ q. still-guarded s.kern who m still
-            | false ↦ λ q. still-await s who id n m (above n q) may still
-          ] g
-
-      row : (q : Option Mutex) → take_refusal who n q ≡ None → (is_some q ≡ true → MayAwait s.kern o id) → Still board (take_alone s who id n q).kern o
-      row None g may = still
-      row (Some m) g may = owner m m.owner g (may refl)
+      row : (d : TakeDeed) → TakeIs s.mutexes who id n d → Still board (after_take s who id n d).kern o
+      row (declined e) said = still
+      row (taken m) said = still-hand s who id m still
+      row (retaken m) said = still-guarded s.kern who m still
+      row (starved m) said = still-await s who id n m said.4 (there (ap is_some said.1)) still
 
   -- ---- give
   still-pass_on : (s : MutexState) (id : ℕ) (m : Mutex) (w : Option Task) → Still board s.kern o → Still board (pass_on s id m w).kern o
@@ -139,16 +130,16 @@ module _ {board : BoardKind} (o : Objects) where
   still-pass_on s id m (Some w) still = still-end_wait (hand s w.id id m).kern (still-hand s w.id id m still) w.id 0 None
 
   pub still-give : (s : MutexState) (who id : ℕ) → Still board s.kern o → Still board (give s who id).kern o
-  still-give s who id still = still-raised (give_alone s who id (object_of s.mutexes id)).kern (row (object_of s.mutexes id)) (give_alone s who id (object_of s.mutexes id)).profile (give_alone s who id (object_of s.mutexes id)).mutexes
+  still-give s who id still =
+      let t : MutexState = after_give s who id (give_deed who (object_of s.mutexes id)) in
+      still-raised t.kern (row (give_deed who (object_of s.mutexes id))) t.profile t.mutexes
     where
-      row : (q : Option Mutex) → Still board (give_alone s who id q).kern o
-      row None = still
-      row (Some m) =
+      row : (d : GiveDeed) → Still board (after_give s who id d).kern o
+      row (denied e) = still
+      row (lowered m) = still-eased s.kern who m 1 still
+      row (given_up m) =
           let t : MutexState = pass_on s id m (first_waiter s.kern.tasks (mutex_place id)) in
-          elim (ltb 1 m.depth) as (λ b. Still board (cond b (shallow s who id m) (give_up s who id m)).kern o) [
-            | true ↦ still-eased s.kern who m 1 still
-            | false ↦ still-eased (letting_go s.profile t.kern who m) who m 1 (still-letting_go s.profile t.kern who m (still-pass_on s id m (first_waiter s.kern.tasks (mutex_place id)) still))
-          ]
+          still-eased (letting_go s.profile t.kern who m) who m 1 (still-letting_go s.profile t.kern who m (still-pass_on s id m (first_waiter s.kern.tasks (mutex_place id)) still))
 
   -- ---- delete
   still-owner_ended : (p : Profile) (k : KernState) (m : Mutex) (w : Option ℕ) → Still board k o → Still board (owner_ended p k m w) o
@@ -175,28 +166,22 @@ module _ {board : BoardKind} (o : Objects) where
 
 -- ---- the ids of the mutexes
 pub ids-take : (s : MutexState) (who id n : ℕ) → ids (take s who id n).mutexes ≡ ids s.mutexes
-ids-take s who id n = row (object_of s.mutexes id)
+ids-take s who id n = row (take_deed who n (object_of s.mutexes id))
   where
-    owner : (m : Mutex) (w : Option ℕ) → ids (taken s who id n m w).mutexes ≡ ids s.mutexes
-    owner m None = ids-write s.mutexes id (owned who m)
-    owner m (Some x) =
-        elim (eqb x who) as (λ b. ids (cond b (deepen s who id m) (await s who id n m)).mutexes ≡ ids s.mutexes) [ true ↦ ids-write s.mutexes id (record m { depth = m.depth + 1 }) | false ↦ refl ]
-
-    row : (q : Option Mutex) → ids (take_alone s who id n q).mutexes ≡ ids s.mutexes
-    row None = refl
-    row (Some m) = owner m m.owner
+    row : (d : TakeDeed) → ids (after_take s who id n d).mutexes ≡ ids s.mutexes
+    row (declined e) = refl
+    row (taken m) = ids-write s.mutexes id (owned who m)
+    row (retaken m) = ids-write s.mutexes id (record m { depth = m.depth + 1 })
+    row (starved m) = refl
 
 pub ids-give : (s : MutexState) (who id : ℕ) → ids (give s who id).mutexes ≡ ids s.mutexes
-ids-give s who id = row (object_of s.mutexes id)
+ids-give s who id = row (give_deed who (object_of s.mutexes id))
   where
     passed : (m : Mutex) (w : Option Task) → ids (pass_on s id m w).mutexes ≡ ids s.mutexes
     passed m None = ids-write s.mutexes id (freed m)
     passed m (Some w) = ids-write s.mutexes id (owned w.id m)
 
-    row : (q : Option Mutex) → ids (give_alone s who id q).mutexes ≡ ids s.mutexes
-    row None = refl
-    row (Some m) =
-        elim (ltb 1 m.depth) as (λ b. ids (cond b (shallow s who id m) (give_up s who id m)).mutexes ≡ ids s.mutexes) [
-          | true ↦ ids-write s.mutexes id (record m { depth = m.depth - 1 })
-          | false ↦ passed m (first_waiter s.kern.tasks (mutex_place id))
-        ]
+    row : (d : GiveDeed) → ids (after_give s who id d).mutexes ≡ ids s.mutexes
+    row (denied e) = refl
+    row (lowered m) = ids-write s.mutexes id (record m { depth = m.depth - 1 })
+    row (given_up m) = passed m (first_waiter s.kern.tasks (mutex_place id))

@@ -292,7 +292,7 @@ module _ {board : BoardKind} (k : KernState) (o : Objects) (is : IsKern k) (kept
   keeps-take_row a id n acts =
       on_take k o RowKeeps none a id n
       (λ who same there. on_mutex_take k o RowKeeps none who id n (λ fine.
-      by_same (mutex.take m who id n).kern (live_in (mutex.take m who id n)) (still-take o m who id n fine (awaitable id) still) (ids-take m who id n) (calls.taking who id n (subst (Acts k) same (acts there)) fine)))
+      by_same (mutex.take m who id n).kern (live_in (mutex.take m who id n)) (still-take o m who id n (awaitable id) still) (ids-take m who id n) (calls.taking who id n (subst (Acts k) same (acts there)) fine)))
       (λ who other. on_plain_take k o RowKeeps none who id n (λ fine. sem_take who id n (not_some (object_of o.mutexes.rows id) other)))
 
   pub keeps-give_row : (a : Actor) (id : ℕ) → (is_mutex o id ≡ true → Acts k a) → KeepsRow board (give_row k o a id)

@@ -7,10 +7,11 @@ use Rattle.msg_queue.specs.State.{QueuesState, Scene, scene}
 use Rattle.msg_queue.specs.Comings.{new_queue, created, IsMade}
 use Rattle.msg_queue.specs.Kept.{IsCaller}
 use Rattle.kernel_world.specs.Actors.{Acts, MayCall}
-use Rattle.call_rows.specs.QueueRows.{row_of, create_unless, create_row, task_in}
+use Rattle.call_rows.specs.Unless.{unless}
+use Rattle.call_rows.specs.QueueRows.{row_of, create_row, task_in}
 use Rattle.kernel_world.specs.declared.actor.Actor.{Actor}
 use Rattle.kernel_world.specs.declared.actor.Actor.TheVariants.{Task, Interrupt}
-use Rattle.kernel_world.specs.declared.reply.Reply.TheVariants.{Answer}
+use Rattle.kernel_world.specs.declared.reply.Reply.TheVariants.{Answer, Refusal}
 
 -- ---- what they ask for
 -- a caller that is a task and may call is ready
@@ -27,4 +28,4 @@ pub made_row : (k l : KernState) (qs us : QueuesState) (max_msgs max_len options
 made_row k l qs us max_msgs max_len options id is ram =
     let s : Scene = scene k qs ram in
     let q = new_queue max_msgs max_len options in
-    ap (λ t. row_of t (Answer id)) (is.2 ram) ∙ ap (λ i. row_of (created s q) (Answer i)) is.1 ∙ sym (ap (λ o. create_unless o s q) is.0)
+    ap (λ t. row_of t (Answer id)) (is.2 ram) ∙ ap (λ i. row_of (created s q) (Answer i)) is.1 ∙ sym (ap (λ o. unless o (λ e. row_of s (Refusal e)) (row_of (created s q) (Answer k.next_id))) is.0)

@@ -17,11 +17,13 @@ use Rattle.msg_queue.specs.declared.words.Receiving.{Receiving}
 use Rattle.msg_queue.specs.State.{QueueState, Scene, queue_of, lies_in, size_of, is_full, receivers, senders, first_asking}
 use Rattle.msg_queue.specs.Sends.{queued, blocked, send_refusal, queued_or_blocked, sends_unless, sends_at, sent_bytes, handed, after_send, send}
 use Rattle.msg_queue.specs.Receives.{taken, is_empty, receive_refusal, takes_from, receives_unless, receives_at, taken_out, refilled, after_receive, receive}
-use Rattle.msg_queue.specs.Comings.{is_size, ids_refusal, create_refusal, new_queue, awakened, deleted, delete}
+use Rattle.msg_queue.specs.Comings.{is_size, ids_refusal, create_refusal, new_queue, created, awakened, deleted, delete}
 use Rattle.msg_queue.specs.Kept.{IsQueue, IsKept}
 use Rattle.msg_queue.proofs.Traffic.{is_first, stuck}
 use Rattle.kernel_world.specs.Kept.{CountsWithin, call_sinces}
-use Rattle.call_rows.specs.QueueRows.{create_unless, create_row, receive_row}
+use Rattle.kernel_world.specs.declared.reply.Reply.TheVariants.{Answer, Refusal}
+use Rattle.call_rows.specs.Unless.{unless}
+use Rattle.call_rows.specs.QueueRows.{row_of, create_row, receive_row}
 use Rattle.kernel_world.specs.declared.actor.Actor.{Actor}
 use Rattle.kernel_world.specs.declared.actor.Actor.TheVariants.{Task, Interrupt}
 use Rattle.kernel_world.proofs.Goes.{drawn, goes-draw, Goes, goes_nowhere, goes_on, goes_further, goes-move}
@@ -92,7 +94,7 @@ module _ (s : Scene) (n : ℕ) (is : IsKern s.kern) (within : CountsWithin n s.k
   -- ---- msgQCreate
   pub create_near : (max_msgs max_len options : ℕ) → IsNear (create_row s max_msgs max_len options).scene
   create_near max_msgs max_len options = go (create_refusal (length s.queues.queues) s.kern.next_id max_msgs max_len options) refl where
-    go : (r : Option Errno) → create_refusal (length s.queues.queues) s.kern.next_id max_msgs max_len options ≡ r → IsNear (create_unless r s (new_queue max_msgs max_len options)).scene
+    go : (r : Option Errno) → create_refusal (length s.queues.queues) s.kern.next_id max_msgs max_len options ≡ r → IsNear (unless r (λ e. row_of s (Refusal e)) (row_of (created s (new_queue max_msgs max_len options)) (Answer s.kern.next_id))).scene
     go (Some e) same = near_itself
     go None same = (far (drawn s.kern) 0 (omega arith) (goes-draw s.kern n is within (queue_id_left (length s.queues.queues) s.kern.next_id max_msgs max_len options same)), refl)
 

@@ -30,13 +30,15 @@ use Rattle.msg_queue.specs.declared.words.Receiving.{Receiving}
 use Rattle.msg_queue.specs.State.{QueueState, QueuesState, Scene, scene, queue_of, size_of, added, receivers, senders, first_asking, with_queue}
 use Rattle.msg_queue.specs.Sends.{SendDeed, declined, passed_on, queued, blocked, sends_at, send_deed, sent_bytes, after_send, send}
 use Rattle.msg_queue.specs.Receives.{ReceiveDeed, denied, taken, starved, receives_at, receive_deed, taken_out, waited_bytes, refilled, after_receive, receive}
-use Rattle.msg_queue.specs.Comings.{create_refusal, new_queue, awakened, gone, deleted}
+use Rattle.msg_queue.specs.Comings.{create_refusal, new_queue, created, awakened, gone, deleted}
 use Rattle.msg_queue.specs.Kept.{IsKept, IsCaller}
 use Rattle.msg_queue.specs.Machine.{sends, receives, deletes, others}
 use Rattle.msg_queue.proofs.Calm.{calm_stays}
 use Rattle.msg_queue.proofs.Events.{keeps, creates_keep}
 use Rattle.kernel_world.specs.Objects.{is_queue_side, is_live, KeepsWaits, KeepsObjects}
-use Rattle.call_rows.specs.QueueRows.{create_unless, create_row, task_in, sending, send_row, receive_row, delete_row, count_row}
+use Rattle.kernel_world.specs.declared.reply.Reply.TheVariants.{Answer, Refusal}
+use Rattle.call_rows.specs.Unless.{unless}
+use Rattle.call_rows.specs.QueueRows.{row_of, create_row, task_in, sending, send_row, receive_row, delete_row, count_row}
 use Rattle.kernel_world.specs.declared.objects.Objects.{Objects}
 use Rattle.kernel_world.specs.declared.actor.Actor.{Actor}
 use Rattle.kernel_world.specs.declared.actor.Actor.TheVariants.{Task, Interrupt}
@@ -149,7 +151,7 @@ module _ {board : BoardKind} (k : KernState) (o : Objects) (ram : List ℕ) (is 
       let q : QueueState = new_queue max_msgs max_len options in
       let next : ℕ = k.next_id in
       let rs : List (ℕ × QueueState) = o.queues.queues in
-      elim (create_refusal (length rs) next max_msgs max_len options) as (λ r. create_refusal (length rs) next max_msgs max_len options ≡ r → KeepsScene board o (create_unless r s q).scene) [
+      elim (create_refusal (length rs) next max_msgs max_len options) as (λ r. create_refusal (length rs) next max_msgs max_len options ≡ r → KeepsScene board o (unless r (λ e. row_of s (Refusal e)) (row_of (created s q) (Answer next))).scene) [
         | Some e ↦ λ r. kept
         | None ↦ λ r. record {
           waits =

@@ -1,5 +1,5 @@
 -- Which ids the objects have after each row of the calls on them, and who owns the mutexes.
-use Rattle.std.proofs.Common.{◌≡◌, ℕ, ◌+◌, ◌-◌, true, false, cond, eqb, ltb, List, [], ◌∷◌, ◌++◌, length, Option, None, Some, IsSome, refl, sym, ap, ◌∙◌, subst, arith}
+use Rattle.std.proofs.Common.{◌≡◌, ℕ, ◌+◌, ◌-◌, List, [], ◌∷◌, ◌++◌, length, Option, None, Some, IsSome, refl, sym, ap, ◌∙◌, subst, arith}
 use Rattle.std.specs.List.{All}
 use Rattle.std.specs.Option.{option_map}
 use Rattle.std.proofs.lemmas.List.Elements.{All-contains}
@@ -24,12 +24,14 @@ use Rattle.msg_queue.specs.declared.asks.Ask.{Ask}
 use Rattle.msg_queue.specs.State.{QueueState, QueuesState, Scene, queue_of, added, senders, first_asking}
 use Rattle.msg_queue.specs.Sends.{SendDeed, declined, passed_on, queued, blocked, sent_bytes, send_deed, after_send, send}
 use Rattle.msg_queue.specs.Receives.{ReceiveDeed, denied, taken, starved, receive_deed, taken_out, waited_bytes, refilled, after_receive}
-use Rattle.msg_queue.specs.Comings.{create_refusal, new_queue, deleted, delete}
+use Rattle.msg_queue.specs.Comings.{create_refusal, new_queue, created, deleted, delete}
 use Rattle.kernel_world.specs.LiveIds.{waited_ids}
 use Rattle.kernel_world.specs.declared.objects.Objects.{Objects}
 use Rattle.kernel_world.specs.declared.actor.Actor.{Actor}
 use Rattle.kernel_world.specs.declared.actor.Actor.TheVariants.{Task, Interrupt}
 use Rattle.kernel_world.proofs.LiveIds.{Fewer, Given, fewer_same, fewer_before, fewer_after, fewer_without, ids_write, given_before, given_after, given_none, given_push}
+use Rattle.kernel_world.specs.declared.reply.Reply.TheVariants.{Answer, Refusal}
+use Rattle.call_rows.specs.Unless.{unless}
 use Rattle.call_rows.specs.SemRows.{ObjectRow, refused, live_in, sems, mutexes, made, binary_row, counting_row, mutex_row, take_row, give_row, flush_row, delete_row, priority_row}
 use Rattle.call_rows.proofs.RowWalks.{on_made, on_binary, on_counting, on_mutex, on_plain_take, on_mutex_take, on_take, on_plain_give, on_mutex_give, on_give, on_flush, on_delete, on_priority}
 use Rattle.call_rows.proofs.EachMutex.{MayChange}
@@ -105,22 +107,16 @@ module _ (k : KernState) (o : Objects) where
   plain_taken who id m (plain.taken v) = semaphore_written o id (plain.counted_down v)
   plain_taken who id m (plain.starved v) = none_comes o
 
-  taken_stays : (who id m : ℕ) (v : Mutex) (owner : Option ℕ) → NoneComes o (record o { mutexes = live_in (mutex.taken (mutexes k o) who id m v owner) })
-  taken_stays who id m v None = mutex_written o id (mutex.owned who v)
-  taken_stays who id m v (Some x) =
-      elim (eqb x who) as (λ b. NoneComes o (record o { mutexes = live_in (cond b (mutex.deepen (mutexes k o) who id v) (mutex.await (mutexes k o) who id m v)) })) [
-        | true ↦ mutex_written o id (record v { depth = v.depth + 1 })
-        | false ↦ none_comes o
-      ]
-
-  take_alone_stays : (who id m : ℕ) (v : Option Mutex) → NoneComes o (record o { mutexes = live_in (mutex.take_alone (mutexes k o) who id m v) })
-  take_alone_stays who id m None = none_comes o
-  take_alone_stays who id m (Some v) = taken_stays who id m v v.owner
+  mutex_taken : (who id m : ℕ) (d : mutex.TakeDeed) → NoneComes o (record o { mutexes = live_in (mutex.after_take (mutexes k o) who id m d) })
+  mutex_taken who id m (mutex.declined e) = none_comes o
+  mutex_taken who id m (mutex.taken v) = mutex_written o id (mutex.owned who v)
+  mutex_taken who id m (mutex.retaken v) = mutex_written o id (record v { depth = v.depth + 1 })
+  mutex_taken who id m (mutex.starved v) = none_comes o
 
   pub take_stays : (a : Actor) (id m : ℕ) → NoneComes o (take_row k o a id m).objects
   take_stays a id m =
       on_take k o Stays none a id m
-      (λ who is there. on_mutex_take k o Stays none who id m (λ fine. take_alone_stays who id m (object_of o.mutexes.rows id)))
+      (λ who is there. on_mutex_take k o Stays none who id m (λ fine. mutex_taken who id m (mutex.take_deed who m (object_of o.mutexes.rows id))))
       (λ who other. on_plain_take k o Stays none who id m (λ fine. plain_taken who id m (plain.take_deed m (plain.live (sems k o) id))))
 
   -- ---- semGive
@@ -133,18 +129,15 @@ module _ (k : KernState) (o : Objects) where
   passed_stays id v None = mutex_written o id (mutex.freed v)
   passed_stays id v (Some t) = mutex_written o id (mutex.owned t.id v)
 
-  give_alone_stays : (who id : ℕ) (v : Option Mutex) → NoneComes o (record o { mutexes = live_in (mutex.give_alone (mutexes k o) who id v) })
-  give_alone_stays who id None = none_comes o
-  give_alone_stays who id (Some v) =
-      elim (ltb 1 v.depth) as (λ b. NoneComes o (record o { mutexes = live_in (cond b (mutex.shallow (mutexes k o) who id v) (mutex.give_up (mutexes k o) who id v)) })) [
-        | true ↦ mutex_written o id (record v { depth = v.depth - 1 })
-        | false ↦ passed_stays id v (first_waiter k.tasks (mutex_place id))
-      ]
+  mutex_given : (who id : ℕ) (d : mutex.GiveDeed) → NoneComes o (record o { mutexes = live_in (mutex.after_give (mutexes k o) who id d) })
+  mutex_given who id (mutex.denied e) = none_comes o
+  mutex_given who id (mutex.lowered v) = mutex_written o id (record v { depth = v.depth - 1 })
+  mutex_given who id (mutex.given_up v) = passed_stays id v (first_waiter k.tasks (mutex_place id))
 
   pub give_stays : (a : Actor) (id : ℕ) → NoneComes o (give_row k o a id).objects
   give_stays a id =
       on_give k o Stays none a id
-      (λ who is there. on_mutex_give k o Stays none who id (λ fine. give_alone_stays who id (object_of o.mutexes.rows id)))
+      (λ who is there. on_mutex_give k o Stays none who id (λ fine. mutex_given who id (mutex.give_deed who (object_of o.mutexes.rows id))))
       (λ other. on_plain_give k o Stays none id (λ fine. plain_given id (plain.give_deed (plain.next_of (sems k o) id) (plain.live (sems k o) id))))
 
   -- ---- semFlush, semDelete and taskPrioritySet
@@ -215,7 +208,7 @@ module _ (s : Scene) where
 
   pub queue_create_comes : (max_msgs max_len options : ℕ) → QueueComes (queue_rows.create_row s max_msgs max_len options).scene
   queue_create_comes max_msgs max_len options = go (create_refusal (length s.queues.queues) s.kern.next_id max_msgs max_len options) where
-    go : (r : Option Errno) → QueueComes (queue_rows.create_unless r s (new_queue max_msgs max_len options)).scene
+    go : (r : Option Errno) → QueueComes (unless r (λ e. queue_rows.row_of s (Refusal e)) (queue_rows.row_of (created s (new_queue max_msgs max_len options)) (Answer s.kern.next_id))).scene
     go (Some e) = given_none s.kern.next_id s.kern.next_id (ids s.queues.queues) (omega arith)
     go None = given_push s.queues.queues s.kern.next_id (new_queue max_msgs max_len options)
 

@@ -28,7 +28,8 @@ use Rattle.kernel_world.specs.State.{WorldState}
 use Rattle.kernel_world.specs.Starting.{cleared, framed}
 use Rattle.call_rows.specs.MemoryRows.{PartRow, align_row, free_row, free_reply}
 use Rattle.call_rows.specs.SymbolRows.{refused_symbol, with_kind, with_name, symbol_row, kind_of_number}
-use Rattle.call_rows.specs.Spawning.{after_spawn, spawn_state, stack_bytes, first_pointer, started, names_after, spawned_on, spawned_at, spawned_unless, spawned_if}
+use Rattle.call_rows.specs.Unless.{unless}
+use Rattle.call_rows.specs.Spawning.{after_spawn, spawn_state, stack_bytes, first_pointer, started, names_after, no_spawn, spawned_on, spawned_at, spawned_if}
 use Rattle.kernel_world.specs.Kept.{stack_of, routine_stack, task_stacks, AreStacks, IsWorld, HasCounts, Within, call_sinces}
 use Rattle.kernel_world.specs.declared.reply.Reply.{Reply}
 use Rattle.kernel_world.specs.declared.reply.Reply.TheVariants.{Answer}
@@ -145,7 +146,7 @@ module _ (w : WorldState) (kept : IsWorld w) (n : ℕ) (within : Within n w) whe
   at_advances s (Err e) room same = nowhere w kept n within
   at_advances s (Ok at) room same = spawned_advances s at room same
 
-  unless_advances : (s : Wanted) (o : Option Errno) → spawn_refusal w.kern ≡ o → Advances w (after_spawn w (spawned_unless (spawn_state w) s o).after) (n + 1) call_sinces 1
+  unless_advances : (s : Wanted) (o : Option Errno) → spawn_refusal w.kern ≡ o → Advances w (after_spawn w (unless o (no_spawn (spawn_state w)) (spawned_at (spawn_state w) s (alloc_of w.part (stack_bytes s.stack) 16))).after) (n + 1) call_sinces 1
   unless_advances s (Some e) same = nowhere w kept n within
   unless_advances s None same = at_advances s (alloc_of w.part (stack_bytes s.stack) 16) same refl
 

@@ -1,6 +1,7 @@
 -- What holds of each row of semaphores and mutexes, if it holds of every refusal and of what the call does otherwise.
 use Rattle.std.proofs.Common.{◌≡◌, ℕ, Bool, true, false, cond, leb, Option, None, Some, refl}
 use Rattle.wind_base.specs.SemBits.{read_options}
+use Rattle.call_rows.specs.Unless.{unless}
 use Rattle.wind_base.specs.declared.errno.Errno.{Errno}
 use Rattle.wind_base.specs.declared.errno.Errno.TheVariants as errors
 use Rattle.wind_base.specs.declared.semaphore.SemKind.TheVariants as kinds
@@ -11,7 +12,7 @@ use Rattle.kernel_world.specs.SemPlainSemaphore.{Semaphore}
 use Rattle.kernel_world.specs.SemPlainCalls as plain
 use Rattle.kernel_world.specs.SemMutexCalls as mutex
 use Rattle.kernel_world.specs.SemMutexMaking as making
-use Rattle.call_rows.specs.SemRows.{ObjectRow, refused, by_semaphores, by_mutexes, sems, mutexes, is_mutex, of_task, made_unless, made, binary_with, binary_row, counting_with, counting_row, mutex_unless, mutex_with, mutex_row, took_reply, plain_take_unless, plain_take, mutex_take_unless, mutex_take, take_row, plain_give_unless, plain_give, mutex_give_unless, mutex_give, give_row, flush_unless, flush_row, plain_delete_unless, delete_row, priority_row}
+use Rattle.call_rows.specs.SemRows.{ObjectRow, refused, by_semaphores, by_mutexes, sems, mutexes, is_mutex, of_task, made, binary_with, binary_row, counting_with, counting_row, mutex_with, mutex_row, took_reply, plain_take, mutex_take, take_row, plain_give, mutex_give, give_row, plain_flush, flush_row, plain_delete, delete_row, priority_row}
 use Rattle.kernel_world.specs.declared.objects.Objects.{Objects}
 use Rattle.kernel_world.specs.declared.actor.Actor.{Actor}
 use Rattle.kernel_world.specs.declared.actor.Actor.TheVariants.{Task, Interrupt}
@@ -22,12 +23,13 @@ module _ (k : KernState) (o : Objects) (P : ObjectRow → Type 0) (no : (e : Err
   on_test true x y held failed = held refl
   on_test false x y held failed = failed refl
 
+  on_unless : (r : Option Errno) (b : ObjectRow) → (r ≡ None → P b) → P (unless r (refused k o) b)
+  on_unless (Some e) b done = no e
+  on_unless None b done = done refl
+
   -- ---- one is made
   pub on_made : (v : Semaphore) → (plain.create_refusal (sems k o) ≡ None → P (by_semaphores o (plain.create (sems k o) v) (Answer k.next_id))) → P (made k o v)
-  on_made v done = go (plain.create_refusal (sems k o)) refl where
-    go : (r : Option Errno) → plain.create_refusal (sems k o) ≡ r → P (made_unless r k o v)
-    go (Some e) is = no e
-    go None is = done is
+  on_made v done = on_unless (plain.create_refusal (sems k o)) (by_semaphores o (plain.create (sems k o) v) (Answer k.next_id)) done
 
   pub on_binary : (options state : ℕ) → ((v : SemOptions) → leb state 1 ≡ true → P (made k o (plain.new_semaphore kinds.Binary v state))) → P (binary_row k o options state)
   on_binary options state done = go (read_options options kinds.Binary) where
@@ -42,10 +44,7 @@ module _ (k : KernState) (o : Objects) (P : ObjectRow → Type 0) (no : (e : Err
     go (Some v) = done v
 
   pub on_mutex_made : (v : SemOptions) → (making.create_refusal (mutexes k o) ≡ None → P (by_mutexes o (making.create (mutexes k o) (making.new_mutex v)) (Answer k.next_id))) → P (mutex_with k o (Some v))
-  on_mutex_made v done = go (making.create_refusal (mutexes k o)) refl where
-    go : (r : Option Errno) → making.create_refusal (mutexes k o) ≡ r → P (mutex_unless r k o v)
-    go (Some e) is = no e
-    go None is = done is
+  on_mutex_made v done = on_unless (making.create_refusal (mutexes k o)) (by_mutexes o (making.create (mutexes k o) (making.new_mutex v)) (Answer k.next_id)) done
 
   pub on_mutex : (options : ℕ) → ((v : SemOptions) → making.create_refusal (mutexes k o) ≡ None → P (by_mutexes o (making.create (mutexes k o) (making.new_mutex v)) (Answer k.next_id))) → P (mutex_row k o options)
   on_mutex options done = go (read_options options kinds.Mutex) where
@@ -55,17 +54,12 @@ module _ (k : KernState) (o : Objects) (P : ObjectRow → Type 0) (no : (e : Err
 
   -- ---- semTake
   pub on_plain_take : (who id n : ℕ) → (plain.take_refusal (sems k o) id n ≡ None → P (by_semaphores o (plain.take (sems k o) who id n) (took_reply (plain.took (sems k o) id)))) → P (plain_take k o who id n)
-  on_plain_take who id n done = go (plain.take_refusal (sems k o) id n) refl where
-    go : (r : Option Errno) → plain.take_refusal (sems k o) id n ≡ r → P (plain_take_unless r k o who id n)
-    go (Some e) is = no e
-    go None is = done is
+  on_plain_take who id n done = on_unless (plain.take_refusal (sems k o) id n) (by_semaphores o (plain.take (sems k o) who id n) (took_reply (plain.took (sems k o) id))) done
 
   pub on_mutex_take : (who id n : ℕ) → (mutex.take_refusal who n (object_of o.mutexes.rows id) ≡ None → P (by_mutexes o (mutex.take (mutexes k o) who id n) (took_reply (mutex.took who (object_of o.mutexes.rows id)))))
       → P (mutex_take k o who id n)
-  on_mutex_take who id n done = go (mutex.take_refusal who n (object_of o.mutexes.rows id)) refl where
-    go : (r : Option Errno) → mutex.take_refusal who n (object_of o.mutexes.rows id) ≡ r → P (mutex_take_unless r k o who id n)
-    go (Some e) is = no e
-    go None is = done is
+  on_mutex_take who id n done =
+      on_unless (mutex.take_refusal who n (object_of o.mutexes.rows id)) (by_mutexes o (mutex.take (mutexes k o) who id n) (took_reply (mutex.took who (object_of o.mutexes.rows id)))) done
 
   pub on_take : (a : Actor) (id n : ℕ) → ((who : ℕ) → a ≡ Task who → is_mutex o id ≡ true → P (mutex_take k o who id n)) → ((who : ℕ) → is_mutex o id ≡ false → P (plain_take k o who id n)) → P (take_row k o a id n)
   on_take (Task who) id n owned other = on_test (is_mutex o id) (mutex_take k o who id n) (plain_take k o who id n) (owned who refl) (other who)
@@ -73,16 +67,10 @@ module _ (k : KernState) (o : Objects) (P : ObjectRow → Type 0) (no : (e : Err
 
   -- ---- semGive
   pub on_plain_give : (id : ℕ) → (plain.give_refusal (sems k o) id ≡ None → P (by_semaphores o (plain.give (sems k o) id) (Answer 0))) → P (plain_give k o id)
-  on_plain_give id done = go (plain.give_refusal (sems k o) id) refl where
-    go : (r : Option Errno) → plain.give_refusal (sems k o) id ≡ r → P (plain_give_unless r k o id)
-    go (Some e) is = no e
-    go None is = done is
+  on_plain_give id done = on_unless (plain.give_refusal (sems k o) id) (by_semaphores o (plain.give (sems k o) id) (Answer 0)) done
 
   pub on_mutex_give : (who id : ℕ) → (mutex.give_refusal who (object_of o.mutexes.rows id) ≡ None → P (by_mutexes o (mutex.give (mutexes k o) who id) (Answer 0))) → P (mutex_give k o who id)
-  on_mutex_give who id done = go (mutex.give_refusal who (object_of o.mutexes.rows id)) refl where
-    go : (r : Option Errno) → mutex.give_refusal who (object_of o.mutexes.rows id) ≡ r → P (mutex_give_unless r k o who id)
-    go (Some e) is = no e
-    go None is = done is
+  on_mutex_give who id done = on_unless (mutex.give_refusal who (object_of o.mutexes.rows id)) (by_mutexes o (mutex.give (mutexes k o) who id) (Answer 0)) done
 
   pub on_give : (a : Actor) (id : ℕ) → ((who : ℕ) → a ≡ Task who → is_mutex o id ≡ true → P (mutex_give k o who id)) → (is_mutex o id ≡ false → P (plain_give k o id)) → P (give_row k o a id)
   on_give a id owned other = on_test (is_mutex o id) (of_task k o a (λ who. mutex_give k o who id)) (plain_give k o id) (by_caller a owned) other where
@@ -92,17 +80,15 @@ module _ (k : KernState) (o : Objects) (P : ObjectRow → Type 0) (no : (e : Err
 
   -- ---- semFlush, semDelete and taskPrioritySet
   pub on_flush : (id : ℕ) → (is_mutex o id ≡ false → plain.flush_refusal (sems k o) id ≡ None → P (by_semaphores o (plain.flush (sems k o) id) (Answer 0))) → P (flush_row k o id)
-  on_flush id done = on_test (is_mutex o id) (refused k o errors.InvalidOperation) (flush_unless (plain.flush_refusal (sems k o) id) k o id) (λ there. no errors.InvalidOperation) (λ other. go (plain.flush_refusal (sems k o) id) refl other) where
-    go : (r : Option Errno) → plain.flush_refusal (sems k o) id ≡ r → is_mutex o id ≡ false → P (flush_unless r k o id)
-    go (Some e) is other = no e
-    go None is other = done other is
+  on_flush id done =
+      on_test (is_mutex o id) (refused k o errors.InvalidOperation) (plain_flush k o id) (λ there. no errors.InvalidOperation)
+      (λ other. on_unless (plain.flush_refusal (sems k o) id) (by_semaphores o (plain.flush (sems k o) id) (Answer 0)) (done other))
 
   pub on_delete : (id : ℕ) → (is_mutex o id ≡ true → P (by_mutexes o (mutex.delete (mutexes k o) id) (Answer 0)))
       → (is_mutex o id ≡ false → plain.delete_refusal (sems k o) id ≡ None → P (by_semaphores o (plain.delete (sems k o) id) (Answer 0))) → P (delete_row k o id)
-  on_delete id owned done = on_test (is_mutex o id) (by_mutexes o (mutex.delete (mutexes k o) id) (Answer 0)) (plain_delete_unless (plain.delete_refusal (sems k o) id) k o id) owned (λ other. go (plain.delete_refusal (sems k o) id) refl other) where
-    go : (r : Option Errno) → plain.delete_refusal (sems k o) id ≡ r → is_mutex o id ≡ false → P (plain_delete_unless r k o id)
-    go (Some e) is other = no e
-    go None is other = done other is
+  on_delete id owned done =
+      on_test (is_mutex o id) (by_mutexes o (mutex.delete (mutexes k o) id) (Answer 0)) (plain_delete k o id) owned
+      (λ other. on_unless (plain.delete_refusal (sems k o) id) (by_semaphores o (plain.delete (sems k o) id) (Answer 0)) (done other))
 
   pub on_priority : (pri : ℕ) (target : Option ℕ) → ((id : ℕ) → P (by_mutexes o (mutex.priority_set (mutexes k o) id pri) (Answer 0))) → P (priority_row k o pri target)
   on_priority pri None done = no errors.ObjIdError

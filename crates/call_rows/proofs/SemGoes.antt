@@ -1,5 +1,5 @@
 -- How far the rows of semaphores and mutexes take the kernel's counters.
-use Rattle.std.proofs.Common.{◌≡◌, ℕ, ◌+◌, ◌-◌, ◌<◌, ◌≤◌, true, false, not, ◌&&◌, cond, eqb, ltb, List, length, Option, None, Some, refl, arith}
+use Rattle.std.proofs.Common.{◌≡◌, ℕ, ◌+◌, ◌-◌, ◌<◌, ◌≤◌, true, false, not, cond, eqb, List, length, Option, None, Some, refl, arith}
 use Rattle.std.proofs.lemmas.Bool.{eqb-false}
 use Rattle.wind_base.specs.SemBits.{is_priority}
 use Rattle.wind_base.specs.declared.errno.Errno.{Errno}
@@ -21,6 +21,7 @@ use Rattle.kernel_world.specs.InheritanceMutex.{Mutex}
 use Rattle.kernel_world.specs.InheritanceMutexes.{MutexState, mutex_place}
 use Rattle.kernel_world.specs.InheritanceReach.{raised_kern}
 use Rattle.kernel_world.specs.SemMutexCalls as mutex
+use Rattle.kernel_world.proofs.SemMutexDeeds.{TakeIs as MutexTakeIs, take_is as mutex_take_is}
 use Rattle.kernel_world.specs.Kept.{CountsWithin, call_sinces}
 use Rattle.call_rows.specs.SemRows.{ObjectRow, refused, sems, mutexes, made, binary_row, counting_row, mutex_row, take_row, give_row, flush_row, delete_row, priority_row}
 use Rattle.call_rows.proofs.RowWalks.{on_made, on_binary, on_counting, on_mutex, on_plain_take, on_mutex_take, on_take, on_plain_give, on_mutex_give, on_give, on_flush, on_delete, on_priority}
@@ -141,27 +142,21 @@ module _ (k : KernState) (o : Objects) (n : ℕ) (is : IsKern k) (within : Count
   plain_taken who id m (plain.starved v) said =
       within_call (plain.awaited (sems k o) who id m v).kern 1 (omega arith) (goes-move k n is within (Pend who (sem_place id) (not (is_priority v.options)) m) said.2)
 
-  taken_goes : (who id m : ℕ) (v : Mutex) (owner : Option ℕ) → cond (mutex.is_others who owner && eqb m 0) (Some errors.ObjUnavailable) None ≡ None
-      → Goes k (mutex.taken (mutexes k o) who id m v owner).kern (n + 1) 1
-  taken_goes who id m v None fine = goes_further k (mutex.hand (mutexes k o) who id v).kern (n + 1) (n + 1) 0 1 (omega arith) (omega arith) (goes-hand k n is within who v)
-  taken_goes who id m v (Some x) fine =
-      elim (eqb x who) as (λ b. cond (not b && eqb m 0) (Some errors.ObjUnavailable) None ≡ None → Goes k (cond b (mutex.deepen (mutexes k o) who id v) (mutex.await (mutexes k o) who id m v)).kern (n + 1) 1) [
-        | true ↦ λ q. goes_further k (mutex.deepen (mutexes k o) who id v).kern (n + 1) (n + 1) 0 1 (omega arith) (omega arith) (goes-guarded k n is within who v)
-        | false ↦ λ q.
-            goes_further k (mutex.await (mutexes k o) who id m v).kern n (n + 1) 1 1 (omega arith) (omega arith)
-            (goes-move k n is within (Pend who (mutex_place id) (not v.by_priority) m) (above m errors.ObjUnavailable q))
-      ] fine
-
-  mutex_take_alone : (who id m : ℕ) (v : Option Mutex) → mutex.take_refusal who m v ≡ None → Goes k (mutex.take_alone (mutexes k o) who id m v).kern (n + 1) 1
-  mutex_take_alone who id m None fine = goes_further k k n (n + 1) 0 1 (omega arith) (omega arith) (goes_nowhere k n is within)
-  mutex_take_alone who id m (Some v) fine = taken_goes who id m v v.owner fine
+  mutex_taken : (who id m : ℕ) (d : mutex.TakeDeed) → MutexTakeIs o.mutexes.rows who id m d → Goes k (mutex.after_take (mutexes k o) who id m d).kern (n + 1) 1
+  mutex_taken who id m (mutex.declined e) said = goes_further k k n (n + 1) 0 1 (omega arith) (omega arith) (goes_nowhere k n is within)
+  mutex_taken who id m (mutex.taken v) said = goes_further k (mutex.hand (mutexes k o) who id v).kern (n + 1) (n + 1) 0 1 (omega arith) (omega arith) (goes-hand k n is within who v)
+  mutex_taken who id m (mutex.retaken v) said = goes_further k (mutex.deepen (mutexes k o) who id v).kern (n + 1) (n + 1) 0 1 (omega arith) (omega arith) (goes-guarded k n is within who v)
+  mutex_taken who id m (mutex.starved v) said =
+      goes_further k (mutex.await (mutexes k o) who id m v).kern n (n + 1) 1 1 (omega arith) (omega arith)
+      (goes-move k n is within (Pend who (mutex_place id) (not v.by_priority) m) said.4)
 
   pub take_goes : (a : Actor) (id m : ℕ) → GoesTo (take_row k o a id m).kern
   take_goes a id m =
       on_take k o RowGoes none a id m
       (λ who is there. on_mutex_take k o RowGoes none who id m (λ fine.
-      let alone : MutexState = mutex.take_alone (mutexes k o) who id m (object_of o.mutexes.rows id) in
-      then_raised alone.profile alone.kern 1 (omega arith) (mutex_take_alone who id m (object_of o.mutexes.rows id) fine) alone.mutexes))
+      let deed = mutex.take_deed who m (object_of o.mutexes.rows id) in
+      let alone : MutexState = mutex.after_take (mutexes k o) who id m deed in
+      then_raised alone.profile alone.kern 1 (omega arith) (mutex_taken who id m deed (mutex_take_is o.mutexes.rows who id m)) alone.mutexes))
       (λ who other. on_plain_take k o RowGoes none who id m (λ fine. plain_taken who id m (plain.take_deed m (plain.live (sems k o) id)) (take_is (sems k o) id m)))
 
   -- ---- semGive
@@ -184,20 +179,18 @@ module _ (k : KernState) (o : Objects) (n : ℕ) (is : IsKern k) (within : Count
       let one = passed_goes id v next in
       goes_on k j (mutex.eased (mutex.letting_go o.mutexes.profile j who v) who v 1) (n + 1) (n + 1) 1 257 one (goes-left j (n + 1) one.kern one.counts o.mutexes.profile who v 1)
 
-  mutex_give_alone : (who id : ℕ) (v : Option Mutex) → Goes k (mutex.give_alone (mutexes k o) who id v).kern (n + 1) 258
-  mutex_give_alone who id None = goes_further k k n (n + 1) 0 258 (omega arith) (omega arith) (goes_nowhere k n is within)
-  mutex_give_alone who id (Some v) =
-      elim (ltb 1 v.depth) as (λ b. Goes k (cond b (mutex.shallow (mutexes k o) who id v) (mutex.give_up (mutexes k o) who id v)).kern (n + 1) 258) [
-        | true ↦ goes_further k (mutex.eased k who v 1) n (n + 1) 256 258 (omega arith) (omega arith) (goes-eased k n is within who v 1)
-        | false ↦ given_up who id v
-      ]
+  mutex_given : (who id : ℕ) (d : mutex.GiveDeed) → Goes k (mutex.after_give (mutexes k o) who id d).kern (n + 1) 258
+  mutex_given who id (mutex.denied e) = goes_further k k n (n + 1) 0 258 (omega arith) (omega arith) (goes_nowhere k n is within)
+  mutex_given who id (mutex.lowered v) = goes_further k (mutex.eased k who v 1) n (n + 1) 256 258 (omega arith) (omega arith) (goes-eased k n is within who v 1)
+  mutex_given who id (mutex.given_up v) = given_up who id v
 
   pub give_goes : (a : Actor) (id : ℕ) → GoesTo (give_row k o a id).kern
   give_goes a id =
       on_give k o RowGoes none a id
       (λ who is there. on_mutex_give k o RowGoes none who id (λ fine.
-      let alone : MutexState = mutex.give_alone (mutexes k o) who id (object_of o.mutexes.rows id) in
-      then_raised alone.profile alone.kern 258 (omega arith) (mutex_give_alone who id (object_of o.mutexes.rows id)) alone.mutexes))
+      let deed = mutex.give_deed who (object_of o.mutexes.rows id) in
+      let alone : MutexState = mutex.after_give (mutexes k o) who id deed in
+      then_raised alone.profile alone.kern 258 (omega arith) (mutex_given who id deed) alone.mutexes))
       (λ other. on_plain_give k o RowGoes none id (λ fine. plain_given id (plain.give_deed (plain.next_of (sems k o) id) (plain.live (sems k o) id))))
 
   -- ---- semFlush

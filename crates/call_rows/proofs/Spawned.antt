@@ -8,7 +8,8 @@ use Rattle.mem_partition.specs.declared.block.Class.{Class}
 use Rattle.mem_partition.specs.declared.block.PartErr.{PartErr}
 use Rattle.mem_partition.proofs.Allocs.{alloc_lies, refused_is}
 use Rattle.wind_core.specs.Moves.{spawn_refusal}
-use Rattle.call_rows.specs.Spawning.{SpawnState, no_spawn, spawned_on, spawned_at, spawned_unless, spawned, stack_bytes}
+use Rattle.call_rows.specs.Unless.{unless}
+use Rattle.call_rows.specs.Spawning.{SpawnState, no_spawn, spawned_on, spawned_at, spawned, stack_bytes}
 use Rattle.call_rows.specs.declared.spawning.Wanted.{Wanted}
 use Rattle.kernel_world.specs.declared.reply.Reply.TheVariants.{Answer}
 
@@ -22,7 +23,7 @@ block_within p n align at e h = omega (arith, (alloc_lies p n align at (sym h)).
 
 module _ (w : SpawnState) (s : Wanted) (none : None ≡ spawn_refusal w.kern) where
   pub spawned_is : (at : ℕ) → Ok at ≡ alloc_of w.part (stack_bytes s.stack) 16 → spawned w s ≡ record { after = spawned_on w s at; reply = Answer w.kern.next_id }
-  spawned_is at ok = ap (spawned_unless w s) (sym none) ∙ ap (spawned_at w s) (sym ok)
+  spawned_is at ok = ap (λ o. unless o (no_spawn w) (spawned_at w s (alloc_of w.part (stack_bytes s.stack) 16))) (sym none) ∙ ap (spawned_at w s) (sym ok)
 
   pub spawned_none : (e : PartErr) → Err e ≡ alloc_of w.part (stack_bytes s.stack) 16 → spawned w s ≡ no_spawn w errors.NotEnoughMemory
-  spawned_none e err = ap (spawned_unless w s) (sym none) ∙ ap (spawned_at w s) (sym err)
+  spawned_none e err = ap (λ o. unless o (no_spawn w) (spawned_at w s (alloc_of w.part (stack_bytes s.stack) 16))) (sym none) ∙ ap (spawned_at w s) (sym err)

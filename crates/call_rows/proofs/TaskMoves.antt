@@ -10,8 +10,9 @@ use Rattle.wind_core.proofs.Becoming.{found_all}
 use Rattle.wind_core.proofs.Moving.{move_keeps}
 use Rattle.task_safety.specs.Safety.{make_safe, lessen, unsafe_refusal}
 use Rattle.kernel_world.specs.Kept.{HasCounts, CountsWithin, call_sinces}
-use Rattle.call_rows.specs.TaskRows.{suspend_row, resume_row, delay_row, lock_row, unlock_row, self_row, verify_row, found_row, name_row, slice_row, locks_in, locks_of, int_lock_row, int_unlock_row, int_context_row}
-use Rattle.call_rows.specs.SafetyRows.{unsafe_unless, safe_row, unsafe_row}
+use Rattle.call_rows.specs.TaskRows.{done, refused, suspend_row, resume_row, delay_row, lock_row, unlock_row, self_row, verify_row, found_row, name_row, slice_row, locks_in, locks_of, int_lock_row, int_unlock_row, int_context_row}
+use Rattle.call_rows.specs.Unless.{unless}
+use Rattle.call_rows.specs.SafetyRows.{safe_row, unsafe_row}
 use Rattle.kernel_world.specs.declared.actor.Actor.{Actor}
 use Rattle.kernel_world.specs.declared.actor.Actor.TheVariants.{Task, Interrupt}
 use Rattle.kernel_world.proofs.Goes.{Goes, goes_nowhere, goes_further, more_counts, goes-move, goes-make_safe, goes-lessen}
@@ -90,7 +91,7 @@ module _ (k : KernState) (n : ℕ) (is : IsKern k) (within : CountsWithin n k) w
   safe_goes (Task who) = goes_further k (make_safe k who) (n + 1) (n + 1) 0 call_sinces (omega arith) (omega arith) (goes-make_safe k n is within who)
   safe_goes Interrupt = stays
 
-  unsafe_unless_goes : (who : ℕ) (o : Option Errno) → Goes k (unsafe_unless o k who).kern (n + 1) call_sinces
+  unsafe_unless_goes : (who : ℕ) (o : Option Errno) → Goes k (unless o (refused k) (done (lessen k who 1))).kern (n + 1) call_sinces
   unsafe_unless_goes who (Some e) = stays
   unsafe_unless_goes who None = goes_further k (lessen k who 1) n (n + 1) 256 call_sinces (omega arith) (omega arith) (goes-lessen k n is within who 1)
 

@@ -14,7 +14,9 @@ use Rattle.std.proofs.lemmas.List.Elements.{All-weaker}
 use Rattle.wind_core.specs.Move.{DrawIds}
 use Rattle.kernel_world.specs.State.{WorldState}
 use Rattle.kernel_world.specs.Kept.{IsWorld, Within}
-use Rattle.call_rows.specs.WatchRows.{WatchRow, create_row, create_unless, start_row, cancel_row, delete_row}
+use Rattle.kernel_world.specs.declared.reply.Reply.TheVariants.{Answer, Refusal}
+use Rattle.call_rows.specs.Unless.{unless}
+use Rattle.call_rows.specs.WatchRows.{WatchRow, row_of, create_row, start_row, cancel_row, delete_row}
 use Rattle.kernel_world.proofs.Goes.{drawn, goes-draw, id_left, goes_nowhere}
 use Rattle.kernel_world.proofs.ObjectMoves.{objects-move}
 use Rattle.kernel_world.proofs.Advancing.{Advances, advances_more, of_watches, stays}
@@ -73,7 +75,7 @@ module _ (w : WorldState) (kept : IsWorld w) (n : ℕ) (within : Within n w) whe
     more : AllBelow (next + 1) w.watch
     more = All-weaker (λ v. v.id < next) (λ v. v.id < next + 1) (λ v below. omega (arith, below)) w.watch.watchdogs kept.watch.ids
 
-    go : (r : Option Errno) → create_refusal (length w.watch.watchdogs) next ≡ r → Advances w (watched w (create_unless r w.kern w.watch)) n 0 1
+    go : (r : Option Errno) → create_refusal (length w.watch.watchdogs) next ≡ r → Advances w (watched w (unless r (λ e. row_of w.kern w.watch (Refusal e)) (row_of (drawn w.kern) (created w.watch next) (Answer next)))) n 0 1
     go (Some e) same = advances_more w w n n 0 0 0 1 (omega arith) (omega arith) (omega arith) (stays w kept n within)
     go None same =
         let left : next ≤ 1048576 = id_left 256 (length w.watch.watchdogs) next errors.TooMany errors.IdsSpent same in

@@ -1,3 +1,4 @@
+pub mod Unless
 pub mod SemRows
 pub mod QueueRows
 pub mod WatchRows

@@ -18,6 +18,7 @@ use Rattle.kernel_world.specs.declared.actor.Actor.{Actor}
 use Rattle.kernel_world.specs.declared.actor.Actor.TheVariants.{Task, Interrupt}
 use Rattle.kernel_world.specs.declared.reply.Reply.{Reply}
 use Rattle.kernel_world.specs.declared.reply.Reply.TheVariants.{Answer, Refusal, Later}
+use Rattle.call_rows.specs.Unless.{unless}
 use Rattle.call_rows.specs.SemRows.{took_reply}
 
 -- tasks, queues and RAM after the effect of a call, and how its caller is answered
@@ -34,13 +35,10 @@ abbrev pub MayUseQueues : Scene → Actor → Type 0
 MayUseQueues s a = Acts s.kern a × MayCall s.kern a × IsKept s × (s.kern.next_since < 2 ^ 62) × (s.kern.tick < 2 ^ 62)
 
 -- ---- msgQCreate
-abbrev pub create_unless : Option Errno → Scene → QueueState → QueueRow
-create_unless (Some e) s q = row_of s (Refusal e)
-create_unless None s q = row_of (created s q) (Answer s.kern.next_id)
-
 abbrev pub create_row : Scene → ℕ → ℕ → ℕ → QueueRow
 create_row s max_msgs max_len options =
-    create_unless (create_refusal (length s.queues.queues) s.kern.next_id max_msgs max_len options) s (new_queue max_msgs max_len options)
+    unless (create_refusal (length s.queues.queues) s.kern.next_id max_msgs max_len options) (λ e. row_of s (Refusal e))
+    (row_of (created s (new_queue max_msgs max_len options)) (Answer s.kern.next_id))
 
 -- ---- msgQSend: the caller, if it is a task; priority 1 is urgent, any other is normal
 abbrev pub task_in : Actor → Option ℕ

@@ -1,8 +1,7 @@
 -- The rows of safe sections, and of the deletion of a task.
-use Rattle.std.specs.Prelude.{ℕ, ◌==◌, if◌then◌else◌, Option, None, Some}
+use Rattle.std.specs.Prelude.{ℕ, ◌==◌, if◌then◌else◌}
 use Rattle.wind_base.specs.Limits.{ok_word}
 use Rattle.wind_base.specs.declared.board_kind.BoardKind.{BoardKind}
-use Rattle.wind_base.specs.declared.errno.Errno.{Errno}
 use Rattle.wind_base.specs.declared.errno.Errno.TheVariants as errors
 use Rattle.mem_partition.specs.State.{PartState}
 use Rattle.task_block.specs.declared.task.Task.{Task as TaskRecord}
@@ -13,6 +12,7 @@ use Rattle.task_safety.specs.Deletion.{deed_of, after}
 use Rattle.task_safety.specs.declared.deleting.Deed.{Deed}
 use Rattle.task_safety.specs.declared.deleting.Deed.TheVariants.{Refuses, EndsItself, Removes, Awaits}
 use Rattle.kernel_world.specs.Objects.{deletion_gate}
+use Rattle.call_rows.specs.Unless.{unless}
 use Rattle.call_rows.specs.TaskRows.{KernRow, done, refused, by_task}
 use Rattle.call_rows.specs.Ending.{without_stack}
 use Rattle.kernel_world.specs.declared.actor.Actor.{Actor}
@@ -25,12 +25,8 @@ abbrev pub safe_row : KernState → Actor → KernRow
 safe_row k a = by_task k a (λ who. done (make_safe k who))
 
 -- taskUnsafe
-abbrev pub unsafe_unless : Option Errno → KernState → ℕ → KernRow
-unsafe_unless (Some e) k who = refused k e
-unsafe_unless None k who = done (lessen k who 1)
-
 abbrev pub unsafe_row : KernState → Actor → KernRow
-unsafe_row k a = by_task k a (λ who. unsafe_unless (unsafe_refusal (task_of k.tasks who)) k who)
+unsafe_row k a = by_task k a (λ who. unless (unsafe_refusal (task_of k.tasks who)) (refused k) (done (lessen k who 1)))
 
 -- ---- taskDelete
 -- the kernel and the partition after it, and how its caller is answered

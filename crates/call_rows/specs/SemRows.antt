@@ -3,6 +3,7 @@
 use Rattle.std.specs.Prelude.{◌≡◌, ℕ, List, Bool, false, nat_le, if◌then◌else◌, Option, None, Some, is_some}
 use Rattle.wind_base.specs.Limits.{least_urgent, ok_word}
 use Rattle.wind_base.specs.SemBits.{read_options}
+use Rattle.call_rows.specs.Unless.{unless}
 use Rattle.wind_base.specs.declared.errno.Errno.{Errno}
 use Rattle.wind_base.specs.declared.errno.Errno.TheVariants as errors
 use Rattle.wind_base.specs.declared.semaphore.SemKind.TheVariants as kinds
@@ -65,12 +66,10 @@ of_task k o Interrupt f = refused k o errors.NotIsrCallable
 abbrev pub IdsAreNew : {T : Type 0} → KernState → List (ℕ × T) → Type 0
 IdsAreNew k rows = (k.lent ≡ false) × IdsBelow k.next_id rows
 
-abbrev pub made_unless : Option Errno → KernState → Objects → Semaphore → ObjectRow
-made_unless (Some e) k o v = refused k o e
-made_unless None k o v = by_semaphores o (plain.create (sems k o) v) (Answer k.next_id)
-
 abbrev pub made : KernState → Objects → Semaphore → ObjectRow
-made k o v = made_unless (plain.create_refusal (sems k o)) k o v
+made k o v =
+    unless (plain.create_refusal (sems k o)) (refused k o)
+    (by_semaphores o (plain.create (sems k o) v) (Answer k.next_id))
 
 -- semBCreate: initially empty or full
 abbrev pub binary_with : KernState → Objects → ℕ → Option SemOptions → ObjectRow
@@ -90,13 +89,11 @@ abbrev pub counting_row : KernState → Objects → ℕ → ℕ → ObjectRow
 counting_row k o options count = counting_with k o count (read_options options kinds.Counting)
 
 -- semMCreate
-abbrev pub mutex_unless : Option Errno → KernState → Objects → SemOptions → ObjectRow
-mutex_unless (Some e) k o options = refused k o e
-mutex_unless None k o options = by_mutexes o (making.create (mutexes k o) (making.new_mutex options)) (Answer k.next_id)
-
 abbrev pub mutex_with : KernState → Objects → Option SemOptions → ObjectRow
 mutex_with k o None = refused k o errors.InvalidOption
-mutex_with k o (Some options) = mutex_unless (making.create_refusal (mutexes k o)) k o options
+mutex_with k o (Some options) =
+    unless (making.create_refusal (mutexes k o)) (refused k o)
+    (by_mutexes o (making.create (mutexes k o) (making.new_mutex options)) (Answer k.next_id))
 
 abbrev pub mutex_row : KernState → Objects → ℕ → ObjectRow
 mutex_row k o options = mutex_with k o (read_options options kinds.Mutex)
@@ -107,59 +104,52 @@ took_reply Taken = Answer ok_word
 took_reply Pended = Later
 
 -- ---- semTake
-
-abbrev pub plain_take_unless : Option Errno → KernState → Objects → ℕ → ℕ → ℕ → ObjectRow
-plain_take_unless (Some e) k o who id n = refused k o e
-plain_take_unless None k o who id n = by_semaphores o (plain.take (sems k o) who id n) (took_reply (plain.took (sems k o) id))
-
 abbrev pub plain_take : KernState → Objects → ℕ → ℕ → ℕ → ObjectRow
-plain_take k o who id n = plain_take_unless (plain.take_refusal (sems k o) id n) k o who id n
-
-abbrev pub mutex_take_unless : Option Errno → KernState → Objects → ℕ → ℕ → ℕ → ObjectRow
-mutex_take_unless (Some e) k o who id n = refused k o e
-mutex_take_unless None k o who id n = by_mutexes o (mutex.take (mutexes k o) who id n) (took_reply (mutex.took who (object_of o.mutexes.rows id)))
+plain_take k o who id n =
+    unless (plain.take_refusal (sems k o) id n) (refused k o)
+    (by_semaphores o (plain.take (sems k o) who id n) (took_reply (plain.took (sems k o) id)))
 
 abbrev pub mutex_take : KernState → Objects → ℕ → ℕ → ℕ → ObjectRow
-mutex_take k o who id n = mutex_take_unless (mutex.take_refusal who n (object_of o.mutexes.rows id)) k o who id n
+mutex_take k o who id n =
+    unless (mutex.take_refusal who n (object_of o.mutexes.rows id)) (refused k o)
+    (by_mutexes o (mutex.take (mutexes k o) who id n) (took_reply (mutex.took who (object_of o.mutexes.rows id))))
 
 abbrev pub take_row : KernState → Objects → Actor → ℕ → ℕ → ObjectRow
 take_row k o a id n = of_task k o a (λ who. if is_mutex o id then mutex_take k o who id n else plain_take k o who id n)
 
 -- ---- semGive: an interrupt routine may not give a mutex
-abbrev pub plain_give_unless : Option Errno → KernState → Objects → ℕ → ObjectRow
-plain_give_unless (Some e) k o id = refused k o e
-plain_give_unless None k o id = by_semaphores o (plain.give (sems k o) id) (Answer ok_word)
-
 abbrev pub plain_give : KernState → Objects → ℕ → ObjectRow
-plain_give k o id = plain_give_unless (plain.give_refusal (sems k o) id) k o id
-
-abbrev pub mutex_give_unless : Option Errno → KernState → Objects → ℕ → ℕ → ObjectRow
-mutex_give_unless (Some e) k o who id = refused k o e
-mutex_give_unless None k o who id = by_mutexes o (mutex.give (mutexes k o) who id) (Answer ok_word)
+plain_give k o id =
+    unless (plain.give_refusal (sems k o) id) (refused k o)
+    (by_semaphores o (plain.give (sems k o) id) (Answer ok_word))
 
 abbrev pub mutex_give : KernState → Objects → ℕ → ℕ → ObjectRow
-mutex_give k o who id = mutex_give_unless (mutex.give_refusal who (object_of o.mutexes.rows id)) k o who id
+mutex_give k o who id =
+    unless (mutex.give_refusal who (object_of o.mutexes.rows id)) (refused k o)
+    (by_mutexes o (mutex.give (mutexes k o) who id) (Answer ok_word))
 
 abbrev pub give_row : KernState → Objects → Actor → ℕ → ObjectRow
 give_row k o a id = if is_mutex o id then of_task k o a (λ who. mutex_give k o who id) else plain_give k o id
 
 -- ---- semFlush: a mutex can't be flushed
-abbrev pub flush_unless : Option Errno → KernState → Objects → ℕ → ObjectRow
-flush_unless (Some e) k o id = refused k o e
-flush_unless None k o id = by_semaphores o (plain.flush (sems k o) id) (Answer ok_word)
+abbrev pub plain_flush : KernState → Objects → ℕ → ObjectRow
+plain_flush k o id =
+    unless (plain.flush_refusal (sems k o) id) (refused k o)
+    (by_semaphores o (plain.flush (sems k o) id) (Answer ok_word))
 
 abbrev pub flush_row : KernState → Objects → ℕ → ObjectRow
-flush_row k o id = if is_mutex o id then refused k o errors.InvalidOperation else flush_unless (plain.flush_refusal (sems k o) id) k o id
+flush_row k o id = if is_mutex o id then refused k o errors.InvalidOperation else plain_flush k o id
 
 -- ---- semDelete
-abbrev pub plain_delete_unless : Option Errno → KernState → Objects → ℕ → ObjectRow
-plain_delete_unless (Some e) k o id = refused k o e
-plain_delete_unless None k o id = by_semaphores o (plain.delete (sems k o) id) (Answer ok_word)
+abbrev pub plain_delete : KernState → Objects → ℕ → ObjectRow
+plain_delete k o id =
+    unless (plain.delete_refusal (sems k o) id) (refused k o)
+    (by_semaphores o (plain.delete (sems k o) id) (Answer ok_word))
 
 abbrev pub delete_row : KernState → Objects → ℕ → ObjectRow
 delete_row k o id =
     if is_mutex o id then by_mutexes o (mutex.delete (mutexes k o) id) (Answer ok_word)
-    else plain_delete_unless (plain.delete_refusal (sems k o) id) k o id
+    else plain_delete k o id
 
 -- ---- taskPrioritySet
 abbrev pub priority_row : KernState → Objects → ℕ → Option ℕ → ObjectRow

@@ -19,6 +19,7 @@ use Rattle.wind_core.specs.Moves.{spawn, spawn_refusal}
 use Rattle.kernel_world.specs.State.{WorldState}
 use Rattle.kernel_world.specs.Starting.{starting_regs, framed}
 use Rattle.board_mem.specs.Memory.{string_at}
+use Rattle.call_rows.specs.Unless.{unless}
 use Rattle.call_rows.specs.declared.spawning.Wanted.{Wanted}
 use Rattle.kernel_world.specs.declared.reply.Reply.{Reply}
 use Rattle.kernel_world.specs.declared.reply.Reply.TheVariants.{Answer, Refusal}
@@ -101,13 +102,10 @@ abbrev pub spawned_at : SpawnState → Wanted → Result ℕ PartErr → SpawnRo
 spawned_at w s (Err e) = no_spawn w errors.NotEnoughMemory
 spawned_at w s (Ok at) = record { after = spawned_on w s at; reply = Answer w.kern.next_id }
 
-abbrev pub spawned_unless : SpawnState → Wanted → Option Errno → SpawnRow
-spawned_unless w s (Some e) = no_spawn w e
-spawned_unless w s None = spawned_at w s (alloc_of w.part (stack_bytes s.stack) grain)
-
 -- refused if no more tasks may live or no id is left, then if the partition has no room for the stack
 abbrev pub spawned : SpawnState → Wanted → SpawnRow
-spawned w s = spawned_unless w s (spawn_refusal w.kern)
+spawned w s =
+    unless (spawn_refusal w.kern) (no_spawn w) (spawned_at w s (alloc_of w.part (stack_bytes s.stack) grain))
 
 -- or refused because the request was
 abbrev pub spawned_if : SpawnState → Result Wanted Errno → SpawnRow

@@ -1,7 +1,6 @@
 -- The rows of the calls on watchdogs.
 use Rattle.std.specs.Prelude.{ℕ, ◌+◌, length, Option, None, Some}
 use Rattle.wind_base.specs.Limits.{ok_word}
-use Rattle.wind_base.specs.declared.errno.Errno.{Errno}
 use Rattle.wind_base.specs.declared.errno.Errno.TheVariants as errors
 use Rattle.wind_core.specs.State.{KernState}
 use Rattle.isr_watch.specs.declared.watchdog.Watchdog.{Watchdog}
@@ -10,6 +9,7 @@ use Rattle.isr_watch.specs.State.{WatchState, watchdog_of}
 use Rattle.isr_watch.specs.Calls.{create_refusal, created, delete, start, cancel}
 use Rattle.kernel_world.specs.declared.reply.Reply.{Reply}
 use Rattle.kernel_world.specs.declared.reply.Reply.TheVariants.{Answer, Refusal}
+use Rattle.call_rows.specs.Unless.{unless}
 
 -- tasks and watchdogs after the effect of a call, and how its caller is answered
 pub record WatchRow : Type 0 where
@@ -21,12 +21,10 @@ abbrev pub row_of : KernState → WatchState → Reply → WatchRow
 row_of k s r = record { kern = k; watch = s; reply = r }
 
 -- wdCreate: the watchdog has the next id
-abbrev pub create_unless : Option Errno → KernState → WatchState → WatchRow
-create_unless (Some e) k s = row_of k s (Refusal e)
-create_unless None k s = row_of (record k { next_id = k.next_id + 1 }) (created s k.next_id) (Answer k.next_id)
-
 abbrev pub create_row : KernState → WatchState → WatchRow
-create_row k s = create_unless (create_refusal (length s.watchdogs) k.next_id) k s
+create_row k s =
+    unless (create_refusal (length s.watchdogs) k.next_id) (λ e. row_of k s (Refusal e))
+    (row_of (record k { next_id = k.next_id + 1 }) (created s k.next_id) (Answer k.next_id))
 
 -- the other calls are refused if no watchdog with the id lives
 abbrev pub live_reply : Option Watchdog → Reply

@@ -11,9 +11,9 @@ use Rattle.elf_read.specs.declared.module.SymPlace.TheVariants.{Undefined}
 use Rattle.elf_read.specs.declared.module.Module.{Module}
 use Rattle.elf_read.specs.Places.{half, word, part}
 use Rattle.elf_read.specs.Numbered.{first_from}
-use Rattle.elf_read.specs.Tables.{header, content, is_loaded, section_names, symtab, has_symtab, symbol_count, symbol, is_elsewhere}
+use Rattle.elf_read.specs.Tables.{header, content, is_loaded, has_name, section_names, symtab, has_symtab, symbol_count, symbol, is_elsewhere}
 use Rattle.elf_build.specs.Entries.{symbol_bytes, sym_entry, kind_of}
-use Rattle.elf_build.specs.File.{tables_of, header_total, contents_of, symbols_of, relocs_of, strings_of, names_of, symbols_at, relocs_at, strings_at, names_at, headers_at, count_of, null_header, symtab_header, strings_header, locals_end, locals_from, sect_name, sym_name, symbols_from, fixed_names, rel_bytes}
+use Rattle.elf_build.specs.File.{tables_of, header_total, contents_of, symbols_of, relocs_of, strings_of, names_of, table_name, symbols_at, relocs_at, strings_at, names_at, headers_at, count_of, null_header, symtab_header, strings_header, locals_end, locals_from, sect_name, sym_name, symbols_from, fixed_names, rel_bytes}
 use Rattle.elf_build.specs.Buildable.{Buildable}
 use Rattle.elf_build.proofs.Good.{GoodRel, good_sects, good_syms, good_rels}
 use Rattle.elf_build.proofs.TableLemmas.{flat_tables, are_tables}
@@ -24,6 +24,7 @@ use Rattle.elf_build.proofs.Names.{below, then_branch}
 use Rattle.elf_build.proofs.Sections.{SectAt, AllAt, sects_are, at_number}
 use Rattle.elf_build.proofs.Symbols.{Loads, SymAt, syms_are}
 use Rattle.elf_build.proofs.Relocs.{TableAt, tables_are}
+use Rattle.elf_build.proofs.TableNames.{table_stands, table_named}
 use Rattle.elf_build.proofs.Splits.{first_is}
 
 pub record Known (bytes : List ℕ) (m : Module) : Type 0 where
@@ -97,10 +98,10 @@ sects_held bytes m p h k b =
     let few = b.few_headers in
     let short = p.short in
     let w = p.names.within in
-    sects_are bytes (names_of m.sections) (headers_at m) (header_total m) 1 33 52 m.sections
+    sects_are bytes (names_of m.sections) (headers_at m) (header_total m) 1 27 52 m.sections
     (record { place_is = k.place_is; count_is = k.count_is; names_is = k.section_names_are; short = short; names_short = omega arith })
     (omega arith) h.sects
-    (stands_suffix (names_of m.sections) 0 33 fixed_names (flat_map sect_name m.sections) (stands_whole (names_of m.sections)) refl)
+    (stands_suffix (names_of m.sections) 0 27 fixed_names (flat_map sect_name m.sections) (stands_whole (names_of m.sections)) refl)
     p.contents (good_sects m b)
 
 and_false : (a : Bool) → (a && false) ≡ false
@@ -212,6 +213,8 @@ pub relas_held : (bytes : List ℕ) (m : Module) → Parts bytes m → Headers b
 unfolding relocs_of
 relas_held bytes m p h k b all loads t there count syms =
     let few = b.few_headers in
+    let short = p.short in
+    let names = p.names.within in
     let flat = flat_tables m.relocs in
     tables_are bytes m.sections (headers_at m) (count_of m + 1) (length m.symbols) (count_of m + 4) (relocs_at m) (tables_of m.relocs)
     (record {
@@ -226,6 +229,8 @@ relas_held bytes m p h k b all loads t there count syms =
       table_is = t;
       table_there = there;
       table_low = omega arith;
+      named = λ i l. ap (λ names. has_name names (table_name m.sections i)) k.section_names_are ∙ table_named m.sections i (good_sects m b) l;
+      name_low = λ i l. let w = (table_stands m.sections i no_sect l).within in omega arith;
     })
     h.relas (subst (λ rs. Stands bytes (relocs_at m) (flat_map rel_bytes rs)) (sym flat) p.relocs)
     (subst (All (GoodRel m.sections (length m.symbols))) (sym flat) (good_rels m b)) (are_tables m.relocs) no_sect no_rel

@@ -4,8 +4,9 @@ use Rattle.std.specs.List.{flat_map}
 use Rattle.elf_read.specs.declared.module.Sect.{Sect}
 use Rattle.elf_read.specs.declared.module.Sym.{Sym}
 use Rattle.elf_read.specs.declared.module.Module.{Module}
-use Rattle.elf_build.specs.File.{tables_of, header_total, contents_of, symbols_of, relocs_of, strings_of, names_of, symbols_at, relocs_at, strings_at, names_at, headers_at, headers_of, count_of, null_header, symtab_header, strings_header, locals_end, sect_name, sym_name, sect_content, fixed_names, file_of}
+use Rattle.elf_build.specs.File.{tables_of, header_total, contents_of, symbols_of, relocs_of, strings_of, names_of, symbols_at, relocs_at, strings_at, names_at, headers_at, headers_of, count_of, null_header, symtab_header, strings_header, locals_end, sect_name, sym_name, sect_content, file_of}
 use Rattle.elf_build.proofs.Parts.{length_file, length_relocs}
+use Rattle.elf_build.proofs.Sizes.{length_names}
 use Rattle.elf_build.proofs.EntryLemmas.{length_header}
 use Rattle.elf_build.proofs.Spread.{length_sect_headers}
 use Rattle.elf_build.proofs.Known.{length_symbols}
@@ -18,16 +19,12 @@ length_headers m =
     simp length-append (omega (
       arith,
       length_header null_header,
-      length_sect_headers 33 52 m.sections,
+      length_sect_headers 27 52 m.sections,
       length_header (symtab_header (symbols_at m) (length (symbols_of m.symbols)) (n + 2) (locals_end m.symbols)),
       length_header (strings_header 9 (strings_at m) (length (strings_of m.symbols))),
       length_header (strings_header 17 (names_at m) (length (names_of m.sections))),
-      length_table_headers (n + 1) (relocs_at m) (tables_of m.relocs),
+      length_table_headers m.sections (n + 1) (relocs_at m) (tables_of m.relocs),
     ))
-
-length_names : (ss : List Sect) → length (names_of ss) ≡ 33 + length (flat_map sect_name ss)
-unfolding names_of fixed_names
-length_names ss = length-append fixed_names (flat_map sect_name ss)
 
 length_strings : (ss : List Sym) → length (strings_of ss) ≡ 1 + length (flat_map sym_name ss)
 unfolding strings_of
@@ -41,7 +38,7 @@ ends : (m : Module) → headers_at m ≡ 52 + length (contents_of m.sections) + 
 unfolding headers_at names_at strings_at relocs_at symbols_at
 ends m = refl
 
-pub length_formula : (m : Module) → length (file_of m) ≡ 52 + length (flat_map sect_content m.sections) + 16 * (length m.symbols + 1) + 12 * length m.relocs + 1 + length (flat_map sym_name m.symbols) + 33 + length (flat_map sect_name m.sections) + 40 * header_total m
+pub length_formula : (m : Module) → length (file_of m) ≡ 52 + length (flat_map sect_content m.sections) + 16 * (length m.symbols + 1) + 12 * length m.relocs + 1 + length (flat_map sym_name m.symbols) + 27 + length (flat_map sect_name m.sections) + 40 * header_total m
 length_formula m =
     let a = length_file m in
     let b = length_headers m in

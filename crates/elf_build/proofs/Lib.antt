@@ -1,5 +1,6 @@
 pub mod Good
 pub mod TableLemmas
+pub mod TableNames
 pub mod Joins
 pub mod Judged
 pub mod Known

@@ -70,6 +70,9 @@ any_ended (suc n) (x ∷ xs) rest h = or_true (is_zero x) (list_any is_zero (tak
 pub name_is : (strings : List ℕ) (k : ℕ) (name : List ℕ) → Stands strings k (ended name) → IsName name → name_at strings k ≡ name
 name_is strings k name s n = ap text_of s.is ∙ text_ended name s.rest n.no_zero
 
-pub name_there : (strings : List ℕ) (k : ℕ) (name : List ℕ) → Stands strings k (ended name) → IsName name → has_name strings k ≡ true
+pub short_there : (strings : List ℕ) (k : ℕ) (name : List ℕ) → Stands strings k (ended name) → length name ≤ 255 → has_name strings k ≡ true
 unfolding has_name
-name_there strings k name s n = ap (λ xs. list_any is_zero (take 256 xs)) s.is ∙ any_ended 256 name s.rest (let h = n.size in omega arith)
+short_there strings k name s h = ap (λ xs. list_any is_zero (take 256 xs)) s.is ∙ any_ended 256 name s.rest (omega arith)
+
+pub name_there : (strings : List ℕ) (k : ℕ) (name : List ℕ) → Stands strings k (ended name) → IsName name → has_name strings k ≡ true
+name_there strings k name s n = short_there strings k name s n.size

@@ -60,7 +60,8 @@ writable m b =
       few_relocs = b.sound.few_relocs;
       sections = λ k d l. let h = (b.sound.sections k d l).size in omega arith;
       symbols = λ k d l. let h = b.sound.symbols k d l in let y = get_or m.symbols k d in record { place = numbered m.sections y.place y.value y.size h.place (omega arith); binding = h.binding; kind = h.kind };
-      relocs = λ k d l. let h = b.sound.relocs k d l in let s = h.symbol in let n = h.section in record { symbol = omega arith; section = omega arith };
+      relocs = λ k d l. let s = (b.sound.relocs k d l).symbol in record { symbol = omega arith };
+      targets = λ k d l. record { section = (b.sound.relocs k d l).section };
       ends = let f = length_file m in let g = b.short in omega arith;
       tables = tables m;
       header_fits = let f = length_file m in let g = b.short in let h = contents_before m in omega arith;

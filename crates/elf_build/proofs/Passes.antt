@@ -15,7 +15,7 @@ use Rattle.elf_read.specs.Rules.{length_rule, ident_from, ident_rule, machine_ru
 use Rattle.elf_read.specs.Tables.{header, header_offset, is_loaded, symtab, symbol_count, has_name, is_zero, is_applied, rela_count}
 use Rattle.elf_read.specs.Contents.{ModuleOf}
 use Rattle.elf_build.specs.Entries.{header_bytes, kind_of}
-use Rattle.elf_build.specs.File.{RelocTable, tables_of, header_total, symbols_of, strings_of, names_of, symbols_at, relocs_at, strings_at, names_at, headers_at, count_of, elf_header, file_of, null_header, symtab_header, strings_header, locals_end, table_header, table_headers, fixed_names}
+use Rattle.elf_build.specs.File.{RelocTable, tables_of, header_total, symbols_of, strings_of, names_of, symbols_at, relocs_at, strings_at, names_at, headers_at, count_of, elf_header, file_of, null_header, symtab_header, strings_header, locals_end, table_name, table_header, table_headers, fixed_names}
 use Rattle.elf_build.specs.Buildable.{Buildable}
 use Rattle.elf_build.specs.Laws.{ReadsBack}
 use Rattle.elf_build.proofs.Stands.{Stands, stands_in, half_is, byte_is}
@@ -69,12 +69,13 @@ size_word : (bytes : List ℕ) (headers count names : ℕ) → Stands bytes 0 (e
 unfolding elf_header
 size_word bytes headers count names s = half_is bytes 46 40 (drop 48 (elf_header headers count names)) (stands_in bytes 0 46 (elf_header headers count names) s (omega arith)) (omega arith)
 
-pub length_table_headers : (table at : ℕ) (ts : List RelocTable) → length (table_headers table at ts) ≡ 40 * length ts
-length_table_headers table at [] = refl
-length_table_headers table at (t ∷ ts) =
-    let a = length_header (table_header table at t.section (length t.relocs)) in
-    let b = length_table_headers table (at + 12 * length t.relocs) ts in
-    let c = length-append (header_bytes (table_header table at t.section (length t.relocs))) (table_headers table (at + 12 * length t.relocs) ts) in
+pub length_table_headers : (ss : List Sect) (table at : ℕ) (ts : List RelocTable) → length (table_headers ss table at ts) ≡ 40 * length ts
+length_table_headers ss table at [] = refl
+length_table_headers ss table at (t ∷ ts) =
+    let here = table_header (table_name ss t.section) table at t.section (length t.relocs) in
+    let a = length_header here in
+    let b = length_table_headers ss table (at + 12 * length t.relocs) ts in
+    let c = length-append (header_bytes here) (table_headers ss table (at + 12 * length t.relocs) ts) in
     omega arith
 
 headers_pass : (bytes : List ℕ) (m : Module) → Held bytes m → Buildable m → headers_rule bytes ≡ Ok tt
@@ -86,7 +87,7 @@ headers_pass bytes m h b =
     let place = h.facts.place_is in
     let size = size_word bytes (headers_at m) (header_total m) (n + 3) h.parts.header_fits in
     let w = h.headers.relas.within in
-    let l = length_table_headers (n + 1) (relocs_at m) (tables_of m.relocs) in
+    let l = length_table_headers m.sections (n + 1) (relocs_at m) (tables_of m.relocs) in
     and_ok (unless (half bytes 46 == 40) (BadSection 46)) (unless (not (half bytes 48 == 0)) (BadSection 48) and_then unless (nat_lt (half bytes 50) (half bytes 48)) (BadSection 50) and_then unless (nat_le (half bytes 48) 4096) (TooMany 48) and_then unless (nat_le (word bytes 32 + 40 * half bytes 48) (length bytes)) (Short 32))
     (ap (λ x. unless x (BadSection 46)) (equals (half bytes 46) 40 size))
     (and_ok (unless (not (half bytes 48 == 0)) (BadSection 48)) (unless (nat_lt (half bytes 50) (half bytes 48)) (BadSection 50) and_then unless (nat_le (half bytes 48) 4096) (TooMany 48) and_then unless (nat_le (word bytes 32 + 40 * half bytes 48) (length bytes)) (Short 32))
@@ -160,11 +161,10 @@ record HaveNames (names : List ℕ) : Type 0 where
   symtab : has_name names 1 ≡ true
   strtab : has_name names 9 ≡ true
   shstrtab : has_name names 17 ≡ true
-  rela : has_name names 27 ≡ true
 
 have_names : (ss : List Sect) → HaveNames (names_of ss)
 unfolding has_name names_of fixed_names
-have_names ss = record { null = refl; symtab = refl; strtab = refl; shstrtab = refl; rela = refl }
+have_names ss = record { null = refl; symtab = refl; strtab = refl; shstrtab = refl }
 
 null_named : (bytes : List ℕ) (m : Module) → Known bytes m → (header bytes 0).name ≡ 0
 unfolding null_header
@@ -192,7 +192,7 @@ names_pass bytes m h =
     (name_by bytes m (n + 1) 1 k (table_named bytes m k) (have_names m.sections).symtab)
     (name_by bytes m (n + 2) 9 k (strings_named bytes m k) (have_names m.sections).strtab)
     (name_by bytes m (n + 3) 17 k (names_named bytes m k) (have_names m.sections).shstrtab)
-    (relas_pass bytes m (name_rule bytes) h (λ i g x. name_by bytes m i 27 k x.name (have_names m.sections).rela))
+    (relas_pass bytes m (name_rule bytes) h (λ i g x. x.named))
 
 -- ---- loaded sections
 

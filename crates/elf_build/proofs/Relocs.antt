@@ -5,7 +5,7 @@ use Rattle.std.specs.List.{All, flat_map}
 use Rattle.std.proofs.lemmas.List.{drop_at, take_at}
 use Rattle.std.proofs.lemmas.List.Elements.{All-take, All-drop, All-same}
 use Rattle.std.proofs.lemmas.Grind.{flat_map-append}
-use Rattle.elf_read.specs.declared.error.ElfErr.TheVariants.{BadReloc, Short}
+use Rattle.elf_read.specs.declared.error.ElfErr.TheVariants.{BadReloc, BadSection, Short}
 use Rattle.elf_read.specs.declared.module.Body.{Body}
 use Rattle.elf_read.specs.declared.module.Body.TheVariants.{Bytes, Size}
 use Rattle.elf_read.specs.declared.module.Sect.{Sect}
@@ -13,12 +13,12 @@ use Rattle.elf_read.specs.declared.module.Rel.{Rel}
 use Rattle.elf_read.specs.Places.{half, word, rela_at}
 use Rattle.elf_read.specs.Rule.{unless, when, each}
 use Rattle.elf_read.specs.Numbered.{total, gathered}
-use Rattle.elf_read.specs.Rules.{has_content, content_rule, is_right_relocation, relocation_rule, relocations_rule, is_right_table}
-use Rattle.elf_read.specs.Tables.{header, header_offset, is_loaded, loaded_before, is_elsewhere, is_applied, rela_count, rela_offset, relocation, symbol, symbol_count, symtab, has_symtab, width}
+use Rattle.elf_read.specs.Rules.{has_content, content_rule, name_rule, is_right_relocation, relocation_rule, relocations_rule, is_right_table}
+use Rattle.elf_read.specs.Tables.{header, header_offset, has_name, section_names, is_loaded, loaded_before, is_elsewhere, is_applied, rela_count, rela_offset, relocation, symbol, symbol_count, symtab, has_symtab, width}
 use Rattle.elf_read.specs.Contents.{rel_of, rels_at}
 use Rattle.elf_build.specs.Entries.{header_bytes, rel_entry, kind_of}
 use Rattle.elf_read.specs.Modules.{size_of, HoldsBytes}
-use Rattle.elf_build.specs.File.{RelocTable, rel_bytes, table_header, table_headers}
+use Rattle.elf_build.specs.File.{RelocTable, rel_bytes, table_name, table_header, table_headers}
 use Rattle.elf_build.proofs.Good.{GoodRel}
 use Rattle.elf_build.proofs.TableLemmas.{relocs_in, IsRelocTable}
 use Rattle.elf_build.proofs.Stands.{Stands, stands_prefix, stands_suffix}
@@ -46,6 +46,8 @@ pub record RelReads (bytes : List ℕ) (place table : ℕ) (sections : List Sect
   pub table_is : symtab bytes ≡ table
   pub table_there : has_symtab bytes ≡ true
   pub table_low : table < 4096
+  pub named : (k : ℕ) → k < length sections → has_name (section_names bytes) (table_name sections k) ≡ true
+  pub name_low : (k : ℕ) → k < length sections → table_name sections k < 2 ^ 32
 
 pub record RelAt (bytes : List ℕ) (i q : ℕ) (r : Rel) : Type 0 where
   pub same : rel_of bytes i q ≡ r
@@ -144,7 +146,7 @@ rels_are bytes sections place table symbols i q at j (r ∷ rs) c o e s good of 
 
 -- header number i is that of the relocations of one section
 pub record TableAt (bytes : List ℕ) (i : ℕ) (g : RelocTable) : Type 0 where
-  pub name : (header bytes i).name ≡ 27
+  pub named : name_rule bytes i ≡ Ok tt
   pub kind : (header bytes i).kind ≡ 4
   pub not_loaded : (bit_and (header bytes i).flags 2 == 0) ≡ true
   pub target : is_loaded bytes (header bytes i).info ≡ true
@@ -165,20 +167,24 @@ count_by bytes i n k l s =
     twelve : (n : ℕ) → (12 * n) / 12 ≡ n
     twelve n = omega arith
 
-form_by : (bytes : List ℕ) (i table n at j : ℕ) → header bytes i ≡ table_header table at j n → symtab bytes ≡ table → has_symtab bytes ≡ true → is_right_table bytes i ≡ true
+form_by : (bytes : List ℕ) (i name table n at j : ℕ) → header bytes i ≡ table_header name table at j n → symtab bytes ≡ table → has_symtab bytes ≡ true → is_right_table bytes i ≡ true
 unfolding is_right_table table_header
-form_by bytes i table n at j e t h =
-    let h0 = table_header table at j n in
+form_by bytes i name table n at j e t h =
     let whole : (12 * n) % 12 ≡ 0 = omega arith in
     ap (λ x. (x.kind == 4) && ((x.entry_size == 12) && ((x.size % 12 == 0) && (has_symtab bytes && (x.link == symtab bytes))))) e
     ∙ and_true ((12 * n) % 12 == 0) (has_symtab bytes && (table == symtab bytes)) (equals ((12 * n) % 12) 0 whole)
     (and_true (has_symtab bytes) (table == symtab bytes) h (equals table (symtab bytes) (sym t)))
 
-content_by : (bytes : List ℕ) (i table n at j : ℕ) → header bytes i ≡ table_header table at j n → at + 12 * n ≤ length bytes → content_rule bytes i ≡ Ok tt
+content_by : (bytes : List ℕ) (i name table n at j : ℕ) → header bytes i ≡ table_header name table at j n → at + 12 * n ≤ length bytes → content_rule bytes i ≡ Ok tt
 unfolding has_content table_header
-content_by bytes i table n at j e h =
+content_by bytes i name table n at j e h =
     ap (λ x. when (has_content x) (unless (nat_le (x.offset + x.size) (length bytes)) (Short (header_offset bytes i + 16)))) e
     ∙ ap (λ b. unless b (Short (header_offset bytes i + 16))) (at_most (at + 12 * n) (length bytes) h)
+
+named_by : (bytes : List ℕ) (i name : ℕ) → (header bytes i).name ≡ name → has_name (section_names bytes) name ≡ true → name_rule bytes i ≡ Ok tt
+named_by bytes i name e h =
+    ap (λ k. unless (has_name (section_names bytes) k) (BadSection (header_offset bytes i))) e
+    ∙ ap (λ b. unless b (BadSection (header_offset bytes i))) h
 
 reads_by : (bytes : List ℕ) (i n : ℕ) (rs : List Rel) → rela_count bytes i ≡ n → length rs ≡ n → AllAt (RelAt bytes i) 0 rs → rels_at bytes i ≡ rs
 unfolding rels_at
@@ -191,16 +197,18 @@ right_all bytes i n rs c l all =
     ap (λ k. each 0 k (relocation_rule bytes i)) (c ∙ sym l)
     ∙ each_are (RelAt bytes i) (relocation_rule bytes i) 0 rs (λ q r h. h.fits) all
 
-table_is_at : (bytes : List ℕ) (sections : List Sect) (place table symbols i at : ℕ) (t : RelocTable) → RelReads bytes place table sections symbols → Stands bytes (place + 40 * i) (header_bytes (table_header table at t.section (length t.relocs))) → Stands bytes at (flat_map rel_bytes t.relocs) → at + 12 * length t.relocs ≤ length bytes → t.section < length sections → All (GoodRel sections symbols) t.relocs → IsRelocTable t → (d : Sect) → TableAt bytes i t
+table_is_at : (bytes : List ℕ) (sections : List Sect) (place table symbols i at : ℕ) (t : RelocTable) → RelReads bytes place table sections symbols → Stands bytes (place + 40 * i) (header_bytes (table_header (table_name sections t.section) table at t.section (length t.relocs))) → Stands bytes at (flat_map rel_bytes t.relocs) → at + 12 * length t.relocs ≤ length bytes → t.section < length sections → All (GoodRel sections symbols) t.relocs → IsRelocTable t → (d : Sect) → TableAt bytes i t
 unfolding table_header
 table_is_at bytes sections place table symbols i at t c h s long l good of d =
     let j = t.section in
     let k = length t.relocs in
+    let name = table_name sections j in
+    let name_low = c.name_low j l in
     let short = c.short in
     let low_table = c.table_low in
     let few = c.loads.few in
     let many = c.loads.count in
-    let e : header bytes i ≡ table_header table at j k = header_is bytes place i (table_header table at j k) c.place_is h
+    let e : header bytes i ≡ table_header name table at j k = header_is bytes place i (table_header name table at j k) c.place_is h
     (record { name = omega arith; kind = omega arith; flags = omega arith; offset = omega arith; size = omega arith; link = omega arith; info = omega arith; align = omega arith; entry_size = omega arith }) in
     let info : (header bytes i).info ≡ j + 1 = ap (λ x. x.info) e in
     let one : j + 1 ≡ suc j = omega arith in
@@ -210,14 +218,14 @@ table_is_at bytes sections place table symbols i at t c h s long l good of d =
     let start : at ≡ at + 12 * 0 = omega arith in
     let all = rels_are bytes sections place table symbols i 0 at j t.relocs c (ap (λ x. x.offset) e) info (subst (λ x. Stands bytes x (flat_map rel_bytes t.relocs)) start s) good of.same d in
     record {
-      name = ap (λ x. x.name) e;
+      named = named_by bytes i name (ap (λ x. x.name) e) (c.named j l);
       kind = kind;
       not_loaded = ap (λ x. bit_and x.flags 2 == 0) e;
       target = target;
       low = omega arith;
-      form = form_by bytes i table k at j e c.table_is c.table_there;
+      form = form_by bytes i name table k at j e c.table_is c.table_there;
       count = count;
-      content = content_by bytes i table k at j e long;
+      content = content_by bytes i name table k at j e long;
       reads = reads_by bytes i k t.relocs count refl all;
       right = right_all bytes i k t.relocs count refl all;
     }
@@ -237,12 +245,12 @@ all_suffix P xs ys h = All-same P ys (drop (length xs) (xs ++ ys)) (sym (drop_at
 flat_parts : (t : RelocTable) (ts : List RelocTable) → flat_map rel_bytes (t.relocs ++ flat_map relocs_in ts) ≡ flat_map rel_bytes t.relocs ++ flat_map rel_bytes (flat_map relocs_in ts)
 flat_parts t ts = flat_map-append rel_bytes t.relocs (flat_map relocs_in ts)
 
-pub tables_are : (bytes : List ℕ) (sections : List Sect) (place table symbols i at : ℕ) (ts : List RelocTable) → RelReads bytes place table sections symbols → Stands bytes (place + 40 * i) (table_headers table at ts) → Stands bytes at (flat_map rel_bytes (flat_map relocs_in ts)) → All (GoodRel sections symbols) (flat_map relocs_in ts) → All IsRelocTable ts → (d : Sect) (r : Rel) → AllAt (TableAt bytes) i ts
+pub tables_are : (bytes : List ℕ) (sections : List Sect) (place table symbols i at : ℕ) (ts : List RelocTable) → RelReads bytes place table sections symbols → Stands bytes (place + 40 * i) (table_headers sections table at ts) → Stands bytes at (flat_map rel_bytes (flat_map relocs_in ts)) → All (GoodRel sections symbols) (flat_map relocs_in ts) → All IsRelocTable ts → (d : Sect) (r : Rel) → AllAt (TableAt bytes) i ts
 tables_are bytes sections place table symbols i at [] c h s good of d r = tt
 tables_are bytes sections place table symbols i at (t ∷ ts) c h s good of d r =
-    let here = header_bytes (table_header table at t.section (length t.relocs)) in
-    let rest = table_headers table (at + 12 * length t.relocs) ts in
-    let size = length_header (table_header table at t.section (length t.relocs)) in
+    let here = header_bytes (table_header (table_name sections t.section) table at t.section (length t.relocs)) in
+    let rest = table_headers sections table (at + 12 * length t.relocs) ts in
+    let size = length_header (table_header (table_name sections t.section) table at t.section (length t.relocs)) in
     let next = stands_suffix bytes (place + 40 * i) (place + 40 * (i + 1)) here rest h (omega arith) in
     let long = flat_length t.relocs in
     let both = subst (Stands bytes at) (flat_parts t ts) s in

@@ -1,5 +1,5 @@
 -- The loaded sections of a built file.
-use Rattle.std.proofs.Common.{◌≡◌, ℕ, zero, suc, ◌+◌, ◌*◌, ◌<◌, ◌≤◌, ◌^◌, List, [], ◌∷◌, ◌++◌, length, get_or, refl, sym, ◌∙◌, ap, subst, arith, length-append, add-zero, true, false, nat_le, nat_lt, Ok}
+use Rattle.std.proofs.Common.{◌≡◌, ℕ, zero, suc, ◌+◌, ◌*◌, ◌<◌, ◌≤◌, ◌^◌, List, [], ◌∷◌, ◌++◌, length, get_or, refl, sym, ◌∙◌, ap, subst, arith, add-zero, true, false, nat_le, nat_lt, Ok}
 use Rattle.std.specs.Prelude.{◌==◌, ◌&&◌, ◌||◌, not, if◌then◌else◌, bit_and}
 use Rattle.std.specs.List.{All, flat_map}
 use Rattle.elf_read.specs.declared.error.ElfErr.{ElfErr}
@@ -16,7 +16,7 @@ use Rattle.elf_read.specs.Tables.{header, header_offset, content, is_loaded, has
 use Rattle.elf_read.specs.Contents.{name_at, sect_of, sects_at}
 use Rattle.elf_build.specs.Entries.{header_bytes, sect_header, kind_of, content_of, ended}
 use Rattle.elf_read.specs.Modules.{size_of, IsName}
-use Rattle.elf_build.specs.File.{sect_headers, sect_name, sect_content}
+use Rattle.elf_build.specs.File.{sect_headers, prefix_of, sect_name, sect_content}
 use Rattle.elf_build.proofs.Good.{GoodSect}
 use Rattle.elf_read.proofs.AlignmentLemmas.{alignment_between}
 use Rattle.elf_build.proofs.Stands.{Stands, stands_prefix, stands_suffix, part_is}
@@ -139,19 +139,20 @@ AllAt P i (x ∷ xs) = P i x × AllAt P (i + 1) xs
 pub sects_are : (bytes names : List ℕ) (place count i name at : ℕ) (ss : List Sect) → Reads bytes place count names → i + length ss ≤ count → Stands bytes (place + 40 * i) (sect_headers name at ss) → Stands names name (flat_map sect_name ss) → Stands bytes at (flat_map sect_content ss) → All GoodSect ss → AllAt (SectAt bytes) i ss
 sects_are bytes names place count i name at [] r l h n c good = tt
 sects_are bytes names place count i name at (s ∷ ss) r l h n c good =
-    let here = header_bytes (sect_header name at s) in
-    let size = length_header (sect_header name at s) in
-    let long = length-append s.name (0 ∷ []) in
-    let headers = sect_headers (name + length s.name + 1) (at + length (sect_content s)) ss in
+    let own = name + length (prefix_of s) in
+    let here = header_bytes (sect_header own at s) in
+    let size = length_header (sect_header own at s) in
+    let entry = stands_prefix names name (sect_name s) (flat_map sect_name ss) n in
+    let headers = sect_headers (name + length (sect_name s)) (at + length (sect_content s)) ss in
     let next = stands_suffix bytes (place + 40 * i) (place + 40 * (i + 1)) here headers h (omega arith) in
-    let names_next = stands_suffix names name (name + length s.name + 1) (ended s.name) (flat_map sect_name ss) n (omega arith) in
+    let names_next = stands_suffix names name (name + length (sect_name s)) (sect_name s) (flat_map sect_name ss) n refl in
     let content_next = stands_suffix bytes at (at + length (sect_content s)) (sect_content s) (flat_map sect_content ss) c refl in (
-      sect_is bytes names place count i name at s r (omega arith)
+      sect_is bytes names place count i own at s r (omega arith)
           (stands_prefix bytes (place + 40 * i) here headers h)
-          (stands_prefix names name (ended s.name) (flat_map sect_name ss) n)
+          (stands_suffix names name own (prefix_of s) (ended s.name) entry refl)
           (stands_prefix bytes at (sect_content s) (flat_map sect_content ss) c)
           (all_first GoodSect s ss good),
-      sects_are bytes names place count (i + 1) (name + length s.name + 1) (at + length (sect_content s)) ss r (omega arith) next names_next content_next (all_rest GoodSect s ss good),
+      sects_are bytes names place count (i + 1) (name + length (sect_name s)) (at + length (sect_content s)) ss r (omega arith) next names_next content_next (all_rest GoodSect s ss good),
     )
 
 -- ---- what follows

@@ -3,8 +3,9 @@ use Rattle.std.proofs.Common.{◌≡◌, ℕ, suc, ◌+◌, ◌*◌, ◌<◌, Li
 use Rattle.std.specs.List.{flat_map}
 use Rattle.std.proofs.lemmas.List.{drop_more}
 use Rattle.elf_read.specs.declared.module.Sect.{Sect}
+use Rattle.elf_read.specs.declared.module.Sym.{Sym}
 use Rattle.elf_build.specs.Entries.{ended}
-use Rattle.elf_build.specs.File.{sect_content}
+use Rattle.elf_build.specs.File.{sect_content, prefix_of, sect_name, sym_name, fixed_names, names_of}
 
 -- the rest of the contents, one section further
 pub contents_left : (ss : List Sect) (i : ℕ) (d : Sect) → i < length ss → length (flat_map sect_content (drop i ss)) ≡ length (sect_content (get_or ss i d)) + length (flat_map sect_content (drop (i + 1) ss))
@@ -25,10 +26,26 @@ length_flat f n h (x ∷ xs) =
     mul-suc_flip n k = grind arith
 
 -- the rest of the names, one further
-pub names_left : {X : Type 0} (name : X → List ℕ) (xs : List X) (i : ℕ) (d : X) → i < length xs
-    → length (flat_map (λ x. ended (name x)) (drop i xs)) ≡ length (name (get_or xs i d)) + 1 + length (flat_map (λ x. ended (name x)) (drop (i + 1) xs))
-names_left name xs i d h =
-    let a = ap (λ ys. length (flat_map (λ x. ended (name x)) ys)) (drop_more xs i d h) in
-    let b = length-append (ended (name (get_or xs i d))) (flat_map (λ x. ended (name x)) (drop (i + 1) xs)) in
-    let c = length-append (name (get_or xs i d)) (0 ∷ []) in
+pub sect_names_left : (ss : List Sect) (i : ℕ) (d : Sect) → i < length ss → length (flat_map sect_name (drop i ss)) ≡ length (sect_name (get_or ss i d)) + length (flat_map sect_name (drop (i + 1) ss))
+sect_names_left ss i d h =
+    ap (λ xs. length (flat_map sect_name xs)) (drop_more ss i d h)
+    ∙ length-append (sect_name (get_or ss i d)) (flat_map sect_name (drop (i + 1) ss))
+
+pub sym_names_left : (ss : List Sym) (i : ℕ) (d : Sym) → i < length ss → length (flat_map sym_name (drop i ss)) ≡ length (get_or ss i d).name + 1 + length (flat_map sym_name (drop (i + 1) ss))
+sym_names_left ss i d h =
+    let a = ap (λ xs. length (flat_map sym_name xs)) (drop_more ss i d h) in
+    let b = length-append (sym_name (get_or ss i d)) (flat_map sym_name (drop (i + 1) ss)) in
+    let c = length-append (get_or ss i d).name (0 ∷ []) in
     omega arith
+
+-- ---- the names of sections
+
+pub length_sect_name : (s : Sect) → length (sect_name s) ≡ length (prefix_of s) + length s.name + 1
+length_sect_name s =
+    let a = length-append (prefix_of s) (ended s.name) in
+    let b = length-append s.name (0 ∷ []) in
+    omega arith
+
+pub length_names : (ss : List Sect) → length (names_of ss) ≡ 27 + length (flat_map sect_name ss)
+unfolding names_of fixed_names
+length_names ss = length-append fixed_names (flat_map sect_name ss)

@@ -4,7 +4,7 @@ use Rattle.elf_read.specs.declared.module.Sect.{Sect}
 use Rattle.elf_read.specs.declared.module.Module.{Module}
 use Rattle.elf_read.specs.Places.{half, word}
 use Rattle.elf_build.specs.Entries.{header_bytes, sect_header}
-use Rattle.elf_build.specs.File.{tables_of, header_total, contents_of, symbols_of, relocs_of, strings_of, names_of, symbols_at, relocs_at, strings_at, names_at, headers_at, headers_of, elf_header, file_of, count_of, sect_headers, table_headers, null_header, symtab_header, strings_header, locals_end, sect_content}
+use Rattle.elf_build.specs.File.{tables_of, header_total, contents_of, symbols_of, relocs_of, strings_of, names_of, symbols_at, relocs_at, strings_at, names_at, headers_at, headers_of, elf_header, file_of, count_of, sect_headers, table_headers, null_header, symtab_header, strings_header, locals_end, prefix_of, sect_name, sect_content}
 use Rattle.elf_build.specs.Buildable.{Buildable}
 use Rattle.elf_build.proofs.Parts.{length_elf_header}
 use Rattle.elf_build.proofs.Stands.{Stands, stands_whole, stands_prefix, stands_suffix, stands_in, word_is, half_is}
@@ -66,18 +66,20 @@ names_number bytes headers count names s h = half_is bytes 50 names [] (stands_i
 pub length_sect_headers : (name at : ℕ) (ss : List Sect) → length (sect_headers name at ss) ≡ 40 * length ss
 length_sect_headers name at [] = refl
 length_sect_headers name at (s ∷ ss) =
-    let h = length_header (sect_header name at s) in
-    let rest = length_sect_headers (name + length s.name + 1) (at + length (sect_content s)) ss in
-    let both = length-append (header_bytes (sect_header name at s)) (sect_headers (name + length s.name + 1) (at + length (sect_content s)) ss) in
+    let here = sect_header (name + length (prefix_of s)) at s in
+    let after = sect_headers (name + length (sect_name s)) (at + length (sect_content s)) ss in
+    let h = length_header here in
+    let rest = length_sect_headers (name + length (sect_name s)) (at + length (sect_content s)) ss in
+    let both = length-append (header_bytes here) after in
     omega arith
 
 pub record Headers (bytes : List ℕ) (m : Module) : Type 0 where
   pub null : Stands bytes (headers_at m + 40 * 0) (header_bytes null_header)
-  pub sects : Stands bytes (headers_at m + 40 * 1) (sect_headers 33 52 m.sections)
+  pub sects : Stands bytes (headers_at m + 40 * 1) (sect_headers 27 52 m.sections)
   pub symtab : Stands bytes (headers_at m + 40 * (count_of m + 1)) (header_bytes (symtab_header (symbols_at m) (length (symbols_of m.symbols)) (count_of m + 2) (locals_end m.symbols)))
   pub strings : Stands bytes (headers_at m + 40 * (count_of m + 2)) (header_bytes (strings_header 9 (strings_at m) (length (strings_of m.symbols))))
   pub names : Stands bytes (headers_at m + 40 * (count_of m + 3)) (header_bytes (strings_header 17 (names_at m) (length (names_of m.sections))))
-  pub relas : Stands bytes (headers_at m + 40 * (count_of m + 4)) (table_headers (count_of m + 1) (relocs_at m) (tables_of m.relocs))
+  pub relas : Stands bytes (headers_at m + 40 * (count_of m + 4)) (table_headers m.sections (count_of m + 1) (relocs_at m) (tables_of m.relocs))
 
 pub headers_stand : (bytes : List ℕ) (m : Module) → Stands bytes (headers_at m) (headers_of m) → Headers bytes m
 unfolding headers_of
@@ -85,11 +87,11 @@ headers_stand bytes m s =
     let p = headers_at m in
     let n = count_of m in
     let h0 = header_bytes null_header in
-    let h1 = sect_headers 33 52 m.sections in
+    let h1 = sect_headers 27 52 m.sections in
     let h2 = header_bytes (symtab_header (symbols_at m) (length (symbols_of m.symbols)) (n + 2) (locals_end m.symbols)) in
     let h3 = header_bytes (strings_header 9 (strings_at m) (length (strings_of m.symbols))) in
     let h4 = header_bytes (strings_header 17 (names_at m) (length (names_of m.sections))) in
-    let r5 = table_headers (n + 1) (relocs_at m) (tables_of m.relocs) in
+    let r5 = table_headers m.sections (n + 1) (relocs_at m) (tables_of m.relocs) in
     let r4 = h4 ++ r5 in
     let r3 = h3 ++ r4 in
     let r2 = h2 ++ r3 in
@@ -97,7 +99,7 @@ headers_stand bytes m s =
     let start : p ≡ p + 40 * 0 = omega arith in
     let s0 : Stands bytes (p + 40 * 0) (h0 ++ r1) = subst (λ x. Stands bytes x (h0 ++ r1)) start s in
     let l0 = length_header null_header in
-    let l1 = length_sect_headers 33 52 m.sections in
+    let l1 = length_sect_headers 27 52 m.sections in
     let l2 = length_header (symtab_header (symbols_at m) (length (symbols_of m.symbols)) (n + 2) (locals_end m.symbols)) in
     let l3 = length_header (strings_header 9 (strings_at m) (length (strings_of m.symbols))) in
     let l4 = length_header (strings_header 17 (names_at m) (length (names_of m.sections))) in

@@ -5,9 +5,10 @@ use Rattle.std.specs.List.{All, flat_map}
 use Rattle.std.proofs.lemmas.List.{length-take-le}
 use Rattle.std.proofs.lemmas.List.Elements.{All-nil, All-cons}
 use Rattle.std.proofs.lemmas.Bool.Decides.{nat_tests}
+use Rattle.elf_read.specs.declared.module.Sect.{Sect}
 use Rattle.elf_read.specs.declared.module.Rel.{Rel}
 use Rattle.elf_build.specs.Entries.{header_bytes}
-use Rattle.elf_build.specs.File.{RelocTable, joined, tables_of, leading, table_header, table_headers}
+use Rattle.elf_build.specs.File.{RelocTable, joined, tables_of, leading, table_name, table_header, table_headers}
 use Rattle.elf_build.specs.Writable.{LeadsTable}
 use Rattle.elf_build.proofs.Names.{equals, differs, then_branch, else_branch, all_first, all_rest}
 
@@ -68,16 +69,18 @@ pub count_step : (n : ℕ) (rs : List Rel) → LeadsTable n rs → 0 < length rs
 count_step n [] h l = absurd (omega arith)
 count_step n (r ∷ rs) h l = ap length (h.table r)
 
-pub table_step : (o : List ℕ) (symtab at section n : ℕ) (rs : List Rel) (d : Rel) → LeadsTable n rs → section ≡ (get_or rs 0 d).section → (o ++ header_bytes (table_header symtab at section n)) ++ table_headers symtab (at + 12 * n) (tables_of (drop n rs)) ≡ o ++ table_headers symtab at (tables_of rs)
-table_step o symtab at section n rs d h e =
+pub table_step : (o : List ℕ) (ss : List Sect) (name symtab at section n : ℕ) (rs : List Rel) (d : Rel) → LeadsTable n rs → section ≡ (get_or rs 0 d).section → name ≡ table_name ss section → (o ++ header_bytes (table_header name symtab at section n)) ++ table_headers ss symtab (at + 12 * n) (tables_of (drop n rs)) ≡ o ++ table_headers ss symtab at (tables_of rs)
+table_step o ss name symtab at section n rs d h e f =
     let first = (get_or rs 0 d).section in
     let long : length (take n rs) ≡ n = length-take-le n rs h.within in
     let rest = tables_of (drop n rs) in
-    let all : table_headers symtab at (tables_of rs) ≡ header_bytes (table_header symtab at first n) ++ table_headers symtab (at + 12 * n) rest =
-    ap (table_headers symtab at) (h.table d) ∙ ap (λ k. header_bytes (table_header symtab at first k) ++ table_headers symtab (at + 12 * k) rest) long in
-    append_assoc o (header_bytes (table_header symtab at section n)) (table_headers symtab (at + 12 * n) rest)
-    ∙ (ap (λ s. o ++ (header_bytes (table_header symtab at s n) ++ table_headers symtab (at + 12 * n) rest)) e
-    ∙ ap (λ xs. o ++ xs) (sym all))
+    let after = table_headers ss symtab (at + 12 * n) rest in
+    let all : table_headers ss symtab at (tables_of rs) ≡ header_bytes (table_header (table_name ss first) symtab at first n) ++ after =
+    ap (table_headers ss symtab at) (h.table d) ∙ ap (λ k. header_bytes (table_header (table_name ss first) symtab at first k) ++ table_headers ss symtab (at + 12 * k) rest) long in
+    append_assoc o (header_bytes (table_header name symtab at section n)) after
+    ∙ (ap (λ k. o ++ (header_bytes (table_header k symtab at section n) ++ after)) f
+    ∙ (ap (λ s. o ++ (header_bytes (table_header (table_name ss s) symtab at s n) ++ after)) e
+    ∙ ap (λ xs. o ++ xs) (sym all)))
 
 -- ---- the contents of tables
 abbrev pub relocs_in : RelocTable → List Rel

@@ -1,8 +1,9 @@
 -- The file of a module: ELF header, contents, symbols, relocations, names of symbols, names of sections, section headers.
 -- The section headers are number 0, those of the sections, of the symbol table, of both tables of names, and of the tables of relocations.
-use Rattle.std.specs.Prelude.{ℕ, suc, ◌+◌, ◌*◌, ◌==◌, if◌then◌else◌, List, [], ◌∷◌, ◌++◌, length}
+use Rattle.std.specs.Prelude.{ℕ, suc, ◌+◌, ◌*◌, ◌==◌, nat_le, if◌then◌else◌, List, [], ◌∷◌, ◌++◌, length, take}
 use Rattle.std.specs.List.{flat_map}
 use Rattle.byteorder.specs.Endian.{big_bytes}
+use Rattle.wind_base.specs.Limits.{longest_name}
 use Rattle.elf_read.specs.declared.module.Sect.{Sect}
 use Rattle.elf_read.specs.declared.module.Sym.{Sym}
 use Rattle.elf_read.specs.declared.module.Rel.{Rel}
@@ -12,13 +13,12 @@ use Rattle.elf_read.specs.Standard.{ehdr_bytes, sym_bytes, rela_bytes, sht_null,
 use Rattle.elf_build.specs.Entries.{header_bytes, symbol_bytes, relocation_bytes, ended, content_of, sect_header, sym_entry, no_symbol, rel_entry}
 
 -- ---- names
--- an empty name, ".symtab" at 1, ".strtab" at 9, ".shstrtab" at 17 and ".rela" at 27
+-- an empty name, ".symtab" at 1, ".strtab" at 9 and ".shstrtab" at 17
 unfoldable pub fixed_names : List ℕ
 fixed_names =
     0 ∷ 46 ∷ 115 ∷ 121 ∷ 109 ∷ 116 ∷ 97 ∷ 98 ∷ 0
     ∷ 46 ∷ 115 ∷ 116 ∷ 114 ∷ 116 ∷ 97 ∷ 98 ∷ 0
-    ∷ 46 ∷ 115 ∷ 104 ∷ 115 ∷ 116 ∷ 114 ∷ 116 ∷ 97 ∷ 98 ∷ 0
-    ∷ 46 ∷ 114 ∷ 101 ∷ 108 ∷ 97 ∷ 0 ∷ []
+    ∷ 46 ∷ 115 ∷ 104 ∷ 115 ∷ 116 ∷ 114 ∷ 116 ∷ 97 ∷ 98 ∷ 0 ∷ []
 
 -- the place of ".symtab" in the table of section names
 abbrev pub symtab_name : ℕ
@@ -32,17 +32,21 @@ strtab_name = 9
 abbrev pub shstrtab_name : ℕ
 shstrtab_name = 17
 
--- the place of ".rela" there
-abbrev pub rela_name : ℕ
-rela_name = 27
-
 -- the place of the first name after these
 abbrev pub first_name : ℕ
-first_name = 33
+first_name = 27
 
--- a section's name with its terminating zero
+-- ".rela"
+abbrev pub rela : List ℕ
+rela = 46 ∷ 114 ∷ 101 ∷ 108 ∷ 97 ∷ []
+
+-- the bytes before a section's name in the table: ".rela", or nothing if the name would have more than 255 bytes then
+unfoldable pub prefix_of : Sect → List ℕ
+prefix_of s = if nat_le (length rela + length s.name) longest_name then rela else []
+
+-- a section's entry: the name of its table of relocations, which ends with the section's own name, and a zero
 abbrev pub sect_name : Sect → List ℕ
-sect_name s = ended s.name
+sect_name s = prefix_of s ++ ended s.name
 
 -- a symbol's name with its terminating zero
 abbrev pub sym_name : Sym → List ℕ
@@ -51,6 +55,10 @@ sym_name s = ended s.name
 -- the table of section names
 unfoldable pub names_of : List Sect → List ℕ
 names_of ss = fixed_names ++ flat_map sect_name ss
+
+-- the place of the name of the table of relocations for section number i: after the names of the sections before it
+abbrev pub table_name : List Sect → ℕ → ℕ
+table_name ss i = length (names_of (take i ss))
 
 -- the table of symbol names
 unfoldable pub strings_of : List Sym → List ℕ
@@ -115,16 +123,17 @@ unfoldable pub relocs_of : List Rel → List ℕ
 relocs_of rs = flat_map rel_bytes rs
 
 -- ---- section headers
--- the headers of sections; the first one's name and content begin at these places, the others' after them
+-- the headers of sections; the first one's names and content begin at these places, the others' after them
 abbrev pub sect_headers : ℕ → ℕ → List Sect → List ℕ
 sect_headers name at [] = []
 sect_headers name at (s ∷ ss) =
-    header_bytes (sect_header name at s) ++ sect_headers (name + length s.name + 1) (at + length (sect_content s)) ss
+    header_bytes (sect_header (name + length (prefix_of s)) at s)
+    ++ sect_headers (name + length (sect_name s)) (at + length (sect_content s)) ss
 
--- the header of a table of relocations, from its section, its offset, and the number of its relocations
-unfoldable pub table_header : ℕ → ℕ → ℕ → ℕ → SectionHeader
-table_header symtab at section count = record {
-  name = rela_name;
+-- the header of a table of relocations, from its name's place, its offset, its section, and the number of relocations
+unfoldable pub table_header : ℕ → ℕ → ℕ → ℕ → ℕ → SectionHeader
+table_header name symtab at section count = record {
+  name = name;
   kind = sht_rela;
   flags = shf_info_link;
   offset = at;
@@ -135,12 +144,12 @@ table_header symtab at section count = record {
   entry_size = rela_bytes;
 }
 
--- the headers of tables; the first table begins at this offset, the others after it
-abbrev pub table_headers : ℕ → ℕ → List RelocTable → List ℕ
-table_headers symtab at [] = []
-table_headers symtab at (t ∷ ts) =
-    header_bytes (table_header symtab at t.section (length t.relocs))
-    ++ table_headers symtab (at + rela_bytes * length t.relocs) ts
+-- the headers of tables for these sections; the first table begins at this offset, the others after it
+abbrev pub table_headers : List Sect → ℕ → ℕ → List RelocTable → List ℕ
+table_headers ss symtab at [] = []
+table_headers ss symtab at (t ∷ ts) =
+    header_bytes (table_header (table_name ss t.section) symtab at t.section (length t.relocs))
+    ++ table_headers ss symtab (at + rela_bytes * length t.relocs) ts
 
 -- section header number 0
 unfoldable pub null_header : SectionHeader
@@ -223,7 +232,7 @@ headers_of m =
     (symtab_header (symbols_at m) (length (symbols_of m.symbols)) (count_of m + 2) (locals_end m.symbols))
     ++ (header_bytes (strings_header strtab_name (strings_at m) (length (strings_of m.symbols)))
     ++ (header_bytes (strings_header shstrtab_name (names_at m) (length (names_of m.sections)))
-    ++ table_headers (count_of m + 1) (relocs_at m) (tables_of m.relocs)))))
+    ++ table_headers m.sections (count_of m + 1) (relocs_at m) (tables_of m.relocs)))))
 
 -- the ELF header, from the offset and number of the section headers, and the number of the one for the section names
 unfoldable pub elf_header : ℕ → ℕ → ℕ → List ℕ

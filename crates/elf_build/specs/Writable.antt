@@ -27,10 +27,13 @@ pub record HasEntry (s : Sym) : Type 0 where
   pub binding : s.binding ≤ stb_weak
   pub kind : s.kind ≤ stt_common
 
--- a relocation's symbol fits its entry, and its section fits a header
-pub record HasNumbers (r : Rel) : Type 0 where
+-- a relocation's symbol fits its entry
+pub record HasSymbol (r : Rel) : Type 0 where
   pub symbol : r.symbol < most_symbol_entries
-  pub section : r.section < most_section_headers
+
+-- a relocation is for one of this many sections
+pub record HasSection (sections : ℕ) (r : Rel) : Type 0 where
+  pub section : r.section < sections
 
 -- the first n relocations are the first table
 pub record LeadsTable (n : ℕ) (rs : List Rel) : Type 0 where
@@ -46,7 +49,8 @@ pub record Writable (m : Module) : Type 0 where
   pub few_relocs : length m.relocs ≤ most_relocations
   pub sections : All IsShort m.sections
   pub symbols : All HasEntry m.symbols
-  pub relocs : All HasNumbers m.relocs
+  pub relocs : All HasSymbol m.relocs
+  pub targets : All (HasSection (length m.sections)) m.relocs
   pub header_fits : 52 + length (contents_of m.sections) < 2 ^ 32
   pub ends : headers_at m < 2 ^ 32
   pub tables : relocs_at m + rela_bytes * length m.relocs ≤ headers_at m

@@ -8,11 +8,12 @@ ghost use Rattle.elf_build.specs.Writable.{Writable, layout_of, parts_of};
 
 use crate::groups::table_count;
 use crate::headers::{
-    SHSTRTAB_NAME, STRTAB_NAME, locals_end, null_header, put_elf_header, put_sect_headers,
-    put_table_headers, strings_header, symtab_header,
+    locals_end, null_header, put_elf_header, put_sect_headers, put_table_headers, strings_header,
+    symtab_header,
 };
+use crate::name_tables::{SHSTRTAB_NAME, STRTAB_NAME, put_names, put_strings};
 use crate::put::{put_bytes, put_header};
-use crate::tables::{put_contents, put_names, put_relocs, put_strings, put_symbols};
+use crate::tables::{put_contents, put_relocs, put_symbols};
 use elf_read::Module;
 use elf_read::standard::EHDR_BYTES;
 use std::alloc::{AllocError, Global};
@@ -68,10 +69,11 @@ fn put_headers(out: &mut Vec<u8>, m: &Module, at: Layout) -> Result<(), AllocErr
     requires places { at ≡ layout_of m.now }
     ensures { IfOk result (λ u. out.new.items ≡ out.old.items ++ headers_of m.now) }
 {
-    let count = m.sections.as_slice().len() as u32;
+    let sections = m.sections.as_slice();
+    let count = sections.len() as u32;
     let locals = locals_end(m.symbols.as_slice());
     put_header(out, null_header())?;
-    put_sect_headers(out, m.sections.as_slice())?;
+    put_sect_headers(out, sections)?;
     put_header(
         out,
         symtab_header(at.symbols, at.relocs - at.symbols, count + 2, locals),
@@ -84,7 +86,7 @@ fn put_headers(out: &mut Vec<u8>, m: &Module, at: Layout) -> Result<(), AllocErr
         out,
         strings_header(SHSTRTAB_NAME, at.names, at.headers - at.names),
     )?;
-    put_table_headers(out, count + 1, at.relocs, m.relocs.as_slice())
+    put_table_headers(out, sections, count + 1, at.relocs, m.relocs.as_slice())
 }
 
 // The whole file.

@@ -7,9 +7,10 @@ ghost use Rattle.elf_read.specs.Standard.{ehdr_bytes, rela_bytes};
 ghost use Rattle.elf_read.specs.Modules.{size_of as size_of_body};
 ghost use Rattle.elf_build.specs.Entries.{kind_of as kind_of_body, sect_header as sect_header_of};
 ghost use Rattle.elf_build.specs.File.{contents_of, sect_headers, first_name, tables_of, table_header as table_header_of, table_headers, null_header as null_header_of, strings_header as strings_header_of, symtab_header as symtab_header_of, locals_end as locals_end_of, elf_header};
-ghost use Rattle.elf_build.specs.Writable.{IsShort, HasNumbers};
+ghost use Rattle.elf_build.specs.Writable.{IsShort, HasSection};
 
 use crate::groups::{first_len, relocs_after};
+use crate::name_tables::{FIRST_NAME, SYMTAB_NAME, prefix, sect_name_len, table_name};
 use crate::put::{put_bytes, put_half, put_header, put_word};
 use crate::tables::content;
 use elf_read::standard::{
@@ -18,21 +19,6 @@ use elf_read::standard::{
 };
 use elf_read::{Body, Rel, Sect, SectionHeader, Sym};
 use std::alloc::AllocError;
-
-/// The place of `.symtab` in the table of section names.
-pub(crate) const SYMTAB_NAME: u32 = 1;
-
-/// The place of `.strtab` there.
-pub(crate) const STRTAB_NAME: u32 = 9;
-
-/// The place of `.shstrtab` there.
-pub(crate) const SHSTRTAB_NAME: u32 = 17;
-
-// The place of `.rela` there.
-const RELA_NAME: u32 = 27;
-
-/// The place of the first name after these.
-pub(crate) const FIRST_NAME: u32 = 33;
 
 fn kind_of(body: &Body) -> u32
     ensures { result ≡ kind_of_body body.now }
@@ -83,8 +69,8 @@ pub(crate) fn put_sect_headers(out: &mut Vec<u8>, sections: &[Sect]) -> Result<(
     let mut name = FIRST_NAME;
     let mut at = EHDR_BYTES as u32;
     for s in sections {
-        put_header(out, sect_header(name, at, s))?;
-        name += s.name.bytes().len() as u32 + 1;
+        put_header(out, sect_header(name + prefix(s).len() as u32, at, s))?;
+        name += sect_name_len(s) as u32;
         at += content(&s.body).len() as u32;
     }
     Ok(())
@@ -104,16 +90,16 @@ pub(crate) fn locals_end(symbols: &[Sym]) -> u32
     last
 }
 
-// The header of a table of relocations, from its section, its offset, and the number of its
-// relocations.
+// The header of a table of relocations, from its name's place, its offset, its section, and the
+// number of its relocations.
 #[tactic(auto, unfolding(crate::specs::File::table_header))]
-fn table_header(symtab: u32, at: u32, section: u32, count: u32) -> SectionHeader
+fn table_header(name: u32, symtab: u32, at: u32, section: u32, count: u32) -> SectionHeader
     requires few { count < 2 ^ 28 }
     requires low { section < most_section_headers }
-    ensures { result ≡ table_header_of symtab at section count }
+    ensures { result ≡ table_header_of name symtab at section count }
 {
     SectionHeader {
-        name: RELA_NAME,
+        name,
         kind: SHT_RELA,
         flags: SHF_INFO_LINK,
         offset: at,
@@ -125,25 +111,29 @@ fn table_header(symtab: u32, at: u32, section: u32, count: u32) -> SectionHeader
     }
 }
 
-/// Appends the headers of the tables of relocations; the first table begins at an offset.
+/// Appends the headers of the sections' tables of relocations; the first table begins at an offset.
 #[tactic(auto, using(crate::proofs::TableLemmas::table_step))]
 pub(crate) fn put_table_headers(
     out: &mut Vec<u8>,
+    sections: &[Sect],
     symtab: u32,
     at: u32,
     relocs: &[Rel],
 ) -> Result<(), AllocError>
-    requires fit { All HasNumbers relocs.now }
+    requires few_sections { length sections.now ≤ most_section_headers }
+    requires fit { All (HasSection (length sections.now)) relocs.now }
     requires few { length relocs.now < 2 ^ 28 }
     requires low { at + rela_bytes * length relocs.now < 2 ^ 32 }
-    ensures { IfOk result (λ u. out.new.items ≡ out.old.items ++ table_headers symtab at (tables_of relocs.now)) }
+    ensures { IfOk result (λ u. out.new.items
+        ≡ out.old.items ++ table_headers sections.now symtab at (tables_of relocs.now)) }
 {
     let mut place = at;
     let mut rest = relocs;
     while !rest.is_empty() {
         let section = rest[0].section;
         let n = first_len(rest);
-        put_header(out, table_header(symtab, place, section, n as u32))?;
+        let name = table_name(sections, section);
+        put_header(out, table_header(name, symtab, place, section, n as u32))?;
         place += RELA_BYTES as u32 * n as u32;
         rest = relocs_after(rest, n);
     }

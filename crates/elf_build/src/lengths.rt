@@ -1,15 +1,13 @@
 //! The length of a module's file.
 
-ghost use Rattle.std.specs.Prelude.{◌≡◌, ◌+◌, ◌*◌, ◌<◌, ◌≤◌, ◌^◌, length};
+ghost use Rattle.std.specs.Prelude.{◌≡◌, ◌*◌, ◌≤◌, length};
 ghost use Rattle.std.specs.List.{All, flat_map};
 ghost use Rattle.wind_base.specs.Limits.{most_section_headers, most_section_bytes};
-ghost use Rattle.elf_build.specs.Entries.{ended};
 ghost use Rattle.elf_build.specs.File.{sect_content, file_of};
 ghost use Rattle.elf_build.specs.Judging.{IsBuildableSect, IsSmall};
 
 use crate::groups::table_count;
-use crate::headers::FIRST_NAME;
-use crate::named::Named;
+use crate::name_tables::{FIRST_NAME, sect_names_len, sym_names_len};
 use crate::tables::content;
 use elf_read::standard::{EHDR_BYTES, RELA_BYTES, SHDR_BYTES, SYM_BYTES};
 use elf_read::{Module, Sect};
@@ -28,20 +26,6 @@ fn contents_len(sections: &[Sect]) -> usize
     sum
 }
 
-// The length of the names, each with its terminating zero.
-#[tactic(auto, using(crate::proofs::Sizes::names_left))]
-fn names_len<T: Named>(list: &[T]) -> usize
-    requires { length list.now < 2 ^ 32 }
-    ensures value { result ≡ length (flat_map (λ x. ended (T.name_of x)) list.now) }
-    ensures low { result ≤ 256 * length list.now }
-{
-    let mut sum = 0;
-    for x in list {
-        sum += x.name().bytes().len() + 1;
-    }
-    sum
-}
-
 /// The length of a module's file, in bytes.
 pub(crate) fn file_len(m: &Module) -> usize
     requires small { IsSmall m.now }
@@ -56,8 +40,8 @@ pub(crate) fn file_len(m: &Module) -> usize
         + SYM_BYTES * (symbols.len() + 1)
         + RELA_BYTES * relocs.len()
         + 1
-        + names_len(symbols)
+        + sym_names_len(symbols)
         + FIRST_NAME as usize
-        + names_len(sections)
+        + sect_names_len(sections)
         + SHDR_BYTES * (sections.len() + table_count(relocs) + 4)
 }

@@ -7,7 +7,7 @@ mod headers;
 mod judging;
 mod laws;
 mod lengths;
-mod named;
+mod name_tables;
 mod put;
 mod tables;
 

@@ -1,14 +1,13 @@
-//! Appends contents, names, symbols and relocations.
+//! Appends contents, symbols and relocations.
 
 ghost use Rattle.std.specs.Prelude.{◌≡◌, ◌+◌, ◌*◌, ◌++◌, ◌<◌, length, IfOk};
 ghost use Rattle.std.specs.List.{All, flat_map};
 ghost use Rattle.wind_base.specs.Limits.{most_symbol_entries};
-ghost use Rattle.elf_build.specs.Entries.{ended, content_of as content_of_body, number_of as number_of_place, sym_entry as sym_entry_of, rel_entry as rel_entry_of};
-ghost use Rattle.elf_build.specs.File.{fixed_names, names_of, strings_of, contents_of, symbols_from, symbols_of, relocs_of};
-ghost use Rattle.elf_build.specs.Writable.{HasNumber, HasEntry, HasNumbers};
+ghost use Rattle.elf_build.specs.Entries.{content_of as content_of_body, number_of as number_of_place, sym_entry as sym_entry_of, rel_entry as rel_entry_of};
+ghost use Rattle.elf_build.specs.File.{contents_of, symbols_from, symbols_of, relocs_of};
+ghost use Rattle.elf_build.specs.Writable.{HasNumber, HasEntry, HasSymbol};
 
-use crate::named::Named;
-use crate::put::{put_bytes, put_name, put_relocation, put_symbol};
+use crate::put::{put_bytes, put_relocation, put_symbol};
 use elf_read::standard::{SHN_ABS, SHN_COMMON, SHN_UNDEF};
 use elf_read::{Body, Rel, RelaEntry, Sect, Sym, SymPlace, SymbolEntry};
 use std::alloc::AllocError;
@@ -32,43 +31,6 @@ pub(crate) fn put_contents(out: &mut Vec<u8>, sections: &[Sect]) -> Result<(), A
         put_bytes(out, content(&s.body))?;
     }
     Ok(())
-}
-
-// Appends the names that are in each file.
-#[tactic(auto, unfolding(crate::specs::File::fixed_names))]
-fn put_fixed_names(out: &mut Vec<u8>) -> Result<(), AllocError>
-    ensures { IfOk result (λ u. out.new.items ≡ out.old.items ++ fixed_names) }
-{
-    put_bytes(out, b"\0.symtab\0.strtab\0.shstrtab\0.rela\0")
-}
-
-// Appends names, each with its terminating zero.
-#[tactic(auto, using(crate::proofs::Joins::flat_step))]
-fn put_each_name<T: Named>(out: &mut Vec<u8>, list: &[T]) -> Result<(), AllocError>
-    ensures { IfOk result (λ u. out.new.items ≡ out.old.items ++ flat_map (λ x. ended (T.name_of x)) list.now) }
-{
-    for x in list {
-        put_name(out, x.name().bytes())?;
-    }
-    Ok(())
-}
-
-/// Appends the table of section names.
-#[tactic(auto, unfolding(crate::specs::File::names_of), using(crate::proofs::Joins::two))]
-pub(crate) fn put_names(out: &mut Vec<u8>, sections: &[Sect]) -> Result<(), AllocError>
-    ensures { IfOk result (λ u. out.new.items ≡ out.old.items ++ names_of sections.now) }
-{
-    put_fixed_names(out)?;
-    put_each_name(out, sections)
-}
-
-/// Appends the table of symbol names.
-#[tactic(auto, unfolding(crate::specs::File::strings_of), using(crate::proofs::Joins::two))]
-pub(crate) fn put_strings(out: &mut Vec<u8>, symbols: &[Sym]) -> Result<(), AllocError>
-    ensures { IfOk result (λ u. out.new.items ≡ out.old.items ++ strings_of symbols.now) }
-{
-    put_bytes(out, &[0])?;
-    put_each_name(out, symbols)
 }
 
 // The section number for a place.
@@ -148,7 +110,7 @@ fn rel_entry(r: Rel) -> RelaEntry
 /// Appends the relocations.
 #[tactic(auto, unfolding(crate::specs::File::relocs_of), using(crate::proofs::Joins::flat_step))]
 pub(crate) fn put_relocs(out: &mut Vec<u8>, relocs: &[Rel]) -> Result<(), AllocError>
-    requires { All HasNumbers relocs.now }
+    requires { All HasSymbol relocs.now }
     ensures { IfOk result (λ u. out.new.items ≡ out.old.items ++ relocs_of relocs.now) }
 {
     for r in relocs {

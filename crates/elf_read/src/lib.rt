@@ -27,4 +27,4 @@ pub use module::{Body, Bytes, Module, Rel, RelList, Sect, SectList, Sym, SymList
 pub use outlines::{Outline, Shape, fill, find_shape, read_outline};
 pub use reading::read;
 pub use section_rules::is_alignment;
-pub use tables::width;
+pub use tables::{content, header, header_count, is_loaded, width};

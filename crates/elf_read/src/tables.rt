@@ -13,7 +13,7 @@ use crate::standard::{
 use wind_base::limits::NAME_BYTES;
 
 /// The number of section headers.
-pub(crate) fn header_count(bytes: &[u8]) -> usize
+pub fn header_count(bytes: &[u8]) -> usize
     ensures value { result ≡ header_count_of bytes.now }
     ensures few { result < 2 ^ 16 }
 {
@@ -31,7 +31,7 @@ pub(crate) fn header_offset(bytes: &[u8], i: usize) -> usize
 
 /// Section header number `i`.
 #[tactic(auto, unfolding(crate::specs::Tables::header))]
-pub(crate) fn header(bytes: &[u8], i: usize) -> SectionHeader
+pub fn header(bytes: &[u8], i: usize) -> SectionHeader
     requires { i < 2 ^ 32 }
     ensures { result ≡ header_at bytes.now i }
 {
@@ -40,7 +40,7 @@ pub(crate) fn header(bytes: &[u8], i: usize) -> SectionHeader
 
 /// The content of section number `i` in the file.
 #[tactic(auto, unfolding(crate::specs::Tables::content))]
-pub(crate) fn content(bytes: &[u8], i: usize) -> &[u8]
+pub fn content(bytes: &[u8], i: usize) -> &[u8]
     requires { i < 2 ^ 32 }
     ensures { result.now ≡ content_at bytes.now i }
 {
@@ -50,7 +50,7 @@ pub(crate) fn content(bytes: &[u8], i: usize) -> &[u8]
 
 /// Whether section number `i` exists and is loaded.
 #[tactic(auto, unfolding(crate::specs::Tables::is_loaded))]
-pub(crate) fn is_loaded(bytes: &[u8], i: usize) -> bool
+pub fn is_loaded(bytes: &[u8], i: usize) -> bool
     requires { i < 2 ^ 32 }
     ensures { result ≡ is_loaded_at bytes.now i }
 {

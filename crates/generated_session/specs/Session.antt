@@ -1,7 +1,6 @@
 -- The generated session: its console, its tick file, and the line that sums up its run. They are this project's own.
 use Rattle.std.specs.Prelude.{ℕ, zero, suc, ◌+◌, ◌*◌, List, [], ◌∷◌, ◌++◌, codes}
 use Rattle.std.specs.Fmt.{decimal}
-use Rattle.std.specs.List.{concat}
 
 -- the most rounds of a generated session
 abbrev pub most_rounds : ℕ
@@ -28,14 +27,10 @@ generated_lines n = 3 * n + 3
 unfoldable pub generated_ticks : ℕ → List ℕ
 generated_ticks n = codes "every 100 " ++ decimal (n + 8)
 
--- the pieces of the line that sums up a run of n rounds: its lines, the bytes that it wrote, its steps and ticks,
+-- the texts of the line that sums up a run of n rounds: its lines, the bytes that it wrote, its steps and ticks,
 -- and the number of its status
-abbrev pub summary_pieces : ℕ → ℕ → ℕ → ℕ → ℕ → List (List ℕ)
-summary_pieces n bytes steps ticks status =
+unfoldable pub summary_texts : ℕ → ℕ → ℕ → ℕ → ℕ → List (List ℕ)
+summary_texts n bytes steps ticks status =
     codes "generated " ∷ decimal n ∷ codes ": " ∷ decimal (generated_lines n) ∷ codes " lines, "
     ∷ decimal bytes ∷ codes " console bytes, " ∷ decimal steps ∷ codes " steps, "
     ∷ decimal ticks ∷ codes " ticks, status " ∷ decimal status ∷ codes "\n" ∷ []
-
--- that line
-unfoldable pub summary_line : ℕ → ℕ → ℕ → ℕ → ℕ → List ℕ
-summary_line n bytes steps ticks status = concat (summary_pieces n bytes steps ticks status)

@@ -2,11 +2,10 @@
 
 ghost use Rattle.std.specs.Prelude.{◌≡◌, ◌≤◌, map};
 ghost use Rattle.std.specs.Fmt.{decimal};
-ghost use Rattle.std.specs.List.{concat};
 ghost use Rattle.wind_outside.specs.Counts.{Rose};
-ghost use Rattle.wind_outside.specs.Appending.{Appended, AppendedPrefix};
 ghost use Rattle.wind_outside.specs.declared.sink.Put.TheVariants as puts;
-ghost use Rattle.generated_session.specs.Session.{most_rounds, summary_line};
+ghost use Rattle.generated_session.specs.Puts.{PutsTexts, sink_log};
+ghost use Rattle.generated_session.specs.Session.{most_rounds, summary_texts};
 
 use itoa::Buffer;
 use wind_outside::{Put, Sink};
@@ -26,12 +25,10 @@ pub struct Summary {
     pub status: u8,
 }
 
-/// Puts pieces, and stops at the first that fails.
+/// Puts pieces one after the other, and stops at the first put that fails.
 pub fn put_all<O: Sink>(out: &mut O, pieces: &[&[u8]]) -> Put
-    ensures done { result ≡ puts.Done
-        → Appended (O.bytes out.old) (O.bytes out.new) (concat (map (λ p. p.now) pieces.now)) }
-    ensures part { result ≡ puts.Failed
-        → AppendedPrefix (O.bytes out.old) (O.bytes out.new) (concat (map (λ p. p.now) pieces.now)) }
+    ensures puts { PutsTexts result (map (λ p. p.now) pieces.now)
+        (sink_log ⟦<O as Sink>⟧ out.old) (sink_log ⟦<O as Sink>⟧ out.new) }
     ensures failed { result ≡ puts.Failed → Rose (O.faults out.old) (O.faults out.new) }
     ensures never_falls { O.faults out.old ≤ O.faults out.new }
 {
@@ -55,10 +52,9 @@ impl Summary {
     /// Puts the line piece by piece, and stops at the first piece that fails.
     pub fn put<O: Sink>(&self, out: &mut O) -> Put
         requires { self.now.rounds ≤ most_rounds }
-        ensures done { result ≡ puts.Done → Appended (O.bytes out.old) (O.bytes out.new)
-            (summary_line self.now.rounds self.now.bytes self.now.steps self.now.ticks self.now.status) }
-        ensures part { result ≡ puts.Failed → AppendedPrefix (O.bytes out.old) (O.bytes out.new)
-            (summary_line self.now.rounds self.now.bytes self.now.steps self.now.ticks self.now.status) }
+        ensures puts { PutsTexts result
+            (summary_texts self.now.rounds self.now.bytes self.now.steps self.now.ticks self.now.status)
+            (sink_log ⟦<O as Sink>⟧ out.old) (sink_log ⟦<O as Sink>⟧ out.new) }
         ensures failed { result ≡ puts.Failed → Rose (O.faults out.old) (O.faults out.new) }
         ensures never_falls { O.faults out.old ≤ O.faults out.new }
     {

@@ -23,7 +23,8 @@ use Rattle.call_rows.specs.WatchRows.{WatchRow, routine_of}
 use Rattle.call_rows.specs.IrqRows.{IrqRow}
 use Rattle.kernel_calls.specs.ShowRows.{ShowRow}
 use Rattle.call_rows.specs.Spawning.{spawned_if, task_wanted, quick_wanted, quick_text, after_spawn, spawn_state}
-use Rattle.kernel_calls.specs.Calls.{with_reply, of_kern, of_objects, scene_of, of_queues, of_watch, of_irqs, of_text, of_deletion, of_ram, row_of, refusal_before, row_unless, made, call}
+use Rattle.call_rows.specs.Unless.{unless}
+use Rattle.kernel_calls.specs.Calls.{with_reply, of_kern, of_objects, scene_of, of_queues, of_watch, of_irqs, of_text, of_deletion, of_ram, row_of, refusal_before, declined, made, call}
 use Rattle.call_rows.specs.KernelWorldCallWords.{ten_arguments, quick_arguments, call_of}
 use Rattle.call_rows.specs.KernelWorldReplies.{left_gate}
 use Rattle.call_rows.specs.KernelWorldKept.{IsWorld, Within, call_sinces}
@@ -213,7 +214,7 @@ module _ (w : WorldState) (kept : IsWorld w) (n : ℕ) (within : Within n w) (a 
   row_serves g ram r live there may = idle Later
 
 unless_row : (w : WorldState) (kept : IsWorld w) (n : ℕ) (within : Within n w) (o : Option Errno) (g : Gate) (a : Actor) (ram r : List ℕ) → (is_mutex w.objects (slice_index r 3) ≡ true → Acts w.kern a)
-    → (is_some (object_of w.objects.queues.queues (slice_index r 3)) ≡ true → Acts w.kern a) → MayCall w.kern a → Serves w a (row_unless o (call_of g ram r) w a) (n + 1)
+    → (is_some (object_of w.objects.queues.queues (slice_index r 3)) ≡ true → Acts w.kern a) → MayCall w.kern a → Serves w a (unless o (declined w) (row_of (call_of g ram r) w a)) (n + 1)
 unless_row w kept n within (Some e) g a ram r live there may = idle w kept n within a (Refusal e)
 unless_row w kept n within None g a ram r live there may = row_serves w kept n within a g ram r live there may
 

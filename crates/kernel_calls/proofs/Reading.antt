@@ -12,7 +12,8 @@ use Rattle.call_rows.specs.KernelWorldActor.TheVariants.{Task, Interrupt}
 use Rattle.call_rows.specs.KernelWorldCall.{Call}
 use Rattle.call_rows.specs.KernelWorldReply.{Reply}
 use Rattle.call_rows.specs.KernelWorldReply.TheVariants.{Later}
-use Rattle.kernel_calls.specs.Calls.{with_reply, row, row_of, row_unless, refusal_before, made, file_wanted}
+use Rattle.call_rows.specs.Unless.{unless}
+use Rattle.kernel_calls.specs.Calls.{with_reply, row, row_of, declined, refusal_before, made, file_wanted}
 
 -- the call belongs to the gate
 abbrev IsOf : Gate → Option Call → Type 0
@@ -48,11 +49,11 @@ row_made g w u v a c reply fine is left rowed =
     rowed
     ∙ ap (λ s. row c s a) left
     ∙ ap (λ o. row_of o (left_gate w a) a) is
-    ∙ ap (λ o. row_unless o (call_by g w a) (left_gate w a) a) fine
+    ∙ ap (λ o. unless o (declined (left_gate w a)) (row_of (call_by g w a) (left_gate w a) a)) fine
 
 -- at a return gate nothing is
 pub none_made : (g : Gate) (w u : WorldState) (a : Actor) → None ≡ refusal_before g a → None ≡ call_by g w a → u ≡ left_gate w a → with_reply u Later ≡ made g w a
 none_made g w u a fine is left =
     ap (λ s. with_reply s Later) left
     ∙ ap (λ o. row_of o (left_gate w a) a) is
-    ∙ ap (λ o. row_unless o (call_by g w a) (left_gate w a) a) fine
+    ∙ ap (λ o. unless o (declined (left_gate w a)) (row_of (call_by g w a) (left_gate w a) a)) fine

@@ -30,7 +30,8 @@ use Rattle.call_rows.specs.KernelWorldActor.TheVariants.{Task, Interrupt}
 use Rattle.call_rows.specs.KernelWorldReply.{Reply}
 use Rattle.call_rows.specs.KernelWorldReply.TheVariants.{Answer, Refusal, Later, Gone}
 use Rattle.call_rows.proofs.KernelWorldOneTask.{changed_task, other_task}
-use Rattle.kernel_calls.specs.Calls.{of_irqs, row_of, row_unless, refusal_before, made, call}
+use Rattle.call_rows.specs.Unless.{unless}
+use Rattle.kernel_calls.specs.Calls.{of_irqs, row_of, declined, refusal_before, made, call}
 use Rattle.kernel_calls.specs.Removing.{Removes, OnlyRemoves, RemoveLaw, IsNoneBack, NoneBackLaw, is_removed, SlotLaw}
 
 -- ---- lines, of a slot that may not exist
@@ -198,7 +199,7 @@ row_stays gates.DevRemove ram r w a i =
 row_stays g ram r w a i = still g r w.slots w.irqs i w.slots w.irqs refl refl
 
 unless_stays : (o : Option Errno) (g : Gate) (ram r : List ℕ) (w : WorldState) (a : Actor) (i : ℕ)
-    → Stays g r w.slots (row_unless o (call_of g ram r) w a).world.slots w.irqs (row_unless o (call_of g ram r) w a).world.irqs i
+    → Stays g r w.slots (unless o (declined w) (row_of (call_of g ram r) w a)).world.slots w.irqs (unless o (declined w) (row_of (call_of g ram r) w a)).world.irqs i
 unless_stays (Some e) g ram r w a i = still g r w.slots w.irqs i w.slots w.irqs refl refl
 unless_stays None g ram r w a i = row_stays g ram r w a i
 

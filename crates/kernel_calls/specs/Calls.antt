@@ -17,6 +17,7 @@ use Rattle.call_rows.specs.KernelWorldReplies.{errno_of, with_errno, left_gate, 
 use Rattle.call_rows.specs.KernelWorldActor.{Actor}
 use Rattle.call_rows.specs.KernelWorldReply.{Reply}
 use Rattle.call_rows.specs.KernelWorldReply.TheVariants.{Answer, Refusal, Later, Gone}
+use Rattle.call_rows.specs.Unless.{unless}
 use Rattle.call_rows.specs.SemRows as sem
 use Rattle.call_rows.specs.QueueRows as queue
 use Rattle.call_rows.specs.WatchRows as watch
@@ -160,12 +161,12 @@ refusal_before g a =
     else if is_shells_own g && not (is_shell a) then Some errors.NotShell
     else None
 
-abbrev pub row_unless : Option Errno → Option Call → WorldState → Actor → Row
-row_unless (Some e) c w a = with_reply w (Refusal e)
-row_unless None c w a = row_of c w a
+-- a refused call changes nothing
+abbrev pub declined : WorldState → Errno → Row
+declined w e = with_reply w (Refusal e)
 
 abbrev pub allowed_row : Gate → Option Call → WorldState → Actor → Row
-allowed_row g c w a = row_unless (refusal_before g a) c w a
+allowed_row g c w a = unless (refusal_before g a) (declined w) (row_of c w a)
 
 -- a call up to the answer: the caller goes on after its gate, and the call has its effect
 abbrev pub made : Gate → WorldState → Actor → Row

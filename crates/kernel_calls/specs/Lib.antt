@@ -6,6 +6,7 @@ pub mod Calls
 pub mod Space
 pub mod Laws
 pub use Rattle.text_show.specs.Value as TextShowValue
+pub use Rattle.call_rows.specs.Unless as CallRowsUnless
 pub use Rattle.call_rows.specs.IrqRows as CallRowsIrqRows
 pub use Rattle.call_rows.specs.WatchRows as CallRowsWatchRows
 pub use Rattle.call_rows.specs.Ending as CallRowsEnding

@@ -131,7 +131,8 @@ fn make(alloc: Global, w: &mut World, gate: Gate, who: &Actor) -> Result<Reply, 
 /// once or at the end of its wait, unless it has ended. At a return gate, the caller only goes on.
 /// Returns how the caller is answered. Host memory may run out only at `symAdd`, `msgQCreate`, `i`,
 /// `lkup`, `moduleShow` and `d` of a task, and the world is then as it was. No call deletes the
-/// shell's task.
+/// shell's task. `devRemove` of a device removes that device and its interrupts, and changes
+/// nothing else but its caller's answer. No call puts a device back.
 pub fn make_call(alloc: Global, w: &mut World, gate: Gate, who: &Actor) -> Result<Reply, NoMemory>
     requires unasked { file_wanted_lem gate (world_seen ⟦<dyn Device as Device>⟧ w.old) who.now ≡ None }
     requires caller { Acts w.old.kern who.now }
@@ -145,6 +146,10 @@ pub fn make_call(alloc: Global, w: &mut World, gate: Gate, who: &Actor) -> Resul
     ensures memory { OnErr result (may_exhaust_memory gate ≡ true) }
     ensures task { OnErr result (is_interrupt_lem who.now ≡ false) }
     ensures err { OnErr result (world_seen ⟦<dyn Device as Device>⟧ w.new ≡ world_seen ⟦<dyn Device as Device>⟧ w.old) }
+    ensures removed { (task slot : ℕ) → Removes gate (world_seen ⟦<dyn Device as Device>⟧ w.old) who.now task slot
+        → OnlyRemoves (world_seen ⟦<dyn Device as Device>⟧ w.old) (world_seen ⟦<dyn Device as Device>⟧ w.new)
+        task slot }
+    ensures back { IsNoneBack (world_seen ⟦<dyn Device as Device>⟧ w.old) (world_seen ⟦<dyn Device as Device>⟧ w.new) }
     ensures kept { IsWorld (world_with [] w.new) }
     ensures shell { Lives w.old.kern shell_id → Lives w.new.kern shell_id }
     ensures space { makes_room gate ≡ false → KeepsSpace w.old.out w.new.out }
@@ -161,7 +166,8 @@ pub fn make_call(alloc: Global, w: &mut World, gate: Gate, who: &Actor) -> Resul
 /// a file isn't made, and the result names the file. Host memory may run out only at `symAdd`,
 /// `msgQCreate`, `ld`, `i`, `lkup`, `moduleShow` and `d` of a task; the world is then as it was.
 /// `devRemove` of a device removes that device and its interrupts, and changes nothing else but its
-/// caller's answer. No call puts a device back.
+/// caller's answer. No call puts a device back. The board asks for the file itself and calls
+/// `make_call`; the program `call_cases` calls `kernel_call`.
 #[tactic(auto, using(crate::proofs::Reading::asks_lack, crate::proofs::Reading::asks_as_task))]
 pub fn kernel_call(alloc: Global, w: &mut World, gate: Gate, who: &Actor) -> Called
     requires caller { Acts w.old.kern who.now }

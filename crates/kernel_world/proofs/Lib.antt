@@ -26,6 +26,7 @@ pub use Rattle.sem_mutex.proofs.Lawful as SemMutexLawful
 pub use Rattle.sem_mutex.proofs.Answering as SemMutexAnswering
 pub use Rattle.sem_plain.proofs.Beginning as SemPlainBeginning
 pub use Rattle.sem_mutex.proofs.Following as SemMutexFollowing
+pub use Rattle.sem_mutex.proofs.Deeds as SemMutexDeeds
 pub use Rattle.sem_mutex.proofs.Keeping as SemMutexKeeping
 pub use Rattle.sem_mutex.proofs.Handing as SemMutexHanding
 pub use Rattle.msg_queue.proofs.Calm as MsgQueueCalm

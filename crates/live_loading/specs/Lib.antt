@@ -5,12 +5,14 @@ pub mod Replies
 pub mod Causes
 pub mod Laws
 pub use Rattle.kernel_calls.specs.TextShowValue
+pub use Rattle.kernel_calls.specs.CallRowsUnless
 pub use Rattle.kernel_calls.specs.CallRowsIrqRows
 pub use Rattle.kernel_calls.specs.CallRowsWatchRows
 pub use Rattle.kernel_calls.specs.CallRowsEnding
 pub use Rattle.kernel_calls.specs.Calls as KernelCallsCalls
 pub use Rattle.kernel_calls.specs.Laws as KernelCallsLaws
 pub use Rattle.kernel_calls.specs.Space as KernelCallsSpace
+pub use Rattle.kernel_calls.specs.Removing as KernelCallsRemoving
 pub use Rattle.kernel_calls.specs.KernelWorldStarting
 pub use Rattle.kernel_calls.specs.KernelWorldState
 pub use Rattle.kernel_calls.specs.KernelWorldOpening

@@ -2,6 +2,7 @@ pub mod Closings
 pub mod CommandLemmas
 pub mod Flow
 pub mod Limits
+pub mod LivePromises
 pub mod OtherFiles
 pub mod Outcomes
 pub mod Recording

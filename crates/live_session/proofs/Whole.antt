@@ -8,11 +8,11 @@ use Rattle.wind_machine.specs.Machine.{IsOver}
 use Rattle.wind_machine.specs.Extending.{Setup}
 use Rattle.wind_session.specs.Modules.{Shelf}
 use Rattle.wind_session.specs.Outside.{Outside}
-use Rattle.wind_session.specs.Keeping.{Around}
 use Rattle.wind_session.specs.declared.run.RunEnd.{RunEnd}
 use Rattle.wind_session.specs.declared.run.RunEnd.TheVariants as ends
 use Rattle.live_session.specs.Command.{CommandState}
 use Rattle.live_session.specs.Ending.{IsAfterRun, IsGoing, is_quiet}
+use Rattle.live_session.specs.LiveAround.{LiveAround, RecordFailed}
 use Rattle.live_session.specs.Saving.{IsSaved, WritesOnly, replay_limit}
 use Rattle.live_session.specs.Seen.{LiveState, IsLiveAt, Runs}
 use Rattle.live_session.specs.Session.{IsPermitted, IsRecorded, IsStatusOf, IsTyped, Played, setup_of, shelf_of}
@@ -30,20 +30,22 @@ is_recorded end c shelf setup console ticks board old now files new going run ov
     record { replay_end = replay.0; going = replay.1; replay = replay.2; before = files; saved = saved }
 
 -- how the conversation ended, and what became of the record
-pub record Closed (s : Status) (c : CommandState) (end : RunEnd) (l m : LiveState) (before after : Around) (left_old left_new : Option (List ℕ)) (files mid new : Option Files) (rose : Type 0) : Type 0 where
-  pub runs : Runs end c.modules l before m after
+pub record Closed (s : Status) (c : CommandState) (end : RunEnd) (l m : LiveState) (before after : LiveAround) (mid : Option Files) : Type 0 where
+  pub runs : Runs end c.modules l before.session m after.session
   pub status_is : IsStatusOf end s
-  pub typed : IsTyped s left_old left_new m.console.bytes
-  pub writes : WritesOnly c.record_folder files new
-  pub saved : s ≡ status.Ended → c.record_folder ≢ [] → IsGoing end × IsSaved c m.console.bytes m.ticks.bytes (replay_limit m.board.steps (is_quiet end)) mid new
-  pub unrecorded : s ≡ status.Unrecorded → (c.record_folder ≢ []) × rose
+  pub typed : IsTyped s before.input after.input m.console.bytes
+  pub writes : WritesOnly c.record_folder before.records after.records
+  pub saved : s ≡ status.Ended → c.record_folder ≢ [] → IsGoing end × IsSaved c m.console.bytes m.ticks.bytes (replay_limit m.board.steps (is_quiet end)) mid after.records
+  pub unrecorded : s ≡ status.Unrecorded → (c.record_folder ≢ []) × RecordFailed before after
 
-pub plays : WritingLaw → (s : Status) (c : CommandState) (end : RunEnd) (l m : LiveState) (before after : Around) (left_old left_new : Option (List ℕ)) (files mid new : Option Files) (rose : Type 0)
-    → Closed s c end l m before after left_old left_new files mid new rose
-    → (devices : List (Option DeviceState)) → IsPermitted c files → IsLiveAt (shelf_of before.files c) (setup_of c devices) l before.logged before.logged
-    → Played s c before.files devices before.logged after.logged left_old left_new files new rose
-plays law s c end l m before after left_old left_new files mid new rose h devices permitted live =
-    let run : IsAfterRun end (shelf_of before.files c) (setup_of c devices) m.console.bytes m.ticks.bytes m.board before.logged after.logged = h.runs.goes.goes (setup_of c devices) before.logged live in
+pub plays : WritingLaw → (s : Status) (c : CommandState) (end : RunEnd) (l m : LiveState) (before after : LiveAround) (mid : Option Files) → Closed s c end l m before after mid
+    → (devices : List (Option DeviceState)) → IsPermitted c before.records → IsLiveAt (shelf_of before.session.files c) (setup_of c devices) l before.session.logged before.session.logged
+    → Played s c devices before after
+plays law s c end l m before after mid h devices permitted live =
+    let shelf = shelf_of before.session.files c in
+    let old = before.session.logged in
+    let now = after.session.logged in
+    let run : IsAfterRun end shelf (setup_of c devices) m.console.bytes m.ticks.bytes m.board old now = h.runs.goes.goes (setup_of c devices) old live in
     record {
       console = m.console.bytes;
       ticks = m.ticks.bytes;
@@ -56,6 +58,6 @@ plays law s c end l m before after left_old left_new files mid new rose h device
       permitted = permitted;
       writes = h.writes;
       recorded = λ e named.
-          is_recorded end c (shelf_of before.files c) (setup_of c devices) m.console.bytes m.ticks.bytes m.board before.logged after.logged mid new (h.saved e named).0 run h.runs.quiet (h.saved e named).1;
+          is_recorded end c shelf (setup_of c devices) m.console.bytes m.ticks.bytes m.board old now mid after.records (h.saved e named).0 run h.runs.quiet (h.saved e named).1;
       unrecorded = h.unrecorded;
     }

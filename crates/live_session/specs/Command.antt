@@ -6,7 +6,7 @@ use Rattle.wind_base.specs.declared.board_kind.BoardKind.{BoardKind}
 use Rattle.wind_base.specs.declared.profile.Profile.{Profile}
 use Rattle.clap.specs.Words.{App, Row, Rule, Text, new_app, new_rule, with_rule}
 use Rattle.clap.specs.declared.builder.action.ArgAction.TheVariants.{SetTrue}
-use Rattle.wind_session.specs.Command.{if_valid, machine_value, number_value, rows_given, value_of, with_machine_options, with_option}
+use Rattle.wind_session.specs.Command.{board_options_value, if_valid, number_value, rows_given, value_of, with_board_options, with_option}
 
 -- a command: the folder of modules, the folder for the record, whether a record that is there may be replaced, the most
 -- steps between two lines, the rule of inheritance, and the kind of board
@@ -25,26 +25,25 @@ flag_rule name = record (new_rule name) { long = Some name; action = Some SetTru
 -- the command line, as clap reads it: its options with their defaults
 unfoldable pub app : App
 app =
-    with_machine_options
+    with_board_options
     (with_option (codes "quiet-after") (codes "1000000")
     (with_rule
     (with_option (codes "record") []
-    (with_option (codes "modules") (codes ".")
-    (new_app (codes "windlive"))))
+    (new_app (codes "windlive")))
     (flag_rule (codes "force"))))
 
 -- the command of clap's matches; none if a value is invalid
 abbrev pub command_of_rows : List Row → Option CommandState
 command_of_rows rows =
     if_valid (number_value most_steps (value_of (codes "quiet-after") rows)) (λ quiet_after.
-    if_valid (machine_value rows) (λ machine.
+    if_valid (board_options_value rows) (λ options.
     Some (record {
-      modules = value_of (codes "modules") rows;
+      modules = options.modules;
       record_folder = value_of (codes "record") rows;
       force = bytes_eq (value_of (codes "force") rows) (codes "true");
       quiet_after = quiet_after;
-      profile = machine.profile;
-      board = machine.board;
+      profile = options.profile;
+      board = options.board;
     })))
 
 -- the command that these words give, or none if clap refuses them or a value is invalid; the first word is the program's

@@ -3,8 +3,10 @@ pub mod DotLines
 pub mod Ending
 pub mod Folder
 pub mod Input
+pub mod LiveAround
 pub mod MemFolder
 pub mod Positions
+pub mod Promised
 pub mod Record
 pub mod Saving
 pub mod Seen

@@ -15,6 +15,7 @@ use Rattle.wind_session.specs.declared.run.RunEnd.TheVariants as ends
 use Rattle.live_session.specs.Command.{CommandState}
 use Rattle.live_session.specs.Ending.{IsAfterRun, IsGoing, is_quiet}
 use Rattle.live_session.specs.Input.{IsLongest, IsPart, Takes}
+use Rattle.live_session.specs.LiveAround.{LiveAround, ReadFailed, RecordFailed, WriteFailed}
 use Rattle.live_session.specs.Positions.{position_after, sent_of, asked_by}
 use Rattle.live_session.specs.Saving.{IsFree, IsSaved, IsTaken, WritesOnly, replay_limit}
 use Rattle.live_session.specs.declared.dot_line.DotLine.TheVariants as lines
@@ -125,45 +126,44 @@ IsPermitted c files = c.record_folder ≢ [] → c.force ≡ false → IsFree c.
 
 -- a session was played with these arguments: its console file and its tick file, for which windplay starts a run; the
 -- board of the first steps of that run; and what was shown is the text of these steps
-pub record Played (s : Status) (c : CommandState) (modules : Option Files) (devices : List (Option DeviceState)) (old now : Outside) (left_old left_new : Option (List ℕ)) (files new : Option Files) (rose : Type 0) : Type 0 where
+pub record Played (s : Status) (c : CommandState) (devices : List (Option DeviceState)) (before after : LiveAround) : Type 0 where
   pub console : List ℕ
   pub ticks : List ℕ
   pub board : State
   pub end : RunEnd
   pub planned : plan_of (Some console) (Some ticks) ≡ Start console (timetable_of ticks)
-  pub run : IsAfterRun end (shelf_of modules c) (setup_of c devices) console ticks board old now
+  pub run : IsAfterRun end (shelf_of before.session.files c) (setup_of c devices) console ticks board before.session.logged after.session.logged
   pub status_is : IsStatusOf end s
-  pub typed : IsTyped s left_old left_new console
-  pub permitted : IsPermitted c files
-  pub writes : WritesOnly c.record_folder files new
-  pub recorded : s ≡ status.Ended → c.record_folder ≢ [] → IsRecorded end c (shelf_of modules c) (setup_of c devices) console ticks board old now new
-  pub unrecorded : s ≡ status.Unrecorded → (c.record_folder ≢ []) × rose
+  pub typed : IsTyped s before.input after.input console
+  pub permitted : IsPermitted c before.records
+  pub writes : WritesOnly c.record_folder before.records after.records
+  pub recorded : s ≡ status.Ended → c.record_folder ≢ []
+      → IsRecorded end c (shelf_of before.session.files c) (setup_of c devices) console ticks board before.session.logged after.session.logged after.records
+  pub unrecorded : s ≡ status.Unrecorded → (c.record_folder ≢ []) × RecordFailed before after
 
 -- ---- a session that was not played
 -- its status: memory may run out at any time; otherwise there is a record that is not to be replaced, or asking for it
--- failed
+-- failed, so that the count of faults of its folder rose
 abbrev pub IsRefusal : Status → CommandState → Option Files → Type 0 → Type 0
 IsRefusal status.NoMemory c files rose = Unit {0}
 IsRefusal status.Unrecorded c files rose = (c.record_folder ≢ []) × (c.force ≡ false) × (IsTaken c.record_folder files ⊎ rose)
 IsRefusal s c files rose = ⊥
 
 -- nothing was read, fetched, shown or written
-pub record IsUntouched (old now : Outside) (left_old left_new : Option (List ℕ)) (files new : Option Files) : Type 0 where
-  pub outside : now ≡ old
-  pub input : left_new ≡ left_old
-  pub record_files : new ≡ files
+pub record IsUntouched (before after : LiveAround) : Type 0 where
+  pub outside : after.session.logged ≡ before.session.logged
+  pub input : after.input ≡ before.input
+  pub record_files : after.records ≡ before.records
 
--- what these arguments leave; `rose` says that the count of faults of the record's folder rose
-abbrev pub Leaves : Status → Option CommandState → Option Files → List (Option DeviceState) → Outside → Outside → Option (List ℕ) → Option (List ℕ) → Option Files → Option Files → Type 0 → Type 0
-Leaves s None modules devices old now left_old left_new files new rose = ((s ≡ status.Usage) ⊎ (s ≡ status.NoMemory)) × IsUntouched old now left_old left_new files new
-Leaves s (Some c) modules devices old now left_old left_new files new rose =
-    (IsRefusal s c files rose × IsUntouched old now left_old left_new files new) ⊎ Played s c modules devices old now left_old left_new files new rose
+-- what these arguments leave
+abbrev pub Leaves : Status → Option CommandState → List (Option DeviceState) → LiveAround → LiveAround → Type 0
+Leaves s None devices before after = ((s ≡ status.Usage) ⊎ (s ≡ status.NoMemory)) × IsUntouched before after
+Leaves s (Some c) devices before after = (IsRefusal s c before.records (RecordFailed before after) × IsUntouched before after) ⊎ Played s c devices before after
 
 -- ---- the program
--- a session of these arguments: reading failed only if the count of faults of the input or of the folder rose, and
--- writing only if that of the output did
-pub record IsSession (s : Status) (command : Option CommandState) (modules : Option Files) (devices : List (Option DeviceState)) (old now : Outside) (left_old left_new : Option (List ℕ)) (files new : Option Files) (read_rose write_rose record_rose : Type 0) : Type 0 where
-  pub leaves : Leaves s command modules devices old now left_old left_new files new record_rose
+-- a session of these arguments on a board with these devices
+pub record IsSession (s : Status) (command : Option CommandState) (devices : List (Option DeviceState)) (before after : LiveAround) : Type 0 where
+  pub leaves : Leaves s command devices before after
   pub usage : s ≢ status.NoMemory → ((s ≡ status.Usage) ↔ (command ≡ None))
-  pub read_fault : s ≡ status.ReadFault → read_rose
-  pub write_fault : s ≡ status.WriteFault → write_rose
+  pub read_fault : s ≡ status.ReadFault → ReadFailed before after
+  pub write_fault : s ≡ status.WriteFault → WriteFailed before after

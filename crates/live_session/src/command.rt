@@ -14,8 +14,8 @@ use std::alloc::{AllocError, Global};
 use wind_base::limits::STEPS;
 use wind_base::{BoardKind, Profile};
 use wind_session::{
-    CommandErr, Machine, command_line, machine_of, matches_of, number_of, option, valid, value_of,
-    with_machine_options,
+    CommandErr, board_options_of, command_line, matches_of, number_of, option, valid, value_of,
+    with_board_options,
 };
 
 /// What the arguments ask for.
@@ -38,6 +38,13 @@ pub struct Command<'a> {
 // The message for an invalid number of steps.
 const BAD_STEPS: &str = "'--quiet-after <N>' takes 1 to 13 digits, and at most 1000000000000";
 
+// Where the record goes.
+const RECORD_HELP: &str = "\
+    The folder for the record of the session, which must exist; without it nothing is saved";
+
+// How long the board runs after a line.
+const QUIET_HELP: &str = "The most steps after a line before the next is read, up to 1000000000000";
+
 // An option without a value.
 fn flag<'a>(alloc: Global, name: &'a str, help: &'a str) -> Arg<'a>
     ensures rule { rule_of result ≡ flag_rule name.now }
@@ -56,17 +63,10 @@ fn app<'a>(alloc: Global) -> Result<clap::Command<'a>, AllocError>
 {
     let about = "Plays a session of a wind kernel's shell while it is typed";
     let command = command_line(alloc, "windlive", about)
-        .arg(option(alloc, "modules", "DIR", ".", "The folder of modules"))?
-        .arg(option(alloc, "record", "DIR", "", "The folder for the record"))?
+        .arg(option(alloc, "record", "DIR", "", RECORD_HELP))?
         .arg(flag(alloc, "force", "Replaces a record that is there"))?
-        .arg(option(
-            alloc,
-            "quiet-after",
-            "N",
-            "1000000",
-            "The most steps between two lines, up to 1000000000000",
-        ))?;
-    with_machine_options(alloc, command)
+        .arg(option(alloc, "quiet-after", "N", "1000000", QUIET_HELP))?;
+    with_board_options(alloc, command)
 }
 
 // Whether an option without a value was given.
@@ -87,13 +87,13 @@ pub fn command_of<'a>(alloc: Global, words: &'a [&'a str]) -> Result<Command<'a>
     let matches = matches_of(alloc, &mut app, words)?;
     let steps = number_of(&matches, "quiet-after", STEPS);
     let quiet_after = valid(alloc, &mut app, steps, BAD_STEPS)?;
-    let Machine { profile, board } = machine_of(alloc, &mut app, &matches)?;
+    let options = board_options_of(alloc, &mut app, &matches)?;
     Ok(Command {
-        modules: value_of(&matches, "modules"),
+        modules: options.modules,
         record: value_of(&matches, "record"),
         force: is_given(&matches, "force"),
         quiet_after,
-        profile,
-        board,
+        profile: options.profile,
+        board: options.board,
     })
 }

@@ -50,7 +50,7 @@ pub(crate) fn tell_refusal<E: Sink>(err: &mut E, refusal: Refusal) {
     }
 }
 
-/// Says who runs, if the board's last run reached its limit.
+/// Says who runs and what ends it, if the board's last run reached its limit.
 pub(crate) fn tell_limit<E: Sink>(err: &mut E, live: &Live, end: RunEnd) {
     if end != RunEnd::Limit {
         return;
@@ -59,7 +59,8 @@ pub(crate) fn tell_limit<E: Sink>(err: &mut E, live: &Live, end: RunEnd) {
         Some(task) => task.name.bytes(),
         None => b"an interrupt routine",
     };
-    put_pieces(err, b"windlive: still running: ", who, b"\n");
+    let advice = b"; .break aborts the shell's call\n";
+    put_pieces(err, b"windlive: still running: ", who, advice);
 }
 
 // Says a number after a word.

@@ -4,9 +4,9 @@ ghost use Rattle.std.specs.Prelude.{◌≡◌, ◌≢◌, ◌⊎◌, ◌≤◌, 
 ghost use Rattle.wind_base.specs.Limits.{most_slots};
 ghost use Rattle.wind_outside.specs.Counts.{Rose};
 ghost use Rattle.wind_outside.specs.Devices.{slots_of};
-ghost use Rattle.wind_session.specs.Outside.{outside};
 ghost use Rattle.wind_session.specs.Keeping.{KeepsFiles};
 ghost use Rattle.live_session.specs.Command.{command_of as command_of_lem};
+ghost use Rattle.live_session.specs.LiveAround.{KeepsLive, live_around};
 ghost use Rattle.live_session.specs.Seen.{live_seen, Begins};
 ghost use Rattle.live_session.specs.Session.{IsSession, Leaves, setup_of, status_unless};
 ghost use Rattle.live_session.specs.Words.{command_state, IsTarget};
@@ -83,12 +83,12 @@ fn session<I: Input, F: Folder, O: Sink, E: Sink, D: RecordFolder>(
 ) -> Status
     requires devices { length devices.items ≤ most_slots }
     requires target { IsTarget target }
-    ensures leaves { Leaves result (Some (command_state target.entry.command.now)) (F.files folder.old)
+    ensures leaves { Leaves result (Some (command_state target.entry.command.now))
         (slots_of kind_of words_of devices.items)
-        (outside (F.requests folder.old) (O.bytes out.old) (O.pieces out.old))
-        (outside (F.requests folder.new) (O.bytes out.new) (O.pieces out.new))
-        (I.left input.old) (I.left input.new) (D.files records.old) (D.files records.new)
-        (Rose (D.faults records.old) (D.faults records.new)) }
+        (live_around ⟦<I as Input>⟧ ⟦<F as Folder>⟧ ⟦<O as Sink>⟧ ⟦<D as RecordFolder>⟧
+        input.old folder.old out.old records.old)
+        (live_around ⟦<I as Input>⟧ ⟦<F as Folder>⟧ ⟦<O as Sink>⟧ ⟦<D as RecordFolder>⟧
+        input.new folder.new out.new records.new) }
     ensures read_fault { result ≡ status.ReadFault
         → Rose (I.faults input.old) (I.faults input.new) ⊎ Rose (F.faults folder.old) (F.faults folder.new) }
     ensures fault { result ≡ status.WriteFault → Rose (O.faults out.old) (O.faults out.new) }
@@ -128,16 +128,17 @@ pub fn play_live<'a, I: Input, F: Folder, O: Sink, E: Sink, D: RecordFolder>(
     devices: Slots,
 ) -> Status
     requires { length devices.items ≤ most_slots }
-    ensures session { IsSession result (command_of_lem (map (λ w. w.now) words.now)) (F.files folder.old)
+    ensures session { IsSession result (command_of_lem (map (λ w. w.now) words.now))
         (slots_of kind_of words_of devices.items)
-        (outside (F.requests folder.old) (O.bytes out.old) (O.pieces out.old))
-        (outside (F.requests folder.new) (O.bytes out.new) (O.pieces out.new))
-        (I.left input.old) (I.left input.new) (D.files records.old) (D.files records.new)
-        (Rose (I.faults input.old) (I.faults input.new) ⊎ Rose (F.faults folder.old) (F.faults folder.new))
-        (Rose (O.faults out.old) (O.faults out.new)) (Rose (D.faults records.old) (D.faults records.new)) }
-    ensures keeps { KeepsFiles ⟦<F as Folder>⟧ ⟦<O as Sink>⟧ folder.old out.old folder.new out.new }
-    ensures input_faults { I.faults input.old ≤ I.faults input.new }
-    ensures record_faults { D.faults records.old ≤ D.faults records.new }
+        (live_around ⟦<I as Input>⟧ ⟦<F as Folder>⟧ ⟦<O as Sink>⟧ ⟦<D as RecordFolder>⟧
+        input.old folder.old out.old records.old)
+        (live_around ⟦<I as Input>⟧ ⟦<F as Folder>⟧ ⟦<O as Sink>⟧ ⟦<D as RecordFolder>⟧
+        input.new folder.new out.new records.new) }
+    ensures keeps { KeepsLive
+        (live_around ⟦<I as Input>⟧ ⟦<F as Folder>⟧ ⟦<O as Sink>⟧ ⟦<D as RecordFolder>⟧
+        input.old folder.old out.old records.old)
+        (live_around ⟦<I as Input>⟧ ⟦<F as Folder>⟧ ⟦<O as Sink>⟧ ⟦<D as RecordFolder>⟧
+        input.new folder.new out.new records.new) }
 {
     let command = match command_of(alloc, words) {
         Ok(command) => command,

@@ -15,7 +15,7 @@ use Rattle.elf_read.specs.Standard.{shf_alloc, shf_tls_or_compressed}
 use Rattle.elf_read.specs.Tables.{width}
 use Rattle.elf_read.specs.Rules.{is_alignment}
 use Rattle.elf_read.specs.Modules.{IsName as IsFileName, IsSect, IsSym, HoldsBytes, IsRel, IsModule, size_of}
-use Rattle.elf_build.specs.File.{RelocTable, joined, tables_of, sym_name, sect_name, sect_content, file_of}
+use Rattle.elf_build.specs.File.{RelocTable, joined, tables_of, sym_name, prefix_of, sect_name, sect_content, file_of}
 use Rattle.elf_build.specs.Buildable.{IsHere, Rises, SectFits, SymFits, RelFits, Buildable}
 use Rattle.elf_build.proofs.Length.{length_formula}
 use Rattle.ppc_text.proofs.Naming.{IsName}
@@ -283,7 +283,8 @@ content_len ps =
     let b = length-append (section_bytes 1 ps) nil in
     omega arith
 
-sect_names_len : (ps : List Placed) → length (flat_map sect_name (two ps)) ≡ 12
+sect_names_len : (ps : List Placed) → length (flat_map sect_name (two ps)) ≡ 22
+unfolding prefix_of
 sect_names_len ps = refl
 
 short_file : (ps : List Placed) → Sound ps → All (GoodSym ps) (symbols ps) → length (file_of (module_of ps)) < 2 ^ 32

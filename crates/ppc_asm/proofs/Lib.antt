@@ -2,8 +2,11 @@ pub mod Alone
 pub mod Counting
 pub mod Decoded
 pub mod Drafted
+pub mod Ended
 pub mod Ending
+pub mod Fetching
 pub mod Filing
 pub mod Listed
 pub mod Numbering
 pub mod Sound
+pub mod Worded

@@ -11,6 +11,7 @@ use Rattle.ppc_asm.specs.declared.status.AsmStatus.{AsmStatus}
 use Rattle.ppc_asm.specs.declared.status.AsmStatus.TheVariants as status
 use Rattle.ppc_asm.specs.Assembly.{assembly}
 use Rattle.ppc_asm.specs.Listing.{listing}
+use Rattle.ppc_asm.specs.Words.{HasWords}
 
 -- ---- words
 -- a file's name doesn't begin with `-`
@@ -41,12 +42,14 @@ number_of status.TooLong = 8
 number_of (status.BadObject error) = 10
 
 -- ---- the bytes of a file
--- there is a file of the module of this text, and `Added` says how much of it the output has got
+-- there is a file of the module of this text, whose words decode to the text's instructions, and `Added` says how much
+-- of it the output has got
 pub record Adds (Added : Option (List ℕ) → Option (List ℕ) → List ℕ → Type 0) (text : List ℕ) (old new : Option (List ℕ)) : Type 0 where
   pub it : Module
   pub file : List ℕ
   pub assembled : assembly text ≡ Ok it
   pub holds : ModuleOf file it
+  pub words : HasWords text file
   pub added : Added old new file
 
 -- a file of this text's module is added to the output, or a prefix of one

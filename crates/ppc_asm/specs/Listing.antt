@@ -1,16 +1,14 @@
 -- The listing of a module: a line for each word of its executable sections.
-use Rattle.std.specs.Prelude.{◌≡◌, ◌≤◌, ℕ, ◌+◌, ◌==◌, if◌then◌else◌, List, [], ◌∷◌, ◌++◌, Option, Some, None, codes, bit_and}
+use Rattle.std.specs.Prelude.{ℕ, ◌+◌, Bool, not, ◌&&◌, ◌==◌, if◌then◌else◌, List, [], ◌∷◌, ◌++◌, Option, Some, None, codes, bit_and}
 use Rattle.std.specs.List.{flat_map}
 use Rattle.std.specs.Int.{from_be_bytes, w32}
+use Rattle.elf_read.specs.Standard.{sht_nobits}
+use Rattle.elf_read.specs.Tables.{header, is_loaded}
 use Rattle.elf_read.specs.declared.module.Body.{Body}
 use Rattle.elf_read.specs.declared.module.Body.TheVariants.{Bytes, Size}
 use Rattle.elf_read.specs.declared.module.Sect.{Sect}
 use Rattle.elf_read.specs.declared.module.Module.{Module}
 use Rattle.wind_base.specs.Texts.{hex_places}
-use Rattle.wind_outside.specs.declared.sink.Put.{Put}
-use Rattle.wind_outside.specs.declared.sink.Put.TheVariants as puts
-use Rattle.wind_outside.specs.Counts.{Rose}
-use Rattle.wind_outside.specs.Appending.{Appended, AppendedPrefix}
 use Rattle.ppc_word.specs.declared.row.Row.{Row}
 use Rattle.ppc_word.specs.Rows.{row_of, fields_of}
 use Rattle.ppc_text.specs.Mnemonics.{named_as}
@@ -39,14 +37,10 @@ body_lines (Size n) = []
 unfoldable pub section_lines : Sect → List ℕ
 section_lines s = if bit_and s.flags 4 == 0 then [] else body_lines s.body
 
+-- section number i of a file is loaded and executable, and the file has its bytes
+abbrev pub is_listed_at : List ℕ → ℕ → Bool
+is_listed_at bytes i = is_loaded bytes i && (not ((header bytes i).kind == sht_nobits) && not (bit_and (header bytes i).flags 4 == 0))
+
 -- the lines of all sections
 unfoldable pub listing : Module → List ℕ
 listing m = flat_map section_lines m.sections
-
--- ---- a sink
--- how lines are written to a sink: all of them if it ends with Done, and a prefix if it fails
-pub record PutsLines (text : List ℕ) (end : Put) (old new : Option (List ℕ)) (faults_old faults_new : ℕ) : Type 0 where
-  pub done : end ≡ puts.Done → Appended old new text
-  pub part : AppendedPrefix old new text
-  pub failed : end ≡ puts.Failed → Rose faults_old faults_new
-  pub never_falls : faults_old ≤ faults_new

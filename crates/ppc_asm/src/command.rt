@@ -1,9 +1,11 @@
 //! A call of the program: its arguments ask for a module or a listing.
 
-ghost use Rattle.std.specs.Prelude.{◌≡◌, ◌↔◌, map, None, IfSome, IfOk, IfErr, bytes_eq, codes};
-ghost use Rattle.wind_outside.specs.Counts.{Rose};
+ghost use Rattle.std.specs.Prelude.{◌≡◌, ◌↔◌, ◌≤◌, [], ◌∷◌, map, None, IfSome, IfOk, IfErr, bytes_eq, codes};
+ghost use Rattle.wind_outside.specs.{Counts.Rose, Requests.GrowsBy};
+ghost use Rattle.wind_outside.specs.declared.folder.FetchOutcome.TheVariants as outcomes;
 ghost use Rattle.ppc_asm.specs.declared.status.AsmStatus.TheVariants as ends;
 ghost use Rattle.ppc_asm.specs.Command.{Assembles, Lists, Unread, HasBytes, AssemblesFile, ListsFile, to_assemble, to_list, is_file as is_file_lem};
+ghost use Rattle.ppc_asm.specs.Fetches.{Fetches, FetchesOnce, IsAfterFile, file_of, file_request};
 
 use crate::assembling::assemble;
 use crate::listing::{LINE_ROOM, list};
@@ -11,7 +13,7 @@ use crate::report::tell;
 use crate::status::AsmStatus;
 use asm_lines::AsmErr;
 use elf_build::build;
-use elf_read::{ElfErr, read};
+use elf_read::check;
 use std::alloc::Global;
 use wind_base::OutBuf;
 use wind_base::limits::TEXT_FILE_BYTES;
@@ -30,8 +32,10 @@ fn is_list(word: &str) -> bool
 }
 
 fn assemble_to<O: Sink>(alloc: Global, text: &[u8], out: &mut O) -> AsmStatus
-    ensures { Assembles (O.bytes out.old) (O.bytes out.new)
+    ensures assembles { Assembles (O.bytes out.old) (O.bytes out.new)
         (Rose (O.faults out.old) (O.faults out.new)) text.now result }
+    ensures after { IsAfterFile result }
+    ensures faults { O.faults out.old ≤ O.faults out.new }
 {
     let module = match assemble(alloc, text) {
         Ok(module) => module,
@@ -47,18 +51,21 @@ fn assemble_to<O: Sink>(alloc: Global, text: &[u8], out: &mut O) -> AsmStatus
     }
 }
 
+#[tactic(auto, using(crate::proofs::Ended::listed, crate::proofs::Ended::listed_part))]
 fn list_to<O: Sink>(alloc: Global, bytes: &[u8], out: &mut O) -> AsmStatus
-    ensures { Lists (O.bytes out.old) (O.bytes out.new) (Rose (O.faults out.old) (O.faults out.new)) bytes.now result }
+    ensures lists { Lists (O.bytes out.old) (O.bytes out.new)
+        (Rose (O.faults out.old) (O.faults out.new)) bytes.now result }
+    ensures after { IsAfterFile result }
+    ensures faults { O.faults out.old ≤ O.faults out.new }
 {
-    let module = match read(alloc, bytes) {
-        Ok(module) => module,
-        Err(ElfErr::NoMemory) => return AsmStatus::NoMemory,
+    match check(bytes) {
+        Ok(()) => {}
         Err(error) => return AsmStatus::BadObject(error),
-    };
+    }
     let Ok(mut line) = OutBuf::reserved(alloc, LINE_ROOM) else {
         return AsmStatus::NoMemory;
     };
-    match list(out, &mut line, &module) {
+    match list(out, &mut line, bytes) {
         Put::Done => AsmStatus::Done,
         Put::Failed => AsmStatus::WriteFault,
     }
@@ -69,6 +76,11 @@ fn bytes_of<F: Folder>(alloc: Global, file: &str, folder: &mut F) -> Result<Vec<
     ensures found { IfOk result (λ bytes. HasBytes (F.files folder.old) file.now bytes.items) }
     ensures unread { IfErr result (Unread (F.files folder.old) file.now
         (Rose (F.faults folder.old) (F.faults folder.new))) }
+    ensures fetched { IfOk result (λ bytes. GrowsBy (F.requests folder.old) (F.requests folder.new)
+        (file_request file.now outcomes.Found ∷ [])) }
+    ensures unfound { IfErr result (λ s. FetchesOnce file.now s (F.requests folder.old) (F.requests folder.new)) }
+    ensures files { F.files folder.new ≡ F.files folder.old }
+    ensures faults { F.faults folder.old ≤ F.faults folder.new }
 {
     match folder.fetch(alloc, file, TEXT_FILE_BYTES) {
         Fetched::Found(bytes) => Ok(bytes),
@@ -87,17 +99,21 @@ fn last<'a>(words: &[&'a str]) -> &'a str {
     }
 }
 
-// The status of a call whose last argument names this file. The message is on `err`.
-fn ended<E: Sink>(err: &mut E, file: &str, status: AsmStatus) -> AsmStatus
-    ensures { result ≡ status }
+// The status of a call whose last argument names this file with these bytes. The message is on
+// `err`.
+fn ended<E: Sink>(err: &mut E, file: &str, bytes: &[u8], status: AsmStatus) -> AsmStatus
+    ensures is { result ≡ status }
+    ensures faults { E.faults err.old ≤ E.faults err.new }
+    ensures quiet { result ≡ ends.Done → E.bytes err.new ≡ E.bytes err.old }
 {
-    tell(err, file, status);
+    tell(err, file, bytes, status);
     status
 }
 
 /// Does what the arguments ask for; the first is the program's name. `FILE` assembles the file and writes the module to
 /// `out`. `--list FILE` writes the instructions of the file's executable sections. With every status but `Done`, a
-/// message on `err` says why.
+/// message on `err` says why. The file is fetched once; without a file in the arguments nothing is fetched.
+#[tactic(auto, using(crate::proofs::Fetching::fetched_once))]
 pub fn ppcasm<F: Folder, O: Sink, E: Sink>(
     alloc: Global,
     words: &[&str],
@@ -114,18 +130,25 @@ pub fn ppcasm<F: Folder, O: Sink, E: Sink>(
     ensures usage { (result ≡ ends.Usage)
         ↔ ((to_assemble (map (λ w. w.now) words.now) ≡ None) × (to_list (map (λ w. w.now) words.now) ≡ None)) }
     ensures untouched { result ≡ ends.Usage → O.bytes out.new ≡ O.bytes out.old }
+    ensures requested { Fetches (file_of (map (λ w. w.now) words.now)) result
+        (F.requests folder.old) (F.requests folder.new) }
+    ensures files { F.files folder.new ≡ F.files folder.old }
+    ensures faults { F.faults folder.old ≤ F.faults folder.new }
+    ensures out_faults { O.faults out.old ≤ O.faults out.new }
+    ensures err_faults { E.faults err.old ≤ E.faults err.new }
+    ensures quiet { result ≡ ends.Done → E.bytes err.new ≡ E.bytes err.old }
 {
     match words {
         [_, file] if is_file(file) => match bytes_of(alloc, file, folder) {
-            Ok(text) => ended(err, file, assemble_to(alloc, &text, out)),
-            Err(status) => ended(err, file, status),
+            Ok(text) => ended(err, file, &text, assemble_to(alloc, &text, out)),
+            Err(status) => ended(err, file, b"", status),
         },
         [_, option, file] if is_list(option) && is_file(file) => {
             match bytes_of(alloc, file, folder) {
-                Ok(bytes) => ended(err, file, list_to(alloc, &bytes, out)),
-                Err(status) => ended(err, file, status),
+                Ok(bytes) => ended(err, file, &bytes, list_to(alloc, &bytes, out)),
+                Err(status) => ended(err, file, b"", status),
             }
         }
-        _ => ended(err, last(words), AsmStatus::Usage),
+        _ => ended(err, last(words), b"", AsmStatus::Usage),
     }
 }

@@ -4,6 +4,7 @@
 mod assembling;
 mod command;
 mod listing;
+mod position;
 mod report;
 mod status;
 

@@ -1,13 +1,17 @@
 //! The instructions of a module as text.
 
-ghost use Rattle.std.specs.Prelude.{◌≡◌, ◌<◌, ◌≤◌, ◌+◌, [], ◌∷◌, length, slice_index};
+ghost use Rattle.std.specs.Prelude.{◌≡◌, ◌<◌, ◌≤◌, ◌+◌, ◌^◌, [], ◌∷◌, length, slice_index};
 ghost use Rattle.std.specs.Int.{from_be_bytes, w32};
+ghost use Rattle.std.specs.List.{flat_map};
+ghost use Rattle.elf_read.specs.Contents.{module_at, sects_at};
 ghost use Rattle.wind_base.specs.OutBuf.{Added, KeepsSpace};
 ghost use Rattle.ppc_word.specs.Rows.{row_of};
 ghost use Rattle.wind_base.specs.Texts.{hex_places};
-ghost use Rattle.ppc_asm.specs.Listing.{item_text, line_text, lines_from, section_lines, listing, PutsLines};
+ghost use Rattle.ppc_asm.specs.Listing.{item_text, line_text, lines_from, section_lines, is_listed_at, listing};
+ghost use Rattle.program_main.specs.Messages.{PutsText};
 
-use elf_read::{Body, Module, Sect};
+use elf_read::standard::SHT_NOBITS;
+use elf_read::{content, header, header_count, is_loaded};
 use ppc_text::show;
 use ppc_word::decode;
 use wind_base::text::{add, glyph};
@@ -69,7 +73,7 @@ fn first_word(bytes: &[u8]) -> u32
 
 fn list_bytes<O: Sink>(out: &mut O, line: &mut OutBuf, bytes: &[u8]) -> Put
     requires { 83 ≤ line.old.room + length line.old.bytes }
-    ensures put { PutsLines (lines_from 0 bytes.now) result (O.bytes out.old) (O.bytes out.new)
+    ensures put { PutsText (lines_from 0 bytes.now) result (O.bytes out.old) (O.bytes out.new)
         (O.faults out.old) (O.faults out.new) }
     ensures space { KeepsSpace line.old line.new }
 {
@@ -88,32 +92,36 @@ fn list_bytes<O: Sink>(out: &mut O, line: &mut OutBuf, bytes: &[u8]) -> Put
     Put::Done
 }
 
-#[tactic(auto, unfolding(crate::specs::Listing::section_lines))]
-fn list_section<O: Sink>(out: &mut O, line: &mut OutBuf, section: &Sect) -> Put
-    requires { 83 ≤ line.old.room + length line.old.bytes }
-    ensures put { PutsLines (section_lines section.now) result (O.bytes out.old) (O.bytes out.new)
-        (O.faults out.old) (O.faults out.new) }
-    ensures space { KeepsSpace line.old line.new }
+// Whether section number `i` of a file is loaded and executable, and the file has its bytes.
+fn is_listed(bytes: &[u8], i: usize) -> bool
+    requires { i < 2 ^ 16 }
+    ensures { result ≡ is_listed_at bytes.now i }
 {
-    if section.flags & EXECUTABLE == 0 {
-        return Put::Done;
-    }
-    match &section.body {
-        Body::Bytes(bytes) => list_bytes(out, line, bytes.as_slice()),
-        Body::Size(_) => Put::Done,
-    }
+    let section = header(bytes, i);
+    is_loaded(bytes, i) && section.kind != SHT_NOBITS && section.flags & EXECUTABLE != 0
 }
 
-/// Writes a line for each word of the executable sections: its offset in its section, the word, and its instruction.
-/// `line` is a buffer of `LINE_ROOM` bytes.
-#[tactic(auto, unfolding(crate::specs::Listing::listing))]
-pub(crate) fn list<O: Sink>(out: &mut O, line: &mut OutBuf, module: &Module) -> Put
+// The bytes of section number `i` of a file that are listed.
+fn listed(bytes: &[u8], i: usize) -> &[u8]
+    requires { i < 2 ^ 16 }
+    ensures { lines_from 0 result.now ≡ flat_map section_lines (sects_at bytes.now i) }
+{
+    if !is_listed(bytes, i) {
+        return b"";
+    }
+    content(bytes, i)
+}
+
+/// Writes a line for each word of the executable sections of a module's file: its offset in its section, the word, and
+/// its instruction. `line` is a buffer of `LINE_ROOM` bytes. It reads each section from the file's bytes.
+pub(crate) fn list<O: Sink>(out: &mut O, line: &mut OutBuf, bytes: &[u8]) -> Put
     requires { 83 ≤ line.old.room + length line.old.bytes }
-    ensures { PutsLines (listing module.now) result (O.bytes out.old) (O.bytes out.new) (O.faults out.old)
+    ensures { PutsText (listing (module_at bytes.now)) result (O.bytes out.old) (O.bytes out.new) (O.faults out.old)
         (O.faults out.new) }
 {
-    for section in module.sections.as_slice() {
-        match list_section(out, line, section) {
+    let count = header_count(bytes);
+    for i in 0..count {
+        match list_bytes(out, line, listed(bytes, i)) {
             Put::Failed => return Put::Failed,
             Put::Done => {}
         }

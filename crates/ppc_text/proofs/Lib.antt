@@ -8,3 +8,4 @@ pub mod Naming
 pub mod Spellings
 pub mod Unbroken
 pub mod Widths
+pub mod Blank

@@ -6,3 +6,4 @@ pub mod Operands
 pub mod Shapes
 pub mod Shown
 pub mod Tokens
+pub mod Blank

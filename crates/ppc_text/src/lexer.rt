@@ -61,7 +61,7 @@ fn plain_word<'a>(first: u8, rest: &[u8], bytes: &'a [u8]) -> (Token<'a>, usize)
     (word_token(first, &bytes[..len + 1]), len)
 }
 
-fn word<'a>(first: u8, rest: &[u8], bytes: &'a [u8]) -> (Token<'a>, usize)
+pub(crate) fn word<'a>(first: u8, rest: &[u8], bytes: &'a [u8]) -> (Token<'a>, usize)
     requires { bytes.now ≡ first ∷ rest.now }
     ensures { result ≡ word_at first rest.now }
 {
@@ -77,7 +77,7 @@ fn word<'a>(first: u8, rest: &[u8], bytes: &'a [u8]) -> (Token<'a>, usize)
     (Token::Dotted(Word { kept }), whole)
 }
 
-fn directive<'a>(rest: &[u8], bytes: &'a [u8]) -> (Token<'a>, usize)
+pub(crate) fn directive<'a>(rest: &[u8], bytes: &'a [u8]) -> (Token<'a>, usize)
     requires { bytes.now ≡ 46 ∷ rest.now }
     ensures { result ≡ (Token.Dotted (46 ∷ take (word_len_lem rest.now) rest.now), word_len_lem rest.now) }
 {
@@ -106,7 +106,7 @@ fn half_token<'a>(half: Option<Half>) -> Token<'a>
     }
 }
 
-fn half<'a>(rest: &[u8]) -> (Token<'a>, usize)
+pub(crate) fn half<'a>(rest: &[u8]) -> (Token<'a>, usize)
     ensures { result ≡ (half_token_lem (half_of_lem (take (word_len_lem rest.now) rest.now)), word_len_lem rest.now) }
 {
     let len = word_len(rest);
@@ -122,7 +122,7 @@ fn string_token<'a>(read: Option<(Text, usize)>) -> (Token<'a>, usize)
     }
 }
 
-fn mark<'a>(byte: u8) -> Token<'a>
+pub(crate) fn mark<'a>(byte: u8) -> Token<'a>
     ensures { result ≡ mark_of byte }
 {
     match byte {

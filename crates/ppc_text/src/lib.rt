@@ -2,6 +2,7 @@
 //! use one table of the mnemonics and their operands. The names and operands are those of the Power ISA, Book I.
 #![tactic(auto)]
 
+mod diagnosis;
 mod lexer;
 mod line;
 mod making;
@@ -12,6 +13,7 @@ mod showing;
 mod token;
 mod values;
 
+pub use diagnosis::{Place, Reason, Refusal, item_place, label_place, refusal_of};
 pub use line::{Instruction, Item, Line, parse};
 pub use making::insn_of;
 pub use showing::{show, shown_law};

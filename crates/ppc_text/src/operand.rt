@@ -382,7 +382,7 @@ fn is_close(tokens: &[Token]) -> bool
 }
 
 #[tactic(auto, unfolding(crate::specs::Operands::part_at))]
-fn part_at<'a>(part: Part, absolute: bool, tokens: &[Token<'a>]) -> Option<Operand<'a>>
+pub(crate) fn part_at<'a>(part: Part, absolute: bool, tokens: &[Token<'a>]) -> Option<Operand<'a>>
     ensures { result ≡ part_at_lem part absolute tokens.now }
 {
     match part {

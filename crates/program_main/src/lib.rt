@@ -5,5 +5,5 @@
 mod message;
 mod program;
 
-pub use message::Message;
+pub use message::put_text;
 pub use program::start;

@@ -1,26 +1,21 @@
 //! Messages of a program.
 
-use std::fmt;
+ghost use Rattle.std.specs.Prelude.{map};
+ghost use Rattle.std.specs.List.{concat};
+ghost use Rattle.program_main.specs.Messages.{PutsText};
+
 use wind_outside::{Put, Sink};
 
-/// A message, written to a sink by `write!`. It ends at its first fault, which changes nothing else.
-#[derive(Drop)]
-pub struct Message<'a, E: Sink> {
-    err: &'a mut E,
-}
-
-impl<'a, E: Sink> Message<'a, E> {
-    /// An empty message.
-    pub fn new(err: &'a mut E) -> Message<'a, E> {
-        Message { err }
-    }
-}
-
-impl<E: Sink> fmt::Write for Message<'_, E> {
-    fn write_str(&mut self, piece: &str) -> fmt::Result {
-        match self.err.put(piece.as_bytes()) {
-            Put::Done => Ok(()),
-            Put::Failed => Err(fmt::Error),
+/// Puts the pieces of a text in order. The first put that fails ends the text.
+pub fn put_text<E: Sink>(err: &mut E, pieces: &[&[u8]]) -> Put
+    ensures { PutsText (concat (map (λ p. p.now) pieces.now)) result (E.bytes err.old) (E.bytes err.new)
+        (E.faults err.old) (E.faults err.new) }
+{
+    for piece in pieces {
+        match err.put(piece) {
+            Put::Failed => return Put::Failed,
+            Put::Done => {}
         }
     }
+    Put::Done
 }

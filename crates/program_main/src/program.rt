@@ -1,9 +1,11 @@
 //! The start of a program: its words, and its exit status.
 
-use crate::message::Message;
+ghost use Rattle.std.specs.Prelude.{IfOk};
+ghost use Rattle.program_main.specs.Exits.{ExitsWith};
+
+use crate::message::put_text;
 use std::alloc::{AllocError, Global};
 use std::env;
-use std::fmt::Write;
 use std::io::{ErrorKind, Print};
 use std::process::ExitCode;
 use std::rt::Env;
@@ -45,6 +47,7 @@ where
     R: Env + AllocGlobal,
     P: FnOnce(&[&str], &mut E) -> u8 + Drop,
     requires { P.IsAlwaysCallable program }
+    ensures { IfOk result (λ number. (words : _) × (before : _) × (after : _) × P.post program words before number after) }
 {
     let args = arguments(rt, refused)?;
     let words = lent(rt.alloc(), &args)?;
@@ -60,13 +63,15 @@ where
     E: Print + Drop,
     P: FnOnce(&[&str], &mut HostSink<E>) -> u8 + Drop,
     requires { P.IsAlwaysCallable program }
+    ensures { ExitsWith
+        (λ number. (words : _) × (before : _) × (after : _) × P.post program words before number after) result }
 {
     let mut err = HostSink::new(err);
     let number = match status(&rt, &mut err, refused, program) {
         Ok(number) => number,
         Err(NoMemory) => {
             let name = refused.first().copied().unwrap_or("");
-            let _ = write!(Message::new(&mut err), "{name}: {NoMemory}\n");
+            let _ = put_text(&mut err, &[name.as_bytes(), b": out of memory\n"]);
             NO_MEMORY
         }
     };

@@ -1,8 +1,9 @@
 -- Lemmas for the code of the calls on mutexes.
-use Rattle.std.proofs.Common.{◌≡◌, ℕ, ◌+◌, ◌-◌, ◌<◌, ◌≤◌, ◌^◌, true, false, cond, not, ◌&&◌, eqb, List, [], ◌∷◌, length, Option, None, Some, IsSome, MatchOption, is_some, refl, sym, ap, ◌∙◌, subst, arith}
+use Rattle.std.proofs.Common.{◌≡◌, ℕ, ◌+◌, ◌-◌, ◌<◌, ◌≤◌, ◌^◌, true, false, cond, not, eqb, List, [], ◌∷◌, length, Option, None, Some, IsSome, IfSome, MatchOption, is_some, refl, sym, ap, ◌∙◌, subst, arith}
 use Rattle.id_table.specs.declared.ident.Place.{Place}
+use Rattle.std.specs.List.{All}
 use Rattle.std.specs.Option.{option_map}
-use Rattle.std.proofs.lemmas.Bool.{eq-eqb, eqb-true, not-false, false≢true, ne_eqb, lt-ltb, le-ltb}
+use Rattle.std.proofs.lemmas.Bool.{eq-eqb, false≢true, ne_eqb}
 use Rattle.std.proofs.lemmas.Option.{same_Some}
 use Rattle.std.proofs.lemmas.List.Sums.{count_by-le-length}
 use Rattle.id_table.specs.Rows.{object_of, without}
@@ -22,10 +23,10 @@ use Rattle.wind_base.specs.declared.errno.Errno.TheVariants as errors
 use Rattle.inheritance.specs.declared.mutex.Mutex.{Mutex}
 use Rattle.wind_core.specs.declared.took.Took.{Took}
 use Rattle.wind_core.specs.declared.took.Took.TheVariants.{Taken, Pended}
-use Rattle.inheritance.specs.Mutexes.{MutexState, LiveMutexes, both, is_id, holds, held_count, AreMutexes, mutex_place, owner_in}
-use Rattle.sem_mutex.specs.Calls.{raised_at_once, held_of, holding, guarded, eased, restored, less_held, dropped, letting_go, pass_on, passed_on, give_up, shallow, hand, deepen, await, handed, deepened, awaited, taken, take_alone, take, is_others, take_refusal, took, give_alone, give, give_refusal, given_once, owner_ended, its_owner_ended, delete_refusal, delete, live_mutex, pri_after, followed, priority_alone}
+use Rattle.inheritance.specs.Mutexes.{MutexState, LiveMutexes, both, holds, held_count, AreMutexes, mutex_place}
+use Rattle.sem_mutex.specs.Calls.{raised_at_once, held_of, holding, guarded, eased, restored, less_held, dropped, letting_go, pass_on, passed_on, hand, deepen, await, handed, deepened, awaited, TakeDeed, declined, taken, retaken, starved, take_from, take_deed, take_error, take_refusal, took_by, took, after_take, take, GiveDeed, denied, lowered, given_up, give_deed, give_error, give_refusal, after_give, give, given_once, given_last, owner_ended, its_owner_ended, delete_refusal, delete, live_mutex, pri_after, followed, priority_alone}
 use Rattle.inheritance.specs.Laws.{OwnersUrgentBut}
-use Rattle.sem_mutex.specs.Kept.{TaskKept, KeepsMutexes, FewSafe, IsEarly}
+use Rattle.sem_mutex.specs.Kept.{TaskKept, KeepsMutexes, FewSafe, IsEarly, IsEarlyFor}
 use Rattle.inheritance.proofs.Lookups.{live_is}
 use Rattle.sem_mutex.proofs.Handing.{found_row, hand_keeps, deepen_keeps, await_urgent}
 use Rattle.sem_mutex.proofs.Counting.{object_of-write}
@@ -33,6 +34,12 @@ use Rattle.inheritance.proofs.Raising.{since-change_pri}
 use Rattle.sem_mutex.proofs.Giving.{kern_hand, ids_hand, next_owner, passed}
 use Rattle.inheritance.proofs.Iteration.{ids-change_pri}
 use Rattle.sem_mutex.proofs.AtOnce.{at_once_same}
+use Rattle.sem_mutex.specs.Inside.{take_plan, give_plan}
+use Rattle.sem_mutex.specs.declared.plans.TakePlan.{TakePlan}
+use Rattle.sem_mutex.specs.declared.plans.TakePlan.TheVariants as takes
+use Rattle.sem_mutex.specs.declared.plans.GivePlan.{GivePlan}
+use Rattle.sem_mutex.specs.declared.plans.GivePlan.TheVariants as gives
+use Rattle.sem_mutex.proofs.Deeds.{TakeIs, take_is, GiveIs, give_is}
 use Rattle.sem_mutex.proofs.Keeping.{kern_guarded, take_keeps, give_same}
 use Rattle.sem_mutex.proofs.Ending.{delete_same, priority_urgent}
 use Rattle.wind_base.specs.Limits.{error_word}
@@ -86,8 +93,19 @@ few_held s who are kept =
           omega (arith, one, count_by-le-length (λ (r : ℕ × Mutex). holds t.id r.1) s.mutexes, are.few)
     ] refl
 
-pub few_deep : (s : MutexState) (id : ℕ) (m : Mutex) → IsEarly s → object_of s.mutexes id ≡ Some m → m.depth < 2 ^ 61
-few_deep s id m early e = found_row (λ (r : ℕ × Mutex). r.1.depth < 2 ^ 61) s.mutexes id m early.depths e
+few_deep : (ms : List (ℕ × Mutex)) (id : ℕ) → All (λ r. r.1.depth < 2 ^ 61) ms → IfSome (object_of ms id) (λ m. m.depth < 2 ^ 61)
+few_deep ms id few =
+    elim (object_of ms id) as (λ o. object_of ms id ≡ o → IfSome o (λ m. m.depth < 2 ^ 61)) [
+      | None ↦ λ e. tt
+      | Some m ↦ λ e. found_row (λ (r : ℕ × Mutex). r.1.depth < 2 ^ 61) ms id m few e
+    ] refl
+
+-- if all counters are, those of one take are
+pub early_for : (s : MutexState) (who id : ℕ) → IsEarly s → IsEarlyFor s who id
+early_for s who id early = record { sinces = early.sinces; ticks = early.ticks; safe = few_safe s.kern who early.safes; depth = few_deep s.mutexes id early.depths }
+
+pub deep_for : (s : MutexState) (who id : ℕ) (m : Mutex) → IsEarlyFor s who id → object_of s.mutexes id ≡ Some m → m.depth < 2 ^ 61
+deep_for s who id m early e = subst (λ o. IfSome o (λ v. v.depth < 2 ^ 61)) e early.depth
 
 -- ---- the mutex that is found
 pub record IsFound (ms : List (ℕ × Mutex)) (n id : ℕ) : Type 0 where
@@ -100,23 +118,8 @@ found ms n id e =
     elim (object_of ms n) as (λ o. Some id ≡ option_map (λ _. n) o → (id ≡ n) × IsSome o) [ None ↦ λ q. absurd (cc) | Some m ↦ λ q. (same_Some id n q, refl) ] e in
     record { same = p.0; there = p.1 }
 
--- the mutex that is found is the caller's
-pub record IsOwn (ms : List (ℕ × Mutex)) (n id caller : ℕ) : Type 0 where
-  pub mutex : Mutex
-  pub same : id ≡ n
-  pub here : object_of ms n ≡ Some mutex
-  pub own : mutex.owner ≡ Some caller
-
-pub is_own : (ms : List (ℕ × Mutex)) (n id owner caller : ℕ) → Some id ≡ live_mutex ms n → Some owner ≡ owner_in (object_of ms id) → not (eqb owner caller) ≡ false → IsOwn ms n id caller
-is_own ms n id owner caller e owned alike =
-    let f = found ms n id e in
-    let m = live_is (object_of ms n) f.there in
-    record {
-      mutex = m.0;
-      same = f.same;
-      here = m.1;
-      own = sym (ap owner_in m.1) ∙ subst (λ j. owner_in (object_of ms j) ≡ Some owner) f.same (sym owned) ∙ ap Some (eqb-true owner caller (not-false (eqb owner caller) alike));
-    }
+pub not_found : (ms : List (ℕ × Mutex)) (n : ℕ) → None ≡ live_mutex ms n → object_of ms n ≡ None
+not_found ms n e = elim (object_of ms n) as (λ o. None ≡ option_map (λ _. n) o → o ≡ None) [ None ↦ λ q. refl | Some m ↦ λ q. absurd (cc) ] e
 
 -- ---- take
 module _ (s : MutexState) (who id n : ℕ) (is : IsKern s.kern) (are : AreMutexes s.mutexes) (lives : Lives s.kern who) (kept : KeepsMutexes s) where
@@ -127,50 +130,90 @@ module _ (s : MutexState) (who id n : ℕ) (is : IsKern s.kern) (are : AreMutexe
     pub state : t ≡ take s who id n
     pub keeps : KeepsMutexes t
 
-  made : (t : MutexState) (how : Took) → take_refusal who n (object_of s.mutexes id) ≡ None → how ≡ took who (object_of s.mutexes id) → t ≡ take s who id n → Made t how
-  made t how fine how_is state = record { fine = fine; how_is = how_is; state = state; keeps = subst KeepsMutexes (sym state) (take_keeps s who id n is are.rising lives kept fine) }
+  made : (d : TakeDeed) (t : MutexState) → take_deed who n (object_of s.mutexes id) ≡ d → take_error d ≡ None → took_by d ≡ took who (object_of s.mutexes id) → t ≡ raised_at_once (after_take s who id n d) → Made t (took_by d)
+  made d t same fine how state =
+      let now : t ≡ take s who id n = state ∙ sym (ap (λ e. raised_at_once (after_take s who id n e)) same) in
+      record { fine = ap take_error same ∙ fine; how_is = how; state = now; keeps = subst KeepsMutexes (sym now) (take_keeps s who id n is are.rising lives kept) }
 
-  pub took_free : (t : MutexState) → IsSome (object_of s.mutexes id) → owner_in (object_of s.mutexes id) ≡ None → t ≡ handed s who id (object_of s.mutexes id) → Made t Taken
-  took_free t there free state =
-      let m = live_is (object_of s.mutexes id) there in
-      let none : m.0.owner ≡ None = sym (ap owner_in m.1) ∙ free in
-      let fine : take_refusal who n (Some m.0) ≡ None = ap (λ o. cond (is_others who o && eqb n 0) (Some errors.ObjUnavailable) None) none in
-      let how : Taken ≡ took who (Some m.0) = ap (λ o. cond (is_others who o) Pended Taken) (sym none) in
-      made t Taken (ap (take_refusal who n) m.1 ∙ fine) (how ∙ ap (took who) (sym m.1))
-      (state ∙ ap (handed s who id) m.1
-      ∙ sym (at_once_same (hand s who id m.0) (kern_hand s.kern who m.0 is) (hand_keeps s who id m.0 is are.rising lives m.1 none kept).urgent)
-      ∙ sym (ap (λ o. raised_at_once (take_alone s who id n o)) m.1 ∙ ap (λ o. raised_at_once (taken s who id n m.0 o)) none))
+  pub took_free : (at : ℕ) (t : MutexState) → takes.Taken at ≡ take_plan id (take_deed who n (object_of s.mutexes id)) → t ≡ handed s who at (object_of s.mutexes at) → Made t Taken
+  took_free at t =
+      elim (take_deed who n (object_of s.mutexes id)) as (λ d. take_deed who n (object_of s.mutexes id) ≡ d → TakeIs s.mutexes who id n d → takes.Taken at ≡ take_plan id d → t ≡ handed s who at (object_of s.mutexes at) → Made t Taken) [
+        | declined e ↦ λ same said plan state. absurd (cc)
+        | taken m ↦ λ same said plan state.
+            let own : at ≡ id = cc in
+            made (taken m) t same refl (sym (ap (took who) said.0 ∙ ap (λ w. took_by (take_from who 4294967295 m w)) said.1))
+            (state ∙ ap (λ j. handed s who j (object_of s.mutexes j)) own ∙ ap (handed s who id) said.0
+            ∙ sym (at_once_same (hand s who id m) (kern_hand s.kern who m is) (hand_keeps s who id m is are.rising lives said.0 said.1 kept).urgent))
+        | retaken m ↦ λ same said plan state. absurd (cc)
+        | starved m ↦ λ same said plan state. absurd (cc)
+      ] refl (take_is s.mutexes who id n)
 
-  pub took_again : (t : MutexState) → IsSome (object_of s.mutexes id) → owner_in (object_of s.mutexes id) ≡ Some who → t ≡ deepened s who id (object_of s.mutexes id) → Made t Taken
-  took_again t there own state =
-      let m = live_is (object_of s.mutexes id) there in
-      let mine : m.0.owner ≡ Some who = sym (ap owner_in m.1) ∙ own in
-      let yes = eq-eqb who who refl in
-      let fine : take_refusal who n (Some m.0) ≡ None = ap (λ o. cond (is_others who o && eqb n 0) (Some errors.ObjUnavailable) None) mine ∙ ap (λ b. cond (not b && eqb n 0) (Some errors.ObjUnavailable) None) yes in
-      let how : took who (Some m.0) ≡ Taken = ap (λ o. cond (is_others who o) Pended Taken) mine ∙ ap (λ b. cond (not b) Pended Taken) yes in
-      made t Taken (ap (take_refusal who n) m.1 ∙ fine) (sym (ap (took who) m.1 ∙ how))
-      (state ∙ ap (deepened s who id) m.1
-      ∙ sym (at_once_same (deepen s who id m.0) (kern_guarded s.kern who m.0 is) (deepen_keeps s who id m.0 are.rising m.1 kept).urgent)
-      ∙ sym (ap (λ o. raised_at_once (take_alone s who id n o)) m.1 ∙ ap (λ o. raised_at_once (taken s who id n m.0 o)) mine ∙ ap (λ b. raised_at_once (cond b (deepen s who id m.0) (await s who id n m.0))) yes))
+  pub took_again : (at : ℕ) (t : MutexState) → takes.Retaken at ≡ take_plan id (take_deed who n (object_of s.mutexes id)) → t ≡ deepened s who at (object_of s.mutexes at) → Made t Taken
+  took_again at t =
+      elim (take_deed who n (object_of s.mutexes id)) as (λ d. take_deed who n (object_of s.mutexes id) ≡ d → TakeIs s.mutexes who id n d → takes.Retaken at ≡ take_plan id d → t ≡ deepened s who at (object_of s.mutexes at) → Made t Taken) [
+        | declined e ↦ λ same said plan state. absurd (cc)
+        | taken m ↦ λ same said plan state. absurd (cc)
+        | retaken m ↦ λ same said plan state.
+            let own : at ≡ id = cc in
+            made (retaken m) t same refl
+            (sym (ap (took who) said.0 ∙ ap (λ w. took_by (take_from who 4294967295 m w)) said.1 ∙ ap (λ b. took_by (cond b (retaken m) (starved m))) (eq-eqb who who refl)))
+            (state ∙ ap (λ j. deepened s who j (object_of s.mutexes j)) own ∙ ap (deepened s who id) said.0
+            ∙ sym (at_once_same (deepen s who id m) (kern_guarded s.kern who m is) (deepen_keeps s who id m are.rising said.0 kept).urgent))
+        | starved m ↦ λ same said plan state. absurd (cc)
+      ] refl (take_is s.mutexes who id n)
 
-  pub pended_row : (x : ℕ) → owner_in (object_of s.mutexes id) ≡ Some x → (x ≡ who → ⊥) → (n ≡ 0 → ⊥) → IsSome (object_of s.mutexes id) → (t : MutexState) → t ≡ raised_at_once (awaited s who id n (object_of s.mutexes id)) → Made t Pended
-  pended_row x own other waits there t state =
-      let m = live_is (object_of s.mutexes id) there in
-      let theirs : m.0.owner ≡ Some x = sym (ap owner_in m.1) ∙ own in
-      let no = ne_eqb x who other in
-      let fine : take_refusal who n (Some m.0) ≡ None =
-      ap (λ o. cond (is_others who o && eqb n 0) (Some errors.ObjUnavailable) None) theirs ∙ ap (λ b. cond (not b && eqb n 0) (Some errors.ObjUnavailable) None) no ∙ ap (λ b. cond b (Some errors.ObjUnavailable) None) (ne_eqb n 0 waits) in
-      let how : took who (Some m.0) ≡ Pended = ap (λ o. cond (is_others who o) Pended Taken) theirs ∙ ap (λ b. cond (not b) Pended Taken) no in
-      made t Pended (ap (take_refusal who n) m.1 ∙ fine) (sym (ap (took who) m.1 ∙ how))
-      (state ∙ ap (λ o. raised_at_once (awaited s who id n o)) m.1
-      ∙ sym (ap (λ o. raised_at_once (take_alone s who id n o)) m.1 ∙ ap (λ o. raised_at_once (taken s who id n m.0 o)) theirs ∙ ap (λ b. raised_at_once (cond b (deepen s who id m.0) (await s who id n m.0))) no))
+  pub took_nothing : (at : ℕ) (t : MutexState) → takes.Starved at ≡ take_plan id (take_deed who n (object_of s.mutexes id)) → t ≡ raised_at_once (awaited s who at n (object_of s.mutexes at)) → Made t Pended
+  took_nothing at t =
+      elim (take_deed who n (object_of s.mutexes id)) as (λ d. take_deed who n (object_of s.mutexes id) ≡ d → TakeIs s.mutexes who id n d → takes.Starved at ≡ take_plan id d → t ≡ raised_at_once (awaited s who at n (object_of s.mutexes at)) → Made t Pended) [
+        | declined e ↦ λ same said plan state. absurd (cc)
+        | taken m ↦ λ same said plan state. absurd (cc)
+        | retaken m ↦ λ same said plan state. absurd (cc)
+        | starved m ↦ λ same said plan state.
+            let own : at ≡ id = cc in
+            made (starved m) t same refl
+            (sym (ap (took who) said.1 ∙ ap (λ w. took_by (take_from who 4294967295 m w)) said.2 ∙ ap (λ b. took_by (cond b (retaken m) (starved m))) (ne_eqb said.0 who said.3)))
+            (state ∙ ap (λ j. raised_at_once (awaited s who j n (object_of s.mutexes j))) own ∙ ap (λ o. raised_at_once (awaited s who id n o)) said.1)
+      ] refl (take_is s.mutexes who id n)
 
-  pub refused_take : (x : ℕ) → owner_in (object_of s.mutexes id) ≡ Some x → (x ≡ who → ⊥) → n ≡ 0 → IsSome (object_of s.mutexes id) → take_refusal who n (object_of s.mutexes id) ≡ Some errors.ObjUnavailable
-  refused_take x own other waits there =
-      let m = live_is (object_of s.mutexes id) there in
-      let theirs : m.0.owner ≡ Some x = sym (ap owner_in m.1) ∙ own in
-      ap (take_refusal who n) m.1
-      ∙ ap (λ o. cond (is_others who o && eqb n 0) (Some errors.ObjUnavailable) None) theirs ∙ ap (λ b. cond (not b && eqb n 0) (Some errors.ObjUnavailable) None) (ne_eqb x who other) ∙ ap (λ b. cond b (Some errors.ObjUnavailable) None) (eq-eqb n 0 waits)
+-- the mutex that a plan names
+abbrev pub place_of : TakePlan → Option ℕ
+place_of (takes.Declined e) = None
+place_of (takes.Taken at) = Some at
+place_of (takes.Retaken at) = Some at
+place_of (takes.Starved at) = Some at
+
+-- is live
+pub taken_there : (ms : List (ℕ × Mutex)) (who id n at : ℕ) (p : TakePlan) → p ≡ take_plan id (take_deed who n (object_of ms id)) → place_of p ≡ Some at → IsSome (object_of ms at)
+taken_there ms who id n at p plan here =
+    elim (take_deed who n (object_of ms id)) as (λ d. TakeIs ms who id n d → p ≡ take_plan id d → IsSome (object_of ms at)) [
+      | declined e ↦ λ said q. let none : None ≡ Some at = sym (ap place_of q) ∙ here in absurd (cc)
+      | taken m ↦ λ said q. there said.0 (same_Some id at (sym (ap place_of q) ∙ here))
+      | retaken m ↦ λ said q. there said.0 (same_Some id at (sym (ap place_of q) ∙ here))
+      | starved m ↦ λ said q. there said.1 (same_Some id at (sym (ap place_of q) ∙ here))
+    ] (take_is ms who id n) plan
+  where
+    there : {m : Mutex} → object_of ms id ≡ Some m → id ≡ at → IsSome (object_of ms at)
+    there e same = subst (λ j. IsSome (object_of ms j)) same (subst (λ o. IsSome o) (sym e) refl)
+
+-- and is the mutex that was named
+pub taken_at : (ms : List (ℕ × Mutex)) (who id n at : ℕ) (p : TakePlan) → p ≡ take_plan id (take_deed who n (object_of ms id)) → place_of p ≡ Some at → id ≡ at
+taken_at ms who id n at p plan here =
+    elim (take_deed who n (object_of ms id)) as (λ d. p ≡ take_plan id d → id ≡ at) [
+      | declined e ↦ λ q. let none : None ≡ Some at = sym (ap place_of q) ∙ here in absurd (cc)
+      | taken m ↦ λ q. same_Some id at (sym (ap place_of q) ∙ here)
+      | retaken m ↦ λ q. same_Some id at (sym (ap place_of q) ∙ here)
+      | starved m ↦ λ q. same_Some id at (sym (ap place_of q) ∙ here)
+    ] plan
+
+-- a take that waits takes time
+pub waits_some : (ms : List (ℕ × Mutex)) (who id n at : ℕ) → takes.Starved at ≡ take_plan id (take_deed who n (object_of ms id)) → 0 < n
+waits_some ms who id n at plan =
+    elim (take_deed who n (object_of ms id)) as (λ d. TakeIs ms who id n d → takes.Starved at ≡ take_plan id d → 0 < n) [
+      | declined e ↦ λ said q. absurd (cc)
+      | taken m ↦ λ said q. absurd (cc)
+      | retaken m ↦ λ said q. absurd (cc)
+      | starved m ↦ λ said q. said.4
+    ] (take_is ms who id n) plan
 
 -- ---- owners inherit
 -- what the walk from owner to owner requires
@@ -316,20 +359,32 @@ let_go_after p k j who m e lives = subst (λ r. AfterLettingGo k r who) (sym e) 
 
 -- the owner's last give; the profile by which it gives up its ownership is that of the state before
 pub given_is : (s t : MutexState) (who id : ℕ) (m v w : Mutex) (j n : KernState) → object_of s.mutexes id ≡ Some m → t ≡ passed_on s id (object_of s.mutexes id) → t.profile ≡ s.profile → v.inversion_safe ≡ m.inversion_safe → w.delete_safe ≡ m.delete_safe
-    → j ≡ letting_go t.profile t.kern who v → n ≡ eased j who w 1 → m.depth ≤ 1 → record t { kern = n } ≡ give_alone s who id (object_of s.mutexes id)
-given_is s t who id m v w j n e state rule lends guards goes eases last =
+    → j ≡ letting_go t.profile t.kern who v → n ≡ eased j who w 1 → record t { kern = n } ≡ given_last s who id (object_of s.mutexes id)
+given_is s t who id m v w j n e state rule lends guards goes eases =
     let o : Option Task = first_waiter s.kern.tasks (mutex_place id) in
     let now : t ≡ pass_on s id m o = state ∙ ap (passed_on s id) e in
     ap (λ r. record t { kern = r }) (eases ∙ ap (λ b. cond b (lessen j who 1) j) guards
     ∙ ap (λ r. eased r who m 1) (goes ∙ ap (λ p. letting_go p t.kern who v) rule ∙ ap (λ b. cond b (dropped s.profile t.kern who) t.kern) lends))
     ∙ ap (λ (r : MutexState). record r { kern = eased (letting_go s.profile r.kern who m) who m 1 }) now
-    ∙ sym (ap (give_alone s who id) e ∙ ap (λ b. cond b (shallow s who id m) (give_up s who id m)) (le-ltb 1 m.depth last))
+    ∙ sym (ap (given_last s who id) e)
 
 -- ---- give
--- after a give of one of several takes
-pub gives_once : (s : MutexState) (who id n : ℕ) (o : Option Mutex) → IsSome o → ((m : Mutex) → o ≡ Some m → n ≡ m.depth) → 1 < n → given_once s who id o ≡ give_alone s who id o
-gives_once s who id n None there deep more = absurd (cc)
-gives_once s who id n (Some m) there deep more = sym (ap (λ b. cond b (shallow s who id m) (give_up s who id m)) (lt-ltb 1 m.depth (omega (arith, deep m refl))))
+-- the mutex that a plan names is live
+abbrev pub given_at : GivePlan → Option ℕ
+given_at (gives.Denied e) = None
+given_at (gives.Lowered at) = Some at
+given_at (gives.GivenUp at) = Some at
+
+pub given_there : (ms : List (ℕ × Mutex)) (who id at : ℕ) (p : GivePlan) → p ≡ give_plan id (give_deed who (object_of ms id)) → given_at p ≡ Some at → IsSome (object_of ms at)
+given_there ms who id at p plan here =
+    elim (give_deed who (object_of ms id)) as (λ d. GiveIs ms who id d → p ≡ give_plan id d → IsSome (object_of ms at)) [
+      | denied e ↦ λ said q. let none : None ≡ Some at = sym (ap given_at q) ∙ here in absurd (cc)
+      | lowered m ↦ λ said q. there said.0 (same_Some id at (sym (ap given_at q) ∙ here))
+      | given_up m ↦ λ said q. there said.0 (same_Some id at (sym (ap given_at q) ∙ here))
+    ] (give_is ms who id) plan
+  where
+    there : {m : Mutex} → object_of ms id ≡ Some m → id ≡ at → IsSome (object_of ms at)
+    there e same = subst (λ j. IsSome (object_of ms j)) same (subst (λ o. IsSome o) (sym e) refl)
 
 module _ (s : MutexState) (who id : ℕ) (is : IsKern s.kern) (are : AreMutexes s.mutexes) (lives : Lives s.kern who) (kept : KeepsMutexes s) where
   -- what the contract says about a give that was made
@@ -338,12 +393,31 @@ module _ (s : MutexState) (who id : ℕ) (is : IsKern s.kern) (are : AreMutexes 
     pub state : t ≡ give s who id
     pub keeps : KeepsMutexes t
 
-  pub gave : (t : MutexState) (m : Mutex) → object_of s.mutexes id ≡ Some m → m.owner ≡ Some who → t ≡ give_alone s who id (object_of s.mutexes id) → Given t
-  gave t m e own row =
-      let fine : give_refusal who (object_of s.mutexes id) ≡ None = ap (give_refusal who) e ∙ ap (λ o. cond (is_id who o) None (Some errors.InvalidOperation)) own ∙ ap (λ b. cond b None (Some errors.InvalidOperation)) (eq-eqb who who refl) in
-      let all = give_same s who id is are.rising lives kept fine in
-      let state : t ≡ give s who id = row ∙ sym all.0 in
-      record { fine = fine; state = state; keeps = subst KeepsMutexes (sym state) all.1 }
+  given : (d : GiveDeed) (t : MutexState) → give_deed who (object_of s.mutexes id) ≡ d → give_error d ≡ None → t ≡ after_give s who id d → Given t
+  given d t same fine state =
+      let all = give_same s who id is are.rising lives kept in
+      let now : t ≡ give s who id = state ∙ sym (ap (after_give s who id) same) ∙ sym all.0 in
+      record { fine = ap give_error same ∙ fine; state = now; keeps = subst KeepsMutexes (sym now) all.1 }
+
+  pub gave_once : (at : ℕ) (t : MutexState) → gives.Lowered at ≡ give_plan id (give_deed who (object_of s.mutexes id)) → t ≡ given_once s who at (object_of s.mutexes at) → Given t
+  gave_once at t =
+      elim (give_deed who (object_of s.mutexes id)) as (λ d. give_deed who (object_of s.mutexes id) ≡ d → GiveIs s.mutexes who id d → gives.Lowered at ≡ give_plan id d → t ≡ given_once s who at (object_of s.mutexes at) → Given t) [
+        | denied e ↦ λ same said plan state. absurd (cc)
+        | lowered m ↦ λ same said plan state.
+            let own : at ≡ id = cc in
+            given (lowered m) t same refl (state ∙ ap (λ j. given_once s who j (object_of s.mutexes j)) own ∙ ap (given_once s who id) said.0)
+        | given_up m ↦ λ same said plan state. absurd (cc)
+      ] refl (give_is s.mutexes who id)
+
+  pub gave_up : (at : ℕ) (t : MutexState) → gives.GivenUp at ≡ give_plan id (give_deed who (object_of s.mutexes id)) → t ≡ given_last s who at (object_of s.mutexes at) → Given t
+  gave_up at t =
+      elim (give_deed who (object_of s.mutexes id)) as (λ d. give_deed who (object_of s.mutexes id) ≡ d → GiveIs s.mutexes who id d → gives.GivenUp at ≡ give_plan id d → t ≡ given_last s who at (object_of s.mutexes at) → Given t) [
+        | denied e ↦ λ same said plan state. absurd (cc)
+        | lowered m ↦ λ same said plan state. absurd (cc)
+        | given_up m ↦ λ same said plan state.
+            let own : at ≡ id = cc in
+            given (given_up m) t same refl (state ∙ ap (λ j. given_last s who j (object_of s.mutexes j)) own ∙ ap (given_last s who id) said.0)
+      ] refl (give_is s.mutexes who id)
 
 -- ---- delete
 since_waits : (k : KernState) (ts : List Task) (a : ℕ) (e : Option Errno) → (end_waits k ts a e).next_since ≤ k.next_since + length ts

@@ -1,6 +1,5 @@
 -- Take and give keep the invariant, and raising at once changes nothing if no task begins to wait.
-use Rattle.std.proofs.Common.{◌≡◌, ℕ, ◌+◌, ◌-◌, ◌<◌, true, false, cond, not, ◌&&◌, eqb, ltb, leb, Option, None, Some, IsSome, refl, sym, ap, subst, arith}
-use Rattle.std.proofs.lemmas.Bool.{eqb-true, eqb-false, ltb-true}
+use Rattle.std.proofs.Common.{◌≡◌, ℕ, ◌+◌, ◌-◌, true, false, cond, not, ◌&&◌, eqb, ltb, leb, Option, None, Some, IsSome, refl, sym, subst}
 use Rattle.id_table.specs.Rows.{object_of, row_id}
 use Rattle.wind_base.specs.declared.profile.Profile.{Profile}
 use Rattle.wind_base.specs.declared.profile.Profile.TheVariants.{One, Two}
@@ -14,13 +13,13 @@ use Rattle.wind_core.specs.declared.changes.Change.TheVariants as changes
 use Rattle.wind_core.proofs.Moving.{move_keeps}
 use Rattle.task_safety.specs.Safety.{deletion, safe_of, make_safe, lessen}
 use Rattle.inheritance.specs.declared.mutex.Mutex.{Mutex}
-use Rattle.wind_base.specs.declared.errno.Errno.TheVariants as errors
-use Rattle.inheritance.specs.Mutexes.{MutexState, is_id, held_count, mutex_place}
-use Rattle.sem_mutex.specs.Calls.{held_of, guarded, eased, restored, less_held, dropped, letting_go, deepen, await, taken, take_alone, take, is_others, take_refusal, pass_on, give_up, shallow, give_alone, give, give_refusal}
+use Rattle.inheritance.specs.Mutexes.{MutexState, held_count, mutex_place}
+use Rattle.sem_mutex.specs.Calls.{held_of, guarded, eased, restored, less_held, dropped, letting_go, declined, taken, retaken, starved, take_deed, after_take, take, pass_on, denied, lowered, given_up, give_deed, after_give, give}
 use Rattle.sem_mutex.specs.Kept.{Holds, KeepsMutexes}
 use Rattle.sem_mutex.proofs.AtOnce.{at_once_keeps, at_once_same}
 use Rattle.sem_mutex.proofs.Handing.{hand_keeps, deepen_keeps, shallow_keeps, await_holds}
 use Rattle.sem_mutex.proofs.Giving.{kern_hand, passed, give_up_keeps}
+use Rattle.sem_mutex.proofs.Deeds.{TakeIs, take_is, GiveIs, give_is}
 use Rattle.id_table.specs.Records.{Rising}
 
 -- ---- the kernel's invariant
@@ -54,61 +53,41 @@ pub record IsTaken (s t : MutexState) : Type 0 where
   pub kern : IsKern t.kern
   pub holds : Holds t.profile (held_count t.mutexes) t.mutexes t.kern
 
-take_alone_keeps : (s : MutexState) (who id n : ℕ) → IsKern s.kern → Rising row_id s.mutexes → Lives s.kern who → KeepsMutexes s → (take_refusal who n (object_of s.mutexes id) ≡ None) → IsTaken s (take_alone s who id n (object_of s.mutexes id))
-take_alone_keeps s who id n is up lives kept fine =
-    elim (object_of s.mutexes id) as (λ o. object_of s.mutexes id ≡ o → take_refusal who n o ≡ None → IsTaken s (take_alone s who id n o)) [
-      | None ↦ λ e f. record { kern = is; holds = kept.holds }
-      | Some m ↦ λ e f.
-          elim m.owner as (λ w. m.owner ≡ w → cond (is_others who w && eqb n 0) (Some errors.ObjUnavailable) None ≡ None → IsTaken s (taken s who id n m w)) [
-            | None ↦ λ w g. record { kern = kern_hand s.kern who m is; holds = (hand_keeps s who id m is up lives e w kept).holds }
-            | Some x ↦ λ w.
-                elim (eqb x who) as (λ b. cond (not b && eqb n 0) (Some errors.ObjUnavailable) None ≡ None → IsTaken s (cond b (deepen s who id m) (await s who id n m))) [
-                  | true ↦ λ g. record { kern = kern_guarded s.kern who m is; holds = (deepen_keeps s who id m up e kept).holds }
-                  | false ↦ λ g. record {
-                    kern = move_keeps s.kern (Pend who (mutex_place id) (not m.by_priority) n) is (above n g);
-                    holds = await_holds s who id n m e (subst (λ o. IsSome o) (sym w) refl) kept;
-                  }
-                ]
-          ] refl f
-    ] refl fine
-  where
-    above : (i : ℕ) → cond (eqb i 0) (Some errors.ObjUnavailable) None ≡ None → 0 < i
-    above i g = elim (eqb i 0) as (λ b. eqb i 0 ≡ b → cond b (Some errors.ObjUnavailable) None ≡ None → 0 < i) [ true ↦ λ b q. absurd (cc) | false ↦ λ b q. let ne = eqb-false i 0 b in omega arith ] refl g
+after_take_keeps : (s : MutexState) (who id n : ℕ) → IsKern s.kern → Rising row_id s.mutexes → Lives s.kern who → KeepsMutexes s → IsTaken s (after_take s who id n (take_deed who n (object_of s.mutexes id)))
+after_take_keeps s who id n is up lives kept =
+    elim (take_deed who n (object_of s.mutexes id)) as (λ d. TakeIs s.mutexes who id n d → IsTaken s (after_take s who id n d)) [
+      | declined e ↦ λ said. record { kern = is; holds = kept.holds }
+      | taken m ↦ λ said. record { kern = kern_hand s.kern who m is; holds = (hand_keeps s who id m is up lives said.0 said.1 kept).holds }
+      | retaken m ↦ λ said. record { kern = kern_guarded s.kern who m is; holds = (deepen_keeps s who id m up said.0 kept).holds }
+      | starved m ↦ λ said. record {
+        kern = move_keeps s.kern (Pend who (mutex_place id) (not m.by_priority) n) is said.4;
+        holds = await_holds s who id n m said.1 (subst (λ o. IsSome o) (sym said.2) refl) kept;
+      }
+    ] (take_is s.mutexes who id n)
 
--- a take that isn't refused keeps the mutexes' invariant
-pub take_keeps : (s : MutexState) (who id n : ℕ) → IsKern s.kern → Rising row_id s.mutexes → Lives s.kern who → KeepsMutexes s → take_refusal who n (object_of s.mutexes id) ≡ None → KeepsMutexes (take s who id n)
-take_keeps s who id n is up lives kept fine =
-    let row = take_alone_keeps s who id n is up lives kept fine in
-    let t : MutexState = take_alone s who id n (object_of s.mutexes id) in
+-- a take keeps the mutexes' invariant
+pub take_keeps : (s : MutexState) (who id n : ℕ) → IsKern s.kern → Rising row_id s.mutexes → Lives s.kern who → KeepsMutexes s → KeepsMutexes (take s who id n)
+take_keeps s who id n is up lives kept =
+    let row = after_take_keeps s who id n is up lives kept in
+    let t : MutexState = after_take s who id n (take_deed who n (object_of s.mutexes id)) in
     at_once_keeps t.profile t.kern t.mutexes row.kern row.holds
 
 -- ---- give
-give_alone_keeps : (s : MutexState) (who id : ℕ) → IsKern s.kern → Rising row_id s.mutexes → Lives s.kern who → KeepsMutexes s → give_refusal who (object_of s.mutexes id) ≡ None
-    → IsKern (give_alone s who id (object_of s.mutexes id)).kern × KeepsMutexes (give_alone s who id (object_of s.mutexes id))
-give_alone_keeps s who id is up lives kept fine =
-    elim (object_of s.mutexes id) as (λ o. object_of s.mutexes id ≡ o → give_refusal who o ≡ None → IsKern (give_alone s who id o).kern × KeepsMutexes (give_alone s who id o)) [
-      | None ↦ λ e f. (is, kept)
-      | Some m ↦ λ e f.
-          let own = owner m f in
-          elim (ltb 1 m.depth) as (λ b. ltb 1 m.depth ≡ b → IsKern (cond b (shallow s who id m) (give_up s who id m)).kern × KeepsMutexes (cond b (shallow s who id m) (give_up s who id m))) [
-            | true ↦ λ b. (kern_eased s.kern who m 1 is, shallow_keeps s who id m up e (ltb-true 1 m.depth b) kept)
-            | false ↦ λ b.
-                let t : MutexState = pass_on s id m (first_waiter s.kern.tasks (mutex_place id)) in
-                (kern_eased (letting_go s.profile t.kern who m) who m 1 (kern_letting_go s.profile t.kern who m (passed s id m is e kept).kern), give_up_keeps s who id m is up lives e own kept)
-          ] refl
-    ] refl fine
-  where
-    owner_is : (o : Option ℕ) → cond (is_id who o) None (Some errors.InvalidOperation) ≡ None → o ≡ Some who
-    owner_is None q = absurd (cc)
-    owner_is (Some x) q = elim (eqb x who) as (λ b. eqb x who ≡ b → cond b None (Some errors.InvalidOperation) ≡ None → Some x ≡ Some who) [ true ↦ λ b r. ap Some (eqb-true x who b) | false ↦ λ b r. absurd (cc) ] refl q
+after_give_keeps : (s : MutexState) (who id : ℕ) → IsKern s.kern → Rising row_id s.mutexes → Lives s.kern who → KeepsMutexes s
+    → IsKern (after_give s who id (give_deed who (object_of s.mutexes id))).kern × KeepsMutexes (after_give s who id (give_deed who (object_of s.mutexes id)))
+after_give_keeps s who id is up lives kept =
+    elim (give_deed who (object_of s.mutexes id)) as (λ d. GiveIs s.mutexes who id d → IsKern (after_give s who id d).kern × KeepsMutexes (after_give s who id d)) [
+      | denied e ↦ λ said. (is, kept)
+      | lowered m ↦ λ said. (kern_eased s.kern who m 1 is, shallow_keeps s who id m up said.0 said.2 kept)
+      | given_up m ↦ λ said.
+          let t : MutexState = pass_on s id m (first_waiter s.kern.tasks (mutex_place id)) in
+          (kern_eased (letting_go s.profile t.kern who m) who m 1 (kern_letting_go s.profile t.kern who m (passed s id m is said.0 kept).kern), give_up_keeps s who id m is up lives said.0 said.1 kept)
+    ] (give_is s.mutexes who id)
 
-    owner : (m : Mutex) → give_refusal who (Some m) ≡ None → m.owner ≡ Some who
-    owner m q = owner_is m.owner q
-
--- a give that isn't refused keeps the mutexes' invariant, and no task needs to be raised
-pub give_same : (s : MutexState) (who id : ℕ) → IsKern s.kern → Rising row_id s.mutexes → Lives s.kern who → KeepsMutexes s → give_refusal who (object_of s.mutexes id) ≡ None
-    → (give s who id ≡ give_alone s who id (object_of s.mutexes id)) × KeepsMutexes (give s who id)
-give_same s who id is up lives kept fine =
-    let row = give_alone_keeps s who id is up lives kept fine in
-    let same = at_once_same (give_alone s who id (object_of s.mutexes id)) row.0 row.1.urgent in
+-- a give keeps the mutexes' invariant, and no task needs to be raised
+pub give_same : (s : MutexState) (who id : ℕ) → IsKern s.kern → Rising row_id s.mutexes → Lives s.kern who → KeepsMutexes s
+    → (give s who id ≡ after_give s who id (give_deed who (object_of s.mutexes id))) × KeepsMutexes (give s who id)
+give_same s who id is up lives kept =
+    let row = after_give_keeps s who id is up lives kept in
+    let same = at_once_same (after_give s who id (give_deed who (object_of s.mutexes id))) row.0 row.1.urgent in
     (same, subst KeepsMutexes (sym same) row.1)

@@ -87,8 +87,8 @@ deleting s is up kept id fine =
 
 pub calls_law : CallsLaw
 calls_law s is are kept = record {
-  taking = λ who id n lives fine. take_keeps s who id n is are.rising lives kept fine;
-  giving = λ who id lives fine. (give_same s who id is are.rising lives kept fine).1;
+  taking = λ who id n lives fine. take_keeps s who id n is are.rising lives kept;
+  giving = λ who id lives fine. (give_same s who id is are.rising lives kept).1;
   deleting = λ id fine. deleting s is are.rising kept id fine;
   setting_priority = λ who pri. priority_keeps s who pri is kept;
   creating = λ options urgency. create_keeps s options urgency kept;

@@ -20,7 +20,7 @@ use Rattle.task_safety.specs.Safety.{deletion, safe_of, make_safe, lessen}
 use Rattle.inheritance.specs.declared.mutex.Mutex.{Mutex}
 use Rattle.inheritance.specs.Mutexes.{MutexState, mutex_place}
 use Rattle.inheritance.specs.Reach.{lifted, repried}
-use Rattle.sem_mutex.specs.Calls.{at_once, raised_at_once, held_of, holding, guarded, eased, restored, less_held, dropped, letting_go, hand, deepen, await, taken, take_alone, take, pass_on, give_up, shallow, give_alone, give, ended, owner_ended, delete_alone, delete}
+use Rattle.sem_mutex.specs.Calls.{at_once, raised_at_once, held_of, holding, guarded, eased, restored, less_held, dropped, letting_go, hand, take, pass_on, give, ended, owner_ended, delete_alone, delete, TakeDeed, declined, taken, retaken, starved, take_deed, after_take, GiveDeed, denied, lowered, given_up, give_deed, after_give}
 
 module _ (P : Task → Type 0) (renews : (since : ℕ) (t : Task) → P t → P (renewed since t)) (helds : (n : ℕ) (t : Task) → P t → P (record t { held = n })) (safes : (n : ℕ) (t : Task) → P t → P (record t { safe = n }))
     (pris : (p : ℕ) (t : Task) → P t → P (with_pri p t)) (goes : (t : Task) → P t → P (released t)) (answers : (a : ℕ) (e : Option Errno) (t : Task) → P t → P (answered a e t)) where
@@ -78,16 +78,14 @@ module _ (P : Task → Type 0) (renews : (since : ℕ) (t : Task) → P t → P 
   pass_on-steady s id m (Some x) all = move_task-stable P renews (hand s x.id id m).kern x.id (answered 0 None) (answers 0 None) (hand-steady s x.id id m all)
 
   pub give-steady : (s : MutexState) (who id : ℕ) → All P s.kern.tasks → All P (give s who id).kern.tasks
-  give-steady s who id all = raised-steady (give_alone s who id (object_of s.mutexes id)) (row (object_of s.mutexes id))
+  give-steady s who id all = raised-steady (after_give s who id (give_deed who (object_of s.mutexes id))) (row (give_deed who (object_of s.mutexes id)))
     where
-      row : (o : Option Mutex) → All P (give_alone s who id o).kern.tasks
-      row None = all
-      row (Some m) =
+      row : (d : GiveDeed) → All P (after_give s who id d).kern.tasks
+      row (denied e) = all
+      row (lowered m) = eased-steady s.kern who m 1 all
+      row (given_up m) =
           let t : MutexState = pass_on s id m (first_waiter s.kern.tasks (mutex_place id)) in
-          elim (ltb 1 m.depth) as (λ b. All P (cond b (shallow s who id m) (give_up s who id m)).kern.tasks) [
-            | true ↦ eased-steady s.kern who m 1 all
-            | false ↦ eased-steady (letting_go s.profile t.kern who m) who m 1 (letting_go-steady s.profile t.kern who m (pass_on-steady s id m (first_waiter s.kern.tasks (mutex_place id)) all))
-          ]
+          eased-steady (letting_go s.profile t.kern who m) who m 1 (letting_go-steady s.profile t.kern who m (pass_on-steady s id m (first_waiter s.kern.tasks (mutex_place id)) all))
 
   pub owner_ended-steady : (p : Profile) (k : KernState) (m : Mutex) (o : Option ℕ) → All P k.tasks → All P (owner_ended p k m o).tasks
   owner_ended-steady p k m None all = all
@@ -98,19 +96,13 @@ module _ (P : Task → Type 0) (renews : (since : ℕ) (t : Task) → P t → P 
       each (Some t) = eased-steady (letting_go p k o m) o m m.depth (letting_go-steady p k o m all)
 
   pub take-steady : (s : MutexState) (who id n : ℕ) → ((fifo : Bool) (wake : Option ℕ) (t : Task) → P t → P (pended (mutex_place id) fifo wake t)) → All P s.kern.tasks → All P (take s who id n).kern.tasks
-  take-steady s who id n pends all = raised-steady (take_alone s who id n (object_of s.mutexes id)) (row (object_of s.mutexes id))
+  take-steady s who id n pends all = raised-steady (after_take s who id n (take_deed who n (object_of s.mutexes id))) (row (take_deed who n (object_of s.mutexes id)))
     where
-      owner : (m : Mutex) (o : Option ℕ) → All P (taken s who id n m o).kern.tasks
-      owner m None = hand-steady s who id m all
-      owner m (Some x) =
-          elim (eqb x who) as (λ b. All P (cond b (deepen s who id m) (await s who id n m)).kern.tasks) [
-            | true ↦ guarded-steady s.kern who m all
-            | false ↦ renew_task-stable P renews s.kern who (pended (mutex_place id) (not m.by_priority) (wake_at 0 s.kern.tick n)) (pends (not m.by_priority) (wake_at 0 s.kern.tick n)) all
-          ]
-
-      row : (o : Option Mutex) → All P (take_alone s who id n o).kern.tasks
-      row None = all
-      row (Some m) = owner m m.owner
+      row : (d : TakeDeed) → All P (after_take s who id n d).kern.tasks
+      row (declined e) = all
+      row (taken m) = hand-steady s who id m all
+      row (retaken m) = guarded-steady s.kern who m all
+      row (starved m) = renew_task-stable P renews s.kern who (pended (mutex_place id) (not m.by_priority) (wake_at 0 s.kern.tick n)) (pends (not m.by_priority) (wake_at 0 s.kern.tick n)) all
 
 -- ---- no task waits for a mutex that was deleted
 abbrev pub IsAway : ℕ → Task → Type 0

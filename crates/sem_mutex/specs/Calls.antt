@@ -1,7 +1,7 @@
 -- What the calls on a mutex do to the tasks and mutexes (Reference Manual, semMLib).
-use Rattle.std.specs.Prelude.{ℕ, ◌+◌, ◌-◌, Bool, false, not, ◌==◌, ◌&&◌, nat_lt, min, if◌then◌else◌, List, Option, None, Some}
+use Rattle.std.specs.Prelude.{ℕ, ◌+◌, ◌-◌, not, ◌==◌, nat_lt, min, if◌then◌else◌, List, Option, None, Some}
 use Rattle.std.specs.Option.{option_map}
-use Rattle.wind_base.specs.Limits.{error_word, ok_word, no_wait}
+use Rattle.wind_base.specs.Limits.{error_word, ok_word, no_wait, wait_forever}
 use Rattle.wind_base.specs.declared.profile.Profile.{Profile}
 use Rattle.wind_base.specs.declared.profile.Profile.TheVariants.{One, Two}
 use Rattle.id_table.specs.Rows.{object_of, with_object, without}
@@ -15,7 +15,7 @@ use Rattle.task_safety.specs.Safety.{make_safe, lessen}
 use Rattle.inheritance.specs.declared.mutex.Mutex.{Mutex}
 use Rattle.wind_core.specs.declared.took.Took.{Took}
 use Rattle.wind_core.specs.declared.took.Took.TheVariants.{Taken, Pended}
-use Rattle.inheritance.specs.Mutexes.{MutexState, is_id, mutex_place, owner_in}
+use Rattle.inheritance.specs.Mutexes.{MutexState, is_id, mutex_place}
 use Rattle.inheritance.specs.Reach.{raised_kern}
 
 -- the number as an id, if a mutex with this id is live
@@ -105,33 +105,62 @@ abbrev pub awaited : MutexState → ℕ → ℕ → ℕ → Option Mutex → Mut
 awaited s who id n None = s
 awaited s who id n (Some m) = await s who id n m
 
--- what a take does, given the mutex's owner
-abbrev pub taken : MutexState → ℕ → ℕ → ℕ → Mutex → Option ℕ → MutexState
-taken s who id n m None = hand s who id m
-taken s who id n m (Some o) = if o == who then deepen s who id m else await s who id n m
+-- what a take does
+pub data TakeDeed : Type 0 where
+  -- it is refused
+  declined : Errno → TakeDeed
+  -- the task becomes the owner
+  taken : Mutex → TakeDeed
+  -- the owner takes it once more
+  retaken : Mutex → TakeDeed
+  -- the task waits for the mutex
+  starved : Mutex → TakeDeed
 
--- a take, before owners inherit
-abbrev pub take_alone : MutexState → ℕ → ℕ → ℕ → Option Mutex → MutexState
-take_alone s who id n None = s
-take_alone s who id n (Some m) = taken s who id n m m.owner
+-- what a take of a live mutex with this timeout does, given its owner, live or ended
+abbrev pub take_from : ℕ → ℕ → Mutex → Option ℕ → TakeDeed
+take_from who n m None = taken m
+take_from who n m (Some o) =
+    if o == who then retaken m
+    else if n == no_wait then declined errors.ObjUnavailable
+    else starved m
 
--- the mutex is owned by another task, live or ended
-abbrev pub is_others : ℕ → Option ℕ → Bool
-is_others who None = false
-is_others who (Some o) = not (o == who)
+-- what a take with this timeout does, given the live mutex
+abbrev pub take_deed : ℕ → ℕ → Option Mutex → TakeDeed
+take_deed who n None = declined errors.ObjIdError
+take_deed who n (Some m) = take_from who n m m.owner
+
+-- the error of a take that is refused
+abbrev pub take_error : TakeDeed → Option Errno
+take_error (declined e) = Some e
+take_error (taken m) = None
+take_error (retaken m) = None
+take_error (starved m) = None
 
 -- why a take with this timeout is refused
 abbrev pub take_refusal : ℕ → ℕ → Option Mutex → Option Errno
-take_refusal who n None = Some errors.ObjIdError
-take_refusal who n (Some m) = if is_others who m.owner && n == no_wait then Some errors.ObjUnavailable else None
+take_refusal who n o = take_error (take_deed who n o)
 
--- whether a take gets the mutex or waits
+-- whether the caller waits; otherwise it gets the mutex, unless it is refused
+abbrev pub took_by : TakeDeed → Took
+took_by (declined e) = Taken
+took_by (taken m) = Taken
+took_by (retaken m) = Taken
+took_by (starved m) = Pended
+
+-- whether a take that may wait gets the mutex or waits
 abbrev pub took : ℕ → Option Mutex → Took
-took who o = if is_others who (owner_in o) then Pended else Taken
+took who o = took_by (take_deed who wait_forever o)
 
--- the state after a take that isn't refused
+-- the state after what a take does, before owners inherit
+abbrev pub after_take : MutexState → ℕ → ℕ → ℕ → TakeDeed → MutexState
+after_take s who id n (declined e) = s
+after_take s who id n (taken m) = hand s who id m
+after_take s who id n (retaken m) = deepen s who id m
+after_take s who id n (starved m) = await s who id n m
+
+-- the state after a take
 abbrev pub take : MutexState → ℕ → ℕ → ℕ → MutexState
-take s who id n = raised_at_once (take_alone s who id n (object_of s.mutexes id))
+take s who id n = raised_at_once (after_take s who id n (take_deed who n (object_of s.mutexes id)))
 
 -- ---- give
 -- the mutex without an owner
@@ -166,19 +195,46 @@ abbrev pub given_once : MutexState → ℕ → ℕ → Option Mutex → MutexSta
 given_once s who id None = s
 given_once s who id (Some m) = shallow s who id m
 
--- a give, before owners inherit
-abbrev pub give_alone : MutexState → ℕ → ℕ → Option Mutex → MutexState
-give_alone s who id None = s
-give_alone s who id (Some m) = if nat_lt 1 m.depth then shallow s who id m else give_up s who id m
+-- the owner's last give, if the mutex is live
+abbrev pub given_last : MutexState → ℕ → ℕ → Option Mutex → MutexState
+given_last s who id None = s
+given_last s who id (Some m) = give_up s who id m
+
+-- what a give does
+pub data GiveDeed : Type 0 where
+  -- it is refused
+  denied : Errno → GiveDeed
+  -- the owner still owns it
+  lowered : Mutex → GiveDeed
+  -- it is the owner's last give
+  given_up : Mutex → GiveDeed
+
+-- what a give by this task does, given the live mutex: only the owner may give it
+abbrev pub give_deed : ℕ → Option Mutex → GiveDeed
+give_deed who None = denied errors.ObjIdError
+give_deed who (Some m) =
+    if is_id who m.owner then (if nat_lt 1 m.depth then lowered m else given_up m)
+    else denied errors.InvalidOperation
+
+-- the error of a give that is refused
+abbrev pub give_error : GiveDeed → Option Errno
+give_error (denied e) = Some e
+give_error (lowered m) = None
+give_error (given_up m) = None
 
 -- why a give is refused
 abbrev pub give_refusal : ℕ → Option Mutex → Option Errno
-give_refusal who None = Some errors.ObjIdError
-give_refusal who (Some m) = if is_id who m.owner then None else Some errors.InvalidOperation
+give_refusal who o = give_error (give_deed who o)
 
--- the state after a give that isn't refused
+-- the state after what a give does, before owners inherit
+abbrev pub after_give : MutexState → ℕ → ℕ → GiveDeed → MutexState
+after_give s who id (denied e) = s
+after_give s who id (lowered m) = shallow s who id m
+after_give s who id (given_up m) = give_up s who id m
+
+-- the state after a give
 abbrev pub give : MutexState → ℕ → ℕ → MutexState
-give s who id = raised_at_once (give_alone s who id (object_of s.mutexes id))
+give s who id = raised_at_once (after_give s who id (give_deed who (object_of s.mutexes id)))
 
 -- ---- delete
 -- a live owner gives up all its takes

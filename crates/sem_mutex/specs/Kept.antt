@@ -4,7 +4,9 @@ use Rattle.std.specs.List.{All}
 use Rattle.wind_base.specs.declared.profile.Profile.{Profile}
 use Rattle.wind_base.specs.declared.profile.Profile.TheVariants.{One}
 use Rattle.task_block.specs.declared.task.Task.{Task}
-use Rattle.wind_core.specs.State.{KernState}
+use Rattle.id_table.specs.Rows.{object_of}
+use Rattle.wind_core.specs.State.{KernState, task_of}
+use Rattle.task_safety.specs.Safety.{safe_of}
 use Rattle.inheritance.specs.declared.mutex.Mutex.{Mutex}
 use Rattle.inheritance.specs.Mutexes.{MutexState, held_count}
 use Rattle.inheritance.specs.Reach.{mutex_at, IsExact}
@@ -66,3 +68,10 @@ pub record IsEarly (s : MutexState) : Type 0 where
   pub ticks : s.kern.tick < 2 ^ 61
   pub safes : FewSafe s.kern
   pub depths : All (λ r. r.1.depth < 2 ^ 61) s.mutexes
+
+-- the counters that this task's take of this mutex raises are far from overflow
+pub record IsEarlyFor (s : MutexState) (who id : ℕ) : Type 0 where
+  pub sinces : FewSinces s.kern
+  pub ticks : s.kern.tick < 2 ^ 61
+  pub safe : safe_of (task_of s.kern.tasks who) < 2 ^ 61
+  pub depth : IfSome (object_of s.mutexes id) (λ m. m.depth < 2 ^ 61)

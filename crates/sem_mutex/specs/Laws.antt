@@ -1,7 +1,7 @@
 -- What follows from the definitions alone.
-use Rattle.std.specs.Prelude.{◌≡◌, ℕ, ◌<◌, ◌≤◌, true, false, [], None, Some}
+use Rattle.std.specs.Prelude.{◌≡◌, ℕ, ◌<◌, ◌≤◌, true, false, cond, nat_lt, [], None, Some}
 use Rattle.std.specs.List.{All}
-use Rattle.wind_base.specs.declared.profile.Profile.TheVariants.{Two}
+use Rattle.wind_base.specs.declared.profile.Profile.TheVariants.{One, Two}
 use Rattle.wind_base.specs.SemBits.{is_priority, is_inversion_safe}
 use Rattle.wind_base.specs.declared.semaphore.SemOptions.{SemOptions}
 use Rattle.wind_core.specs.State.{KernState, IsKern, Lives}
@@ -11,9 +11,11 @@ use Rattle.wind_core.specs.declared.changes.Change.TheVariants as changes
 use Rattle.task_safety.specs.Safety.{make_safe, lessen}
 use Rattle.task_safety.specs.Deletion.{delete as delete_task}
 use Rattle.id_table.specs.Rows.{object_of}
+use Rattle.inheritance.specs.declared.mutex.Mutex.{Mutex}
 use Rattle.inheritance.specs.Mutexes.{MutexState, AreMutexes, mutex_place}
-use Rattle.inheritance.specs.Reach.{mutex_at, raised, IsExact}
-use Rattle.sem_mutex.specs.Calls.{take, take_refusal, give, give_refusal, delete, delete_refusal, priority_set}
+use Rattle.inheritance.specs.Reach.{mutex_at, boss, pri_of, path, is_on, prefix_while, raised, IsExact}
+use Rattle.inheritance.specs.Laws.{OwnersUrgentBut}
+use Rattle.sem_mutex.specs.Calls.{starved, take_deed, await, take, take_refusal, give, give_refusal, delete, delete_refusal, priority_alone, priority_set}
 use Rattle.sem_mutex.specs.Making.{create, new_mutex}
 use Rattle.sem_mutex.specs.Kept.{KeepsMutexes, IsSettled}
 
@@ -86,3 +88,33 @@ GoneLaw = (s : MutexState) (id : ℕ) → IsKern s.kern → delete_refusal (obje
 -- the invariant holds if there are no tasks and no mutexes
 abbrev pub OpeningLaw : Type 0
 OpeningLaw = (s : MutexState) → s.kern.tasks ≡ [] → s.mutexes ≡ [] → KeepsMutexes s
+
+-- ---- the premise of the walk law, under profile 1
+-- after a task begins to wait for a mutex, each other waiter's owner is at least as urgent as the waiter
+abbrev pub PendingLaw : Type 0
+PendingLaw = (s : MutexState) (who id n : ℕ) (m : Mutex) → s.profile ≡ One → KeepsMutexes s
+    → OwnersUrgentBut who s.mutexes (await s who id n m).kern.tasks
+
+-- the same after a task's normal priority is set, and its priority follows
+abbrev pub RepricingLaw : Type 0
+RepricingLaw = (s : MutexState) (who pri : ℕ) → s.profile ≡ One → IsKern s.kern → KeepsMutexes s
+    → OwnersUrgentBut who s.mutexes (priority_alone s who pri).kern.tasks
+
+-- in the second state the owners on w's path before the first that is at least as urgent as w have w's priority, and
+-- each other task has its priority of the first state
+abbrev pub OnlyHeirsRise : MutexState → MutexState → ℕ → Type 0
+OnlyHeirsRise s t w = (x : ℕ) → Lives s.kern x
+    → pri_of t.kern.tasks x
+    ≡ cond (is_on (prefix_while (λ z. nat_lt (pri_of s.kern.tasks w) (pri_of s.kern.tasks z))
+    (path (boss s.kern.tasks s.mutexes) 256 w)) x)
+    (pri_of s.kern.tasks w) (pri_of s.kern.tasks x)
+
+-- a take that waits raises only the caller's heirs
+abbrev pub WaitingLaw : Type 0
+WaitingLaw = (s : MutexState) (who id n : ℕ) (m : Mutex) → s.profile ≡ One → KeepsMutexes s → Lives s.kern who
+    → take_deed who n (object_of s.mutexes id) ≡ starved m → OnlyHeirsRise (await s who id n m) (take s who id n) who
+
+-- setting a task's normal priority raises only the task's heirs, once its own priority has followed
+abbrev pub SettingLaw : Type 0
+SettingLaw = (s : MutexState) (who pri : ℕ) → s.profile ≡ One → IsKern s.kern → KeepsMutexes s → Lives s.kern who
+    → OnlyHeirsRise (priority_alone s who pri) (priority_set s who pri) who

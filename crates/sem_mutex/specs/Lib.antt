@@ -1,4 +1,5 @@
 pub mod Calls
+pub mod Inside
 pub mod Kept
 pub mod Making
 pub mod Laws

@@ -43,8 +43,7 @@ fn are_shallow(table: &Table<Mutex>) -> bool
 
 impl Mutexes {
     /// Whether the order numbers, the ticks, and the counts of safe sections and of takes are all
-    /// far from overflow, as `take` requires. The other calls require it only of the counters that
-    /// they raise.
+    /// far from overflow. Each call requires this only of the counters that it raises.
     pub fn is_early(&self, k: &Kern) -> bool
         ensures yes { result ≡ true → IsEarly (both k.now self.now) }
         ensures no { result ≡ false → IsEarly (both k.now self.now) → ⊥ }

@@ -3,13 +3,14 @@
 ghost use Rattle.std.specs.Prelude.{◌≡◌, ◌<◌, ◌^◌, Some, None, IsSome, IfOk, IfErr};
 ghost use Rattle.id_table.specs.Rows.{object_of};
 ghost use Rattle.wind_core.specs.State.{Lives};
-ghost use Rattle.inheritance.specs.declared.mutex.Mutex.{Mutex as Mutex_lem};
 ghost use Rattle.inheritance.specs.Mutexes.{both};
 ghost use Rattle.sem_mutex.specs.Kept.{KeepsMutexes, FewSinces, FewSafe};
-ghost use Rattle.sem_mutex.specs.Calls.{passed_on, given_once, give, give_alone, give_refusal};
+ghost use Rattle.sem_mutex.specs.Calls.{passed_on, given_once, given_last, give, give_deed, give_refusal};
+ghost use Rattle.sem_mutex.specs.Inside.{give_plan as give_plan_lem};
 
 use crate::mutexes::Mutexes;
 use crate::owners::{ease, free, let_go, take_depth};
+use crate::plans::{GivePlan, give_plan};
 use id_table::sides::OBJECT;
 use id_table::{Ident, Place};
 use wind_base::Errno;
@@ -17,14 +18,6 @@ use wind_base::words::OK;
 use wind_core::Kern;
 
 impl Mutexes {
-    // How many times its owner has taken it and not given it back.
-    fn depth(&self, id: Ident) -> u64
-        requires { IsSome (object_of self.now.rows id) }
-        ensures { (m : Mutex_lem) → object_of self.now.rows id ≡ Some m → result ≡ m.depth }
-    {
-        self.mutex(id).depth
-    }
-
     // Makes the first waiter the owner and ends its wait. If no task waits, the mutex becomes free.
     fn pass_on(&mut self, k: &mut Kern, id: Ident)
         requires there { IsSome (object_of self.old.rows id) }
@@ -54,23 +47,29 @@ impl Mutexes {
         take_depth(self.table.object_mut(id));
     }
 
-    // A give by the owner: the last one passes the mutex on.
-    fn give_owned(&mut self, k: &mut Kern, who: Ident, id: Ident)
+    // The owner's last give: the mutex is passed on.
+    fn give_last(&mut self, k: &mut Kern, who: Ident, id: Ident)
         requires live { Lives k.old who }
         requires there { IsSome (object_of self.old.rows id) }
         requires kept { KeepsMutexes (both k.old self.old) }
         requires since { FewSinces k.old }
         requires safe { FewSafe k.old }
-        ensures { both k.new self.new ≡ give_alone (both k.old self.old) who id (object_of self.old.rows id) }
+        ensures { both k.new self.new ≡ given_last (both k.old self.old) who id (object_of self.old.rows id) }
     {
-        if self.depth(id) > 1 {
-            self.give_once(k, who, id);
-            return;
-        }
         k.facts();
         self.pass_on(k, id);
         let_go(k, who, self.mutex(id), self.profile);
         ease(k, who, self.mutex(id), 1);
+    }
+
+    // What a give will do.
+    fn plan_give(&self, caller: Ident, id: u32) -> GivePlan
+        ensures { result ≡ give_plan_lem id (give_deed caller (object_of self.now.rows id)) }
+    {
+        let Some(at) = self.find(id) else {
+            return GivePlan::Denied(Errno::ObjIdError);
+        };
+        give_plan(self.mutex(at), at, caller)
     }
 
     /// Gives the mutex once, on behalf of its owner (semGive). After the last give the first
@@ -93,14 +92,18 @@ impl Mutexes {
             × (both k.new self.new ≡ both k.old self.old)) }
         ensures kept { KeepsMutexes (both k.new self.new) }
     {
-        let id = self.live(k, id)?;
-        let Some(owner) = self.owner_by(id) else {
-            return Err(Errno::InvalidOperation);
-        };
-        if owner != caller {
-            return Err(Errno::InvalidOperation);
+        k.facts();
+        self.facts();
+        match self.plan_give(caller, id) {
+            GivePlan::Denied(e) => Err(e),
+            GivePlan::Lowered(at) => {
+                self.give_once(k, caller, at);
+                Ok(())
+            }
+            GivePlan::GivenUp(at) => {
+                self.give_last(k, caller, at);
+                Ok(())
+            }
         }
-        self.give_owned(k, caller, id);
-        Ok(())
     }
 }

@@ -7,6 +7,7 @@ mod gives;
 mod laws;
 mod mutexes;
 mod owners;
+mod plans;
 mod settling;
 mod takes;
 

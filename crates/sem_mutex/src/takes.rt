@@ -5,15 +5,16 @@ ghost use Rattle.id_table.specs.Rows.{object_of};
 ghost use Rattle.wind_core.specs.State.{Lives, task_of};
 ghost use Rattle.task_safety.specs.Safety.{safe_of};
 ghost use Rattle.inheritance.specs.Mutexes.{both};
-ghost use Rattle.sem_mutex.specs.Kept.{KeepsMutexes, IsEarly};
-ghost use Rattle.sem_mutex.specs.Calls.{held_of, handed, deepened, awaited, take, take_refusal, took};
+ghost use Rattle.sem_mutex.specs.Kept.{KeepsMutexes, FewSinces, IsEarlyFor};
+ghost use Rattle.sem_mutex.specs.Calls.{held_of, handed, deepened, awaited, take, take_deed, take_refusal, took};
+ghost use Rattle.sem_mutex.specs.Inside.{take_plan as take_plan_lem};
 
 use crate::mutexes::Mutexes;
 use crate::owners::{add_depth, adopt, guard, own};
+use crate::plans::{TakePlan, take_plan};
 use id_table::sides::OBJECT;
 use id_table::{Ident, Place};
 use wind_base::Errno;
-use wind_base::words::NO_WAIT;
 use wind_core::{Kern, Took};
 
 impl Mutexes {
@@ -33,7 +34,7 @@ impl Mutexes {
     fn deepen(&mut self, k: &mut Kern, who: Ident, id: Ident)
         requires live { Lives k.old who }
         requires there { IsSome (object_of self.old.rows id) }
-        requires early { IsEarly (both k.old self.old) }
+        requires early { IsEarlyFor (both k.old self.old) who id }
         ensures { both k.new self.new ≡ deepened (both k.old self.old) who id (object_of self.old.rows id) }
     {
         guard(k, who, self.mutex(id));
@@ -45,11 +46,22 @@ impl Mutexes {
         requires live { Lives k.old who }
         requires there { IsSome (object_of self.now.rows id) }
         requires timeout { 0 < timeout }
-        requires early { IsEarly (both k.old self.now) }
+        requires since { FewSinces k.old }
+        requires ticks { k.old.tick < 2 ^ 61 }
         ensures { both k.new self.now ≡ awaited (both k.old self.now) who id timeout (object_of self.now.rows id) }
     {
         let fifo = !self.mutex(id).by_priority;
         k.pend(who, Place { side: OBJECT, id }, fifo, timeout);
+    }
+
+    // What a take with this timeout will do.
+    fn plan_take(&self, caller: Ident, id: u32, timeout: u32) -> TakePlan
+        ensures { result ≡ take_plan_lem id (take_deed caller timeout (object_of self.now.rows id)) }
+    {
+        let Some(at) = self.find(id) else {
+            return TakePlan::Declined(Errno::ObjIdError);
+        };
+        take_plan(self.mutex(at), at, caller, timeout)
     }
 
     /// Takes the mutex for the caller if it is free, or once more if the caller owns it (semTake).
@@ -70,7 +82,7 @@ impl Mutexes {
     ) -> Result<Took, Errno>
         requires live { Lives k.old caller }
         requires kept { KeepsMutexes (both k.old self.old) }
-        requires early { IsEarly (both k.old self.old) }
+        requires early { IsEarlyFor (both k.old self.old) caller id }
         ensures ok { IfOk result (λ t. (take_refusal caller timeout (object_of self.old.rows id) ≡ None)
             × (t ≡ took caller (object_of self.old.rows id))
             × (both k.new self.new ≡ take (both k.old self.old) caller id timeout)) }
@@ -78,20 +90,23 @@ impl Mutexes {
             × (both k.new self.new ≡ both k.old self.old)) }
         ensures kept { KeepsMutexes (both k.new self.new) }
     {
-        let id = self.live(k, id)?;
-        let Some(owner) = self.owner_by(id) else {
-            self.hand(k, caller, id);
-            return Ok(Took::Taken);
-        };
-        if owner == caller {
-            self.deepen(k, caller, id);
-            return Ok(Took::Taken);
+        k.facts();
+        self.facts();
+        match self.plan_take(caller, id, timeout) {
+            TakePlan::Declined(e) => Err(e),
+            TakePlan::Taken(at) => {
+                self.hand(k, caller, at);
+                Ok(Took::Taken)
+            }
+            TakePlan::Retaken(at) => {
+                self.deepen(k, caller, at);
+                Ok(Took::Taken)
+            }
+            TakePlan::Starved(at) => {
+                self.await_mutex(k, caller, at, timeout);
+                self.inherit_at_once(k, caller);
+                Ok(Took::Pended)
+            }
         }
-        if timeout == NO_WAIT {
-            return Err(Errno::ObjUnavailable);
-        }
-        self.await_mutex(k, caller, id, timeout);
-        self.inherit_at_once(k, caller);
-        Ok(Took::Pended)
     }
 }

@@ -11,13 +11,14 @@ use crate::svg::{Area, add_area, add_attribute, add_text, add_times};
 use board_changes::Span;
 use id_table::Ident;
 use kernel_world::Actor;
+use std::alloc::Global;
 use trace_text::add;
 use wind_base::NoMemory;
 
 /// What a picture shows.
 #[derive(Clone, Copy)]
 pub struct Picture<'a> {
-    /// The tasks, in the order of their rows.
+    /// The tasks, by rising id.
     pub rows: &'a [RowName],
     /// The spans of the tasks, for each in order of time.
     pub spans: &'a [Span],
@@ -105,12 +106,34 @@ fn add_name(text: &mut Vec<u8>, row: &RowName, top: u128) -> Result<(), NoMemory
     add(text, b"</text>\n")
 }
 
+// The spans by task; those of a task stay in order of time.
+fn by_task(alloc: Global, spans: &[Span]) -> Result<Vec<&Span>, NoMemory> {
+    let mut sorted: Vec<&Span> = Vec::with_capacity(alloc, spans.len())?;
+    sorted.extend(spans.iter())?;
+    sorted.sort_by_key(|span| span.who.get())?;
+    Ok(sorted)
+}
+
+// The spans of a task, among spans by task.
+fn spans_of<'a>(sorted: &'a [&'a Span], id: Ident) -> &'a [&'a Span] {
+    let from = sorted.partition_point(|span| span.who.get() < id.get());
+    let rest = &sorted[from..];
+    let count = rest.partition_point(|span| span.who == id);
+    &rest[..count]
+}
+
 // Adds the rows of the tasks.
-fn add_rows(text: &mut Vec<u8>, picture: &Picture<'_>, scale: Scale) -> Result<(), NoMemory> {
+fn add_rows(
+    alloc: Global,
+    text: &mut Vec<u8>,
+    picture: &Picture<'_>,
+    scale: Scale,
+) -> Result<(), NoMemory> {
+    let sorted = by_task(alloc, picture.spans)?;
     for (place, row) in picture.rows.iter().enumerate() {
         let top = top_of(place + 1);
         add_name(text, row, top)?;
-        add_row(text, row, scale, top, picture.spans)?;
+        add_row(text, row, scale, top, spans_of(&sorted, row.id))?;
     }
     Ok(())
 }
@@ -133,12 +156,11 @@ fn add_level(text: &mut Vec<u8>, picture: &Picture<'_>, scale: Scale) -> Result<
 
 // The place of the row of a task; without one, that of the interrupt level.
 fn place_of(rows: &[RowName], id: &Ident) -> usize {
-    for (place, row) in rows.iter().enumerate() {
-        if row.id == *id {
-            return place + 1;
-        }
+    let place = rows.partition_point(|row| row.id.get() < id.get());
+    match rows.get(place) {
+        Some(row) if row.id == *id => place + 1,
+        _ => 0,
     }
-    0
 }
 
 // The place of the row of a task or of the interrupt level.
@@ -159,13 +181,17 @@ fn add_marks(text: &mut Vec<u8>, picture: &Picture<'_>, scale: Scale) -> Result<
 }
 
 /// Adds the picture, complete in itself.
-pub fn add_picture(text: &mut Vec<u8>, picture: &Picture<'_>) -> Result<(), NoMemory> {
+pub fn add_picture(
+    alloc: Global,
+    text: &mut Vec<u8>,
+    picture: &Picture<'_>,
+) -> Result<(), NoMemory> {
     let scale = Scale::new(picture.end);
     let bottom = top_of(picture.rows.len() + 1);
     add_head(text, bottom)?;
     add_ticks(text, scale, picture.ticks, TOP, bottom)?;
     add_level(text, picture, scale)?;
-    add_rows(text, picture, scale)?;
+    add_rows(alloc, text, picture, scale)?;
     add_marks(text, picture, scale)?;
     add_axis(text, scale, bottom)?;
     add(text, b"</svg>\n")

@@ -231,22 +231,20 @@ fn add_span(
     Ok(())
 }
 
-/// Adds the row of a task.
+/// Adds the row of a task. These are its spans, in order of time.
 pub(crate) fn add_row(
     text: &mut Vec<u8>,
     name: &RowName,
     scale: Scale,
     top: u128,
-    spans: &[Span],
+    spans: &[&Span],
 ) -> Result<(), NoMemory>
     requires { top < 2 ^ 77 }
 {
     let row = Row { name, scale, top };
     let mut bucket = EMPTY;
     for span in spans {
-        if span.who == name.id {
-            add_span(text, &row, &mut bucket, span)?;
-        }
+        add_span(text, &row, &mut bucket, span)?;
     }
     flush(text, &row, &mut bucket)
 }

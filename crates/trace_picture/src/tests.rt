@@ -64,7 +64,7 @@ fn draws_spans_and_marks(rt: HostRuntime) -> Result<(), Fail> {
         end: 4,
     };
     let mut text = Vec::new(rt.alloc());
-    add_picture(&mut text, &picture).or(Err("memory"))?;
+    add_picture(rt.alloc(), &mut text, &picture).or(Err("memory"))?;
     let expected = b"<line class=\"tick\" x1=\"1060\" x2=\"1060\" y1=\"50\" y2=\"140\"/>
 <text x=\"5\" y=\"63\">interrupt</text>
 <rect class=\"running\" x=\"460\" y=\"50\" width=\"300\" height=\"16\">\
@@ -104,7 +104,15 @@ fn divides_a_pixel(rt: HostRuntime) -> Result<(), Fail> {
         span(one, look(Standing::Ready), 11, 12),
     ];
     let mut text = Vec::new(rt.alloc());
-    add_row(&mut text, &row, Scale::new(12_000), 8000, &spans).or(Err("memory"))?;
+    let [first, second, third] = &spans;
+    add_row(
+        &mut text,
+        &row,
+        Scale::new(12_000),
+        8000,
+        &[first, second, third],
+    )
+    .or(Err("memory"))?;
     let expected = b"<rect class=\"running\" x=\"160\" y=\"80\" width=\"1\" height=\"12.80\">\
 <title>1 tShell running 80 %, 0 to 5</title></rect>
 <rect class=\"waiting\" x=\"160\" y=\"92.80\" width=\"1\" height=\"3.20\">\

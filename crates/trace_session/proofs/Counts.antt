@@ -20,7 +20,7 @@ use Rattle.board_trace.specs.Messages.{messages, messages_by, messages_of, sent_
 use Rattle.board_trace.specs.Outside.{event_told, from_outside, is_last, switches}
 use Rattle.board_trace.specs.Owners.{freed, owned, owners, owners_at, same_owner}
 use Rattle.board_trace.specs.Before.{mutex_named}
-use Rattle.board_trace.specs.Steps.{called, causes, changes, effects, happenings_from, has_written, instruction_of, is_instruction, reply_of, step_happenings, writes}
+use Rattle.board_trace.specs.Steps.{called, causes, changes, effects, happenings_from, has_written, instruction_of, is_instruction, step_happenings, writes}
 use Rattle.board_trace.specs.Views.{SnapshotState}
 use Rattle.board_trace.specs.declared.moment.AfterStep.{AfterStep}
 use Rattle.board_trace.specs.declared.moment.BeforeStep.{BeforeStep}
@@ -157,12 +157,12 @@ module _ (c : BeforeStep) (before after : SnapshotState) (r : AfterStep) (writte
   causes_none =
       both_none (from_outside c.next c r) _ (outside_none c.next c r)
       (both_none (switches before.last after.last) _ (switches_none before.last after.last)
-      (both_none (called c.actor c.call (reply_of c after r)) _ (called_none c.actor c.call (reply_of c after r)) (faults_none c r (is_exception c wrote))))
+      (both_none (called c.actor c.call r.reply) _ (called_none c.actor c.call r.reply) (faults_none c r (is_exception c wrote))))
 
   effects_told : OnlyText written (effects c before after r written)
   effects_told =
       then_text written (owners c r) _ (owners_none (mutex_named c.call) c.owner r.owner)
-      (then_text written (messages c (reply_of c after r) changed) _ (messages_none c.actor c.call (reply_of c after r) changed)
+      (then_text written (messages c r.reply changed) _ (messages_none c.actor c.call r.reply changed)
       (then_text written (map told.Changed changed) _ (changed_none changed)
       (then_text written (routines c r wrote) _ (routines_none c r wrote) (writes_told c.actor written))))
 

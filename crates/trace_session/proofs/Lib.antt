@@ -9,3 +9,4 @@ pub mod Telling
 mod CommandLemmas
 mod LeftLemmas
 mod ProgramLemmas
+mod TracePromises

@@ -1,7 +1,9 @@
 -- What joining keeps, and what lines say is written.
 use Rattle.std.proofs.Common.{◌≡◌, ℕ, zero, suc, ◌+◌, Bool, true, false, if◌then◌else◌, List, [], ◌∷◌, ◌++◌, map, Option, None, Some, refl, sym, ap, subst, ◌∙◌, append_assoc, arith}
 use Rattle.std.proofs.lemmas.List.{append-nil}
+use Rattle.wind_machine.specs.LiveLoadingSaid.{FileSaid}
 use Rattle.wind_machine.specs.State.{State}
+use Rattle.wind_machine.specs.Replies.{step_reply}
 use Rattle.wind_machine.specs.Run.{Answers, after, text}
 use Rattle.board_trace.specs.Before.{before_step}
 use Rattle.board_trace.specs.Runs.{Line, joined, joined_or, line_in, lines_of, same_actor, step_lines, with_line, with_lines}
@@ -87,26 +89,26 @@ texts_lines line of (h ∷ hs) made =
     ∙ ap (λ bytes. bytes ++ texts_of hs) (texts_line (line h) made ∙ ap (λ g. written_in made ++ written_by g) (of h))
     ∙ append_assoc (written_in made) (written_by h) (texts_of hs)
 
-texts_step : (s t : State) → texts_of (happenings s t) ≡ t.world.output
+texts_step : (said : FileSaid) (s t : State) → texts_of (happenings said s t) ≡ t.world.output
 unfolding happenings
-texts_step s t = texts_are (before_step s) (snapshot_of s.world) (snapshot_of t.world) (after_step (before_step s) t) t.world.output
+texts_step said s t = texts_are (before_step s) (snapshot_of s.world) (snapshot_of t.world) (after_step (before_step s) (step_reply said s) t) t.world.output
 
 -- ---- a run
 module _ (said : Answers) (s : State) where
   counts : (k : ℕ) → instructions_in (lines_of said s k) ≡ instructions_in (single_lines said s k)
   counts zero = refl
-  counts (suc k) = counts_lines (step_lines (after said s k) (after said s (suc k))) (lines_of said s k) (single_lines said s k) (counts k)
+  counts (suc k) = counts_lines (step_lines (said k) (after said s k) (after said s (suc k))) (lines_of said s k) (single_lines said s k) (counts k)
 
   others : (k : ℕ) → others_in (lines_of said s k) ≡ others_in (single_lines said s k)
   others zero = refl
-  others (suc k) = others_lines (step_lines (after said s k) (after said s (suc k))) (lines_of said s k) (single_lines said s k) (others k)
+  others (suc k) = others_lines (step_lines (said k) (after said s k) (after said s (suc k))) (lines_of said s k) (single_lines said s k) (others k)
 
   texts : (k : ℕ) → written_in (lines_of said s k) ≡ text said s k
   texts zero = refl
   texts (suc k) =
-      texts_lines (line_in (after said s k) (after said s (suc k))) (λ h. refl) (happenings (after said s k) (after said s (suc k))) (lines_of said s k)
-      ∙ ap (λ bytes. bytes ++ texts_of (happenings (after said s k) (after said s (suc k)))) (texts k)
-      ∙ ap (λ bytes. text said s k ++ bytes) (texts_step (after said s k) (after said s (suc k)))
+      texts_lines (line_in (after said s k) (after said s (suc k))) (λ h. refl) (happenings (said k) (after said s k) (after said s (suc k))) (lines_of said s k)
+      ∙ ap (λ bytes. bytes ++ texts_of (happenings (said k) (after said s k) (after said s (suc k)))) (texts k)
+      ∙ ap (λ bytes. text said s k ++ bytes) (texts_step (said k) (after said s k) (after said s (suc k)))
 
 pub lines_law : LinesLaw
 lines_law = record { instructions = counts; others = others; written = texts }

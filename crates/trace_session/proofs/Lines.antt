@@ -1,7 +1,10 @@
 -- The lines of a list of happenings.
-use Rattle.std.proofs.Common.{◌≡◌, ℕ, ◌+◌, ◌<◌, List, [], ◌∷◌, ◌++◌, map, take, get_or, length, refl, sym, ap, subst, ◌∙◌}
+use Rattle.std.proofs.Common.{◌≡◌, ℕ, ◌+◌, ◌<◌, Option, List, [], ◌∷◌, ◌++◌, map, take, get_or, length, refl, sym, ap, subst, ◌∙◌}
 use Rattle.std.proofs.lemmas.List.{take_more}
+use Rattle.kernel_world.specs.declared.reply.Reply.{Reply}
+use Rattle.wind_machine.specs.LiveLoadingSaid.{FileSaid}
 use Rattle.wind_machine.specs.State.{State}
+use Rattle.wind_machine.specs.Replies.{step_reply}
 use Rattle.board_trace.specs.Before.{before_step}
 use Rattle.board_trace.specs.Runs.{Line, step_lines, with_line, with_lines}
 use Rattle.board_trace.specs.Snapshots.{snapshot_of}
@@ -26,15 +29,16 @@ one_more line hs i h made below at =
     ∙ ap (λ gs. with_lines (map line gs) made) (sym (take_more hs i h below))
 
 -- the lines of what was read of a step are its lines
-pub lines_read : (s t : State) (b : BeforeStep) (old before after : SnapshotState) (hs : List Happening) → hs ≡ happenings_read b old t → b ≡ before_step s → before ≡ old → old ≡ snapshot_of s.world → after ≡ snapshot_of t.world
-    → map (line_of b before after) hs ≡ step_lines s t
+pub lines_read : (said : FileSaid) (s t : State) (b : BeforeStep) (old before after : SnapshotState) (reply : Option Reply) (hs : List Happening) → hs ≡ happenings_read b old reply t → b ≡ before_step s → before ≡ old → old ≡ snapshot_of s.world
+    → after ≡ snapshot_of t.world → reply ≡ step_reply said s → map (line_of b before after) hs ≡ step_lines said s t
 unfolding happenings
-lines_read s t b old before after hs read is same from to =
+lines_read said s t b old before after reply hs read is same from to replied =
     ap (map (line_of b before after)) read
-    ∙ ap (λ v. map (line_of b v after) (happenings_read b old t)) same
-    ∙ ap (λ v. map (line_of b old v) (happenings_read b old t)) to
-    ∙ ap (λ v. map (line_of b v (snapshot_of t.world)) (happenings_read b v t)) from
-    ∙ ap (λ c. map (line_of c (snapshot_of s.world) (snapshot_of t.world)) (happenings_read c (snapshot_of s.world) t)) is
+    ∙ ap (λ v. map (line_of b v after) (happenings_read b old reply t)) same
+    ∙ ap (λ v. map (line_of b old v) (happenings_read b old reply t)) to
+    ∙ ap (λ v. map (line_of b v (snapshot_of t.world)) (happenings_read b v reply t)) from
+    ∙ ap (λ r. map (line_of b (snapshot_of s.world) (snapshot_of t.world)) (happenings_read b (snapshot_of s.world) r t)) replied
+    ∙ ap (λ c. map (line_of c (snapshot_of s.world) (snapshot_of t.world)) (happenings_read c (snapshot_of s.world) (step_reply said s) t)) is
 
 -- the page has one line more
 pub added : (b : BeforeStep) (before after : SnapshotState) (hs : List Happening) (i : ℕ) (h : Happening) (given : List ℕ) (made : List Line) (page : PageState) (name : List ℕ) → i < length hs → h ≡ get_or hs i h

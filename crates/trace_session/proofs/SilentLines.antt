@@ -4,7 +4,9 @@ use Rattle.std.specs.Prelude.{is_none, is_some}
 use Rattle.std.proofs.lemmas.Bool.{eq-eqb}
 use Rattle.kernel_world.specs.Actors.{is_shell}
 use Rattle.kernel_world.specs.declared.actor.Actor.{Actor}
+use Rattle.wind_machine.specs.LiveLoadingSaid.{FileSaid}
 use Rattle.wind_machine.specs.State.{State}
+use Rattle.wind_machine.specs.Replies.{step_reply}
 use Rattle.wind_machine.specs.Next.{next}
 use Rattle.wind_machine.specs.Machine.{actor_of}
 use Rattle.wind_machine.specs.Processor.{regs_of}
@@ -48,17 +50,17 @@ module _ (s t : State) (step : IsSilentStep s t) where
       ∙ ap (λ o. is_none o && not (has_written t.world.output)) gate_is
       ∙ ap (λ w. not (has_written w)) step.silent
 
-  one_happening : happenings s t ≡ told.Instructions step.who 1 ∷ []
+  one_happening : (said : FileSaid) → happenings said s t ≡ told.Instructions step.who 1 ∷ []
   unfolding happenings
-  one_happening =
+  one_happening said =
       ap (λ b. if b then switches s.world.kern.last t.world.kern.last ++ instruction_of (actor_of (next s))
-      else step_happenings (before_step s) (snapshot_of s.world) (snapshot_of t.world) (after_step (before_step s) t) t.world.output) is_one_instruction
+      else step_happenings (before_step s) (snapshot_of s.world) (snapshot_of t.world) (after_step (before_step s) (step_reply said s) t) t.world.output) is_one_instruction
       ∙ ap (λ l. switches s.world.kern.last l ++ instruction_of (actor_of (next s))) step.last_stays
       ∙ ap (λ l. l ++ instruction_of (actor_of (next s))) (no_switch s.world.kern.last)
       ∙ ap instruction_of step.instruction.comes
 
-  one_line : step_lines s t ≡ instructions_line s step.who 1 ∷ []
-  one_line = ap (map (line_in s t)) one_happening
+  one_line : (said : FileSaid) → step_lines said s t ≡ instructions_line s step.who 1 ∷ []
+  one_line said = ap (map (line_in s t)) (one_happening said)
 
 -- ---- many silent steps
 -- the same task or routine makes all of them
@@ -98,8 +100,8 @@ module _ (law : SilentLaw) (said : Answers) (s u : State) (i : ℕ) (here : u �
       let n = i + k in
       let same : steps.2.who ≡ who = some_is steps.2.who who (sym steps.2.last ∙ goes_on k u v who last steps.1) in
       ap (lines_of said s) (at_end k)
-      ∙ ap₂ (λ (a b : State). with_lines (step_lines a b) (lines_of said s n)) (sym (there k v steps.1)) (sym (next_there k t steps))
-      ∙ ap (λ l. with_lines l (lines_of said s n)) (one_line v t steps.2)
+      ∙ ap₂ (λ (a b : State). with_lines (step_lines (said n) a b) (lines_of said s n)) (sym (there k v steps.1)) (sym (next_there k t steps))
+      ∙ ap (λ l. with_lines l (lines_of said s n)) (one_line v t steps.2 (said n))
       ∙ ap (λ w. with_line (instructions_line v w 1) (lines_of said s n)) same
       ∙ ap (with_line (instructions_line v who 1)) (lines_on joins v who k last steps.1)
       ∙ joined_on joins k u v who (lines_of said s i) steps.1

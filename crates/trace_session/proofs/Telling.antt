@@ -4,8 +4,10 @@ use Rattle.std.specs.Prelude.{IfOk, OnOk}
 use Rattle.wind_outside.specs.Appending.{AppendedPrefix}
 use Rattle.wind_outside.specs.Requests.{Request}
 use Rattle.wind_session.specs.LiveLoadingSaid.{FileSaid}
+use Rattle.kernel_world.specs.declared.reply.Reply.{Reply}
 use Rattle.wind_machine.specs.State.{State}
 use Rattle.wind_machine.specs.Machine.{machine_step}
+use Rattle.wind_machine.specs.Replies.{step_reply}
 use Rattle.wind_machine.specs.Run.{Answers, after}
 use Rattle.wind_machine.specs.Silent.{SilentLaw, SilentSteps}
 use Rattle.wind_session.proofs.AppendingLemmas.{appended_none}
@@ -15,7 +17,7 @@ use Rattle.wind_session.specs.declared.run.RunEnd.{RunEnd}
 use Rattle.wind_session.specs.declared.run.RunEnd.TheVariants as ends
 use Rattle.wind_session.proofs.Continuing.{burst_counted}
 use Rattle.wind_session.proofs.RunLemmas.{After, at_halt, closed}
-use Rattle.wind_session.proofs.Saying.{Agree, as_before, same_after, saying, state_now}
+use Rattle.wind_session.proofs.Saying.{Agree, as_before, said_now, same_after, saying, state_now}
 use Rattle.board_trace.specs.Before.{before_step}
 use Rattle.board_trace.specs.Runs.{Line, lines_of, step_lines, with_lines}
 use Rattle.board_trace.specs.Snapshots.{snapshot_of}
@@ -34,8 +36,9 @@ shorter a b k same j below = same j (omega (arith, below))
 pub same_lines : (a b : Answers) (s : State) (k : ℕ) → Agree a b k → lines_of a s k ≡ lines_of b s k
 same_lines a b s zero same = refl
 same_lines a b s (suc k) same =
-    ap₂ (λ (u v : State). with_lines (step_lines u v) (lines_of a s k)) (same_after a b s k (shorter a b k same)) (same_after a b s (suc k) same)
-    ∙ ap (with_lines (step_lines (after b s k) (after b s (suc k)))) (same_lines a b s k (shorter a b k same))
+    ap₂ (λ (u v : State). with_lines (step_lines (a k) u v) (lines_of a s k)) (same_after a b s k (shorter a b k same)) (same_after a b s (suc k) same)
+    ∙ ap (λ said. with_lines (step_lines said (after b s k) (after b s (suc k))) (lines_of a s k)) (same k (omega arith))
+    ∙ ap (with_lines (step_lines (b k) (after b s k) (after b s (suc k)))) (same_lines a b s k (shorter a b k same))
 
 same_spans : (a b : Answers) (s : State) (k : ℕ) → Agree a b k → spans_after a s k ≡ spans_after b s k
 same_spans a b s zero same = refl
@@ -45,24 +48,26 @@ same_spans a b s (suc k) same =
 
 -- ---- one step more
 -- after i steps another one was made, given what was said of its file
-pub goes_on : (shelf : Shelf) (said : Answers) (s u t : State) (i : ℕ) (x : FileSaid) → u ≡ after said s i → machine_step x u ≡ Some t → GoesOn said (saying said i x) s u t i
-goes_on shelf said s u t i x here step = record {
+pub goes_on : (shelf : Shelf) (said : Answers) (s u t : State) (reply : Option Reply) (i : ℕ) (x : FileSaid) → u ≡ after said s i → machine_step x u ≡ Some t → reply ≡ step_reply x u
+    → GoesOn said (saying said i x) s u t reply i
+goes_on shelf said s u t reply i x here step replied = record {
   same = as_before said i x;
   from = here;
   to = state_now shelf said s u t i x here step ∙ ap (after (saying said i x) s) (sym (add-one i));
+  replied = replied ∙ ap (λ y. step_reply y u) (sym (said_now said i x));
 }
 
-module _ (said next : Answers) (s u t : State) (i : ℕ) (on : GoesOn said next s u t i) where
+module _ (said next : Answers) (s u t : State) (reply : Option Reply) (i : ℕ) (on : GoesOn said next s u t reply i) where
   start : u ≡ after next s i
   start = on.from ∙ same_after said next s i on.same
 
   stop : t ≡ after next s (suc i)
   stop = on.to ∙ ap (after next s) (add-one i)
 
-  pub lines_now : with_lines (step_lines u t) (lines_of said s i) ≡ lines_of next s (i + 1)
+  pub lines_now : with_lines (step_lines (next i) u t) (lines_of said s i) ≡ lines_of next s (i + 1)
   lines_now =
-      ap₂ (λ (a b : State). with_lines (step_lines a b) (lines_of said s i)) start stop
-      ∙ ap (with_lines (step_lines (after next s i) (after next s (suc i)))) (same_lines said next s i on.same)
+      ap₂ (λ (a b : State). with_lines (step_lines (next i) a b) (lines_of said s i)) start stop
+      ∙ ap (with_lines (step_lines (next i) (after next s i) (after next s (suc i)))) (same_lines said next s i on.same)
       ∙ ap (lines_of next s) (sym (add-one i))
 
   pub spans_now : looked_at (before_step u) (spans_after said s i) t ≡ spans_after next s (i + 1)
@@ -123,12 +128,12 @@ part_held first now page said next s i same holds =
     subst (λ lines. AppendedPrefix first now (lines_text lines)) (same_lines said next s i same) (prefix_put first now page (lines_of said s i) holds)
 
 -- a step more was told
-pub held_on : (first now : Option (List ℕ)) (page later : PageState) (said next : Answers) (s u t : State) (i : ℕ) → GoesOn said next s u t i
-    → ((given : List ℕ) (lines : List Line) → Ends given page lines → Ends given later (with_lines (step_lines u t) lines)) → HoldsSteps first now page said s i → HoldsSteps first now later next s (i + 1)
-held_on first now page later said next s u t i on lines holds = record {
+pub held_on : (first now : Option (List ℕ)) (page later : PageState) (said next : Answers) (s u t : State) (reply : Option Reply) (i : ℕ) → GoesOn said next s u t reply i
+    → ((given : List ℕ) (lines : List Line) → Ends given page lines → Ends given later (with_lines (step_lines (next i) u t) lines)) → HoldsSteps first now page said s i → HoldsSteps first now later next s (i + 1)
+held_on first now page later said next s u t reply i on lines holds = record {
   given = holds.given;
   gained = holds.gained;
-  ends = subst (Ends holds.given later) (lines_now said next s u t i on) (lines holds.given (lines_of said s i) holds.ends);
+  ends = subst (Ends holds.given later) (lines_now said next s u t reply i on) (lines holds.given (lines_of said s i) holds.ends);
 }
 
 -- after instructions that were made at once, the next step can be told

@@ -35,7 +35,7 @@ with_each (next ∷ others) made = with_each others (next ∷ made)
 -- the lines of the first k steps from s before any are joined
 abbrev pub single_lines : Answers → State → ℕ → List Line
 single_lines said s zero = []
-single_lines said s (suc k) = with_each (step_lines (after said s k) (after said s (suc k))) (single_lines said s k)
+single_lines said s (suc k) = with_each (step_lines (said k) (after said s k) (after said s (suc k))) (single_lines said s k)
 
 -- joining lines of instructions keeps how many instructions they tell of, and it keeps the other lines in their order;
 -- what the lines say is written is what the steps write

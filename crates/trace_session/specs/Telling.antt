@@ -1,17 +1,21 @@
 -- What is told of a run, step by step.
-use Rattle.std.specs.Prelude.{◌≡◌, ℕ, ◌+◌, ◌<◌, ◌≤◌}
+use Rattle.std.specs.Prelude.{◌≡◌, ℕ, ◌+◌, ◌<◌, ◌≤◌, Option}
+use Rattle.kernel_world.specs.declared.reply.Reply.{Reply}
 use Rattle.wind_machine.specs.State.{State}
+use Rattle.wind_machine.specs.Replies.{step_reply}
 use Rattle.wind_machine.specs.Run.{Answers, after}
 use Rattle.wind_session.specs.declared.run.RunEnd.{RunEnd}
 use Rattle.wind_session.specs.declared.run.RunEnd.TheVariants as ends
 use Rattle.board_trace.specs.Before.{before_step}
 use Rattle.board_trace.specs.declared.moment.BeforeStep.{BeforeStep}
 
--- after i steps from s, the step from u to t was made; of the files, the same was said at the steps before
-pub record GoesOn (said next : Answers) (s u t : State) (i : ℕ) : Type 0 where
+-- after i steps from s, the step from u to t was made, with this reply; of the files, the same was said at the steps
+-- before
+pub record GoesOn (said next : Answers) (s u t : State) (reply : Option Reply) (i : ℕ) : Type 0 where
   pub same : (j : ℕ) → j < i → said j ≡ next j
   pub from : u ≡ after said s i
   pub to : t ≡ after next s (i + 1)
+  pub replied : reply ≡ step_reply (next i) u
 
 -- the step whose state before was read led to this state, and something holds of the state before
 abbrev pub StepFrom : (State → Type 0) → BeforeStep → State → Type 0

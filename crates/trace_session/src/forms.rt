@@ -90,7 +90,7 @@ pub fn trace_board<F: Folder, O: Sink>(
             let end = tell_run(alloc, board, folder, modules, out, limit, &mut observer)?;
             observer.close(board)?;
             let mut text = Vec::new(alloc);
-            observer.draw(&mut text, board.time())?;
+            observer.draw(alloc, &mut text, board.time())?;
             let end = put_text(out, &text, end);
             let spans = Some(observer.spans);
             Ok(TracedRun { end, spans })

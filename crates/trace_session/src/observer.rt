@@ -8,14 +8,14 @@ ghost use Rattle.board_changes.specs.Spans.{closed};
 ghost use Rattle.trace_session.specs.Spans.{looked_at, observed_in, opening_spans};
 
 use crate::reader::StepReader;
-use board_changes::Spans;
-use board_trace::{BeforeStep, Happening, Snapshot, is_instruction};
+use board_changes::{Change, Spans, TaskView};
+use board_trace::{BeforeStep, Happening, Snapshot, is_instruction, view_of};
 use id_table::Ident;
 use kernel_world::Actor;
 use std::alloc::Global;
 use trace_picture::{Kind, Mark, Picture, RowName, add_picture};
 use trace_state::runner;
-use wind_base::{NoMemory, ShortName};
+use wind_base::NoMemory;
 use wind_outside::Device;
 use wind_session::Board;
 
@@ -47,18 +47,29 @@ fn push<T: Drop>(list: &mut Vec<T>, item: T) -> Result<(), NoMemory> {
     Ok(())
 }
 
-// Adds a row for each task that has none.
+// Adds the row of a task.
+fn add_row(rows: &mut Vec<RowName>, view: &TaskView) -> Result<(), NoMemory> {
+    let row = RowName {
+        id: view.id,
+        name: view.name.copied(),
+    };
+    push(rows, row)
+}
+
+// Adds a row for each task before the first step.
 fn add_rows(rows: &mut Vec<RowName>, views: &Snapshot) -> Result<(), NoMemory> {
     for view in &views.tasks {
-        if !rows.iter().any(|row| row.id == view.id) {
-            let row = RowName {
-                id: view.id,
-                name: ShortName::cut(view.name.bytes()),
-            };
-            push(rows, row)?;
-        }
+        add_row(rows, view)?;
     }
     Ok(())
+}
+
+// Adds the row of a new task.
+fn add_spawned(rows: &mut Vec<RowName>, views: &Snapshot, who: Ident) -> Result<(), NoMemory> {
+    match view_of(&views.tasks, who.get()) {
+        Some(view) => add_row(rows, view),
+        None => Ok(()),
+    }
 }
 
 impl Scene {
@@ -80,23 +91,33 @@ impl Scene {
         push(&mut self.marks, Mark { who, time, kind })
     }
 
-    // Notes a tick, an exception or an abort.
-    fn note(&mut self, happening: &Happening, time: u128) -> Result<(), NoMemory> {
+    // Notes a new task, a tick, an exception or an abort.
+    fn note(
+        &mut self,
+        happening: &Happening,
+        time: u128,
+        after: &Snapshot,
+    ) -> Result<(), NoMemory> {
         match happening {
+            Happening::Changed(Change::Spawned { who, .. }) => {
+                add_spawned(&mut self.rows, after, *who)
+            }
             Happening::Tick { .. } => push(&mut self.ticks, time),
             Happening::Exception { who, .. } => self.mark(*who, time, Kind::Exception),
-            Happening::Abort => match Ident::new(1) {
-                Some(shell) => self.mark(Actor::Task(shell), time, Kind::Abort),
-                None => Ok(()),
-            },
+            Happening::Abort => self.mark(Actor::Task(Ident::shell()), time, Kind::Abort),
             _ => Ok(()),
         }
     }
 
-    // Notes what happened in a step.
-    fn note_all(&mut self, list: &[Happening], time: u128) -> Result<(), NoMemory> {
+    // Notes what happened in a step. This is the snapshot after it.
+    fn note_all(
+        &mut self,
+        list: &[Happening],
+        time: u128,
+        after: &Snapshot,
+    ) -> Result<(), NoMemory> {
         for happening in list {
-            self.note(happening, time)?;
+            self.note(happening, time, after)?;
         }
         Ok(())
     }
@@ -137,10 +158,9 @@ impl Observer {
         requires { snapshot_state self.old.reader.after ≡ snapshot_of (seen ⟦<dyn Device as Device>⟧ board.now).world }
         ensures { OnOk result (self.new.spans ≡ observed_in self.old.spans (seen ⟦<dyn Device as Device>⟧ board.now)) }
     {
-        let views = &self.reader.after;
-        add_rows(&mut self.scene.rows, views)?;
+        let views = &self.reader.after.tasks;
         self.spans
-            .observe(board.time(), &views.tasks, runner(board.world()))
+            .observe(board.time(), views, runner(board.world()))
     }
 
     /// Looks at a board after a step. An instruction changes nothing that a picture shows.
@@ -153,7 +173,9 @@ impl Observer {
         }
         self.reader.read(board, before_step)?;
         self.scene.look(board)?;
-        self.scene.note_all(&self.reader.list, before_step.time)?;
+        let reader = &self.reader;
+        self.scene
+            .note_all(&reader.list, before_step.time, &reader.after)?;
         self.look_at_tasks(board)?;
         self.reader.go_on();
         Ok(())
@@ -173,7 +195,12 @@ impl Observer {
     }
 
     /// Adds the picture of a run that ended at this time.
-    pub(crate) fn draw(&self, text: &mut Vec<u8>, end: u128) -> Result<(), NoMemory> {
+    pub(crate) fn draw(
+        &self,
+        alloc: Global,
+        text: &mut Vec<u8>,
+        end: u128,
+    ) -> Result<(), NoMemory> {
         let picture = Picture {
             rows: &self.scene.rows,
             spans: self.spans.done(),
@@ -182,6 +209,6 @@ impl Observer {
             marks: &self.scene.marks,
             end,
         };
-        add_picture(text, &picture)
+        add_picture(alloc, text, &picture)
     }
 }

@@ -1,7 +1,7 @@
 //! What happens in each step of a board, from snapshots before and after it.
 
 ghost use Rattle.std.specs.Prelude.{◌≡◌, OnOk, IfOk};
-ghost use Rattle.wind_session.specs.BoardPlayerSeen.{seen};
+ghost use Rattle.wind_session.specs.BoardPlayerSeen.{last_reply, seen};
 ghost use Rattle.board_trace.specs.Snapshots.{snapshot_of};
 ghost use Rattle.board_trace.specs.Views.{snapshot_state};
 ghost use Rattle.trace_session.specs.Steps.{happenings_read};
@@ -59,7 +59,7 @@ impl StepReader {
         ensures after { OnOk result (snapshot_state self.new.after
             ≡ snapshot_of (seen ⟦<dyn Device as Device>⟧ board.now).world) }
         ensures list { OnOk result (self.new.list.items ≡ happenings_read before_step.now
-            (snapshot_state self.old.before) (seen ⟦<dyn Device as Device>⟧ board.now)) }
+            (snapshot_state self.old.before) (last_reply board.now) (seen ⟦<dyn Device as Device>⟧ board.now)) }
     {
         take_snapshot(&mut self.after, board.world())?;
         self.list.clear();

@@ -6,7 +6,7 @@ ghost use Rattle.wind_outside.specs.Counts.{Rose};
 ghost use Rattle.wind_outside.specs.declared.sink.Put.TheVariants as puts;
 ghost use Rattle.wind_machine.specs.{State.State, Run.{Answers, after}, Silent.SilentSteps};
 ghost use Rattle.wind_session.specs.Keeping.{KeepsFiles};
-ghost use Rattle.wind_session.specs.BoardPlayerSeen.{seen};
+ghost use Rattle.wind_session.specs.BoardPlayerSeen.{last_reply, seen};
 ghost use Rattle.board_trace.specs.Before.{before_step as before_step_lem};
 ghost use Rattle.wind_session.specs.declared.run.RunEnd.TheVariants as ends;
 ghost use Rattle.trace_session.specs.{Traced.Traced, Telling.{GoesOn, IsTold, IsToldInPart, StepFrom}};
@@ -67,12 +67,12 @@ pub(crate) trait Teller {
         ensures tells { IfOk result (λ put. put ≡ puts.Done
             → (first : Option (List ℕ)) (said next : Answers) (s u : State) (i : ℕ)
             → before_step.now ≡ before_step_lem u → ready self.old u
-            → GoesOn said next s u (seen ⟦<dyn Device as Device>⟧ board.now) i
+            → GoesOn said next s u (seen ⟦<dyn Device as Device>⟧ board.now) (last_reply board.now) i
             → tells self.old first (O.bytes out.old) said s i → tells self.new first (O.bytes out.new) next s (i + 1)) }
         ensures lost { IfOk result (λ put. put ≡ puts.Failed
             → (first : Option (List ℕ)) (said next : Answers) (s u : State) (i : ℕ)
             → before_step.now ≡ before_step_lem u → ready self.old u
-            → GoesOn said next s u (seen ⟦<dyn Device as Device>⟧ board.now) i
+            → GoesOn said next s u (seen ⟦<dyn Device as Device>⟧ board.now) (last_reply board.now) i
             → tells self.old first (O.bytes out.old) said s i → lost first (O.bytes out.new) next s (i + 1)) }
         ensures given_up { OnErr result (O.bytes out.new ≡ O.bytes out.old) }
         ensures ready { OnOk result (ready self.new (seen ⟦<dyn Device as Device>⟧ board.now)) }

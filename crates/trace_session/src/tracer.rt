@@ -2,8 +2,10 @@
 
 ghost use Rattle.std.specs.Prelude.{◌≡◌, ◌≤◌, ◌<◌, ◌+◌, ◌++◌, ◌^◌, ℕ, List, [], None, OnOk, IfOk, map};
 ghost use Rattle.std.specs.List.{sum_by};
+ghost use Rattle.wind_machine.specs.LiveLoadingSaid.{FileSaid};
 ghost use Rattle.wind_machine.specs.State.{State};
-ghost use Rattle.wind_session.specs.BoardPlayerSeen.{seen};
+ghost use Rattle.wind_machine.specs.Replies.{step_reply};
+ghost use Rattle.wind_session.specs.BoardPlayerSeen.{last_reply, seen};
 ghost use Rattle.board_trace.specs.Before.{before_step as before_step_lem};
 ghost use Rattle.board_trace.specs.Runs.{Line, step_lines, with_line, with_lines};
 ghost use Rattle.board_trace.specs.Snapshots.{snapshot_of};
@@ -112,10 +114,11 @@ impl Tracer {
         before_step: &BeforeStep,
     ) -> Result<(), NoMemory>
         requires { count_in self.old.page.growing + 1 < 2 ^ 64 }
-        ensures lines { OnOk result ((s : State) (given : List ℕ) (made : List Line)
+        ensures lines { OnOk result ((said : FileSaid) (s : State) (given : List ℕ) (made : List Line)
             → before_step.now ≡ before_step_lem s → snapshot_state self.old.reader.before ≡ snapshot_of s.world
+            → last_reply board.now ≡ step_reply said s
             → Ends given self.old.page made → Ends given self.new.page
-            (with_lines (step_lines s (seen ⟦<dyn Device as Device>⟧ board.now)) made)) }
+            (with_lines (step_lines said s (seen ⟦<dyn Device as Device>⟧ board.now)) made)) }
         ensures waits { OnOk result (count_in self.new.page.growing ≤ count_in self.old.page.growing + 1) }
         ensures before { OnOk result (snapshot_state self.new.reader.before
             ≡ snapshot_of (seen ⟦<dyn Device as Device>⟧ board.now).world) }

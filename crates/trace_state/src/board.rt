@@ -5,7 +5,7 @@ use crate::objects::{level, modules, mutexes, queues, semaphores, symbols, watch
 use crate::slots::devices;
 use crate::tasks::{id_or_null, tasks};
 use crate::text::Members;
-use board_reading::{Board, Phase};
+use board_reading::{Board, Phase, runner};
 use kernel_world::World;
 use serde_json::{Map, Value, json, put};
 use std::alloc::{AllocError, Global};
@@ -20,12 +20,12 @@ fn phase_word(phase: Phase) -> &'static str {
     }
 }
 
-// Adds the time and who runs.
+// Adds the time and who runs: no task while an interrupt routine is active.
 fn add_time(alloc: Global, members: &mut Members, board: &Board) -> Result<(), AllocError> {
     let world = board.world();
     let time = u64::try_from(board.time()).unwrap_or(u64::MAX);
     let last = id_or_null(world.kern.last());
-    let running = id_or_null(world.kern.runner());
+    let running = id_or_null(runner(world));
     put(members, alloc, "time", Value::from(time))?;
     put(members, alloc, "steps", Value::from(board.steps()))?;
     put(members, alloc, "tick", Value::from(board.ticks()))?;

@@ -8,7 +8,7 @@ use Rattle.board_changes.specs.declared.awaited.Awaited.{Awaited}
 use Rattle.board_changes.specs.declared.awaited.Awaited.TheVariants as awaited
 use Rattle.board_changes.specs.declared.change.Change.{Change}
 use Rattle.board_changes.specs.declared.change.Change.TheVariants as changes
-use Rattle.board_trace.specs.Replies.{errno_named}
+use Rattle.board_trace.specs.Errors.{errno_named}
 use Rattle.trace_text.specs.Pieces.{signed, word_hex}
 
 -- what a task waits for

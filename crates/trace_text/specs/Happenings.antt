@@ -32,7 +32,7 @@ called_text call reply = call_text call ++ reply_text (gate_of call) reply
 
 -- a message goes from one task to another
 abbrev pub handed_text : ℕ → ℕ → List ℕ
-handed_text queue receiver = codes "hands a message of queue " ++ (decimal queue ++ (codes " to " ++ decimal receiver))
+handed_text queue receiver = codes "hands a message of queue " ++ (decimal queue ++ (codes " to task " ++ decimal receiver))
 
 -- a routine begins
 abbrev pub routine_text : ℕ → ℕ → List ℕ
@@ -44,12 +44,12 @@ happening_text (told.Tick tick) = codes "tick " ++ decimal tick
 happening_text (told.Arrival count) = codes "bytes arrive: " ++ decimal count
 happening_text (told.Interrupt slot) = codes "interrupt of slot " ++ decimal slot
 happening_text (told.Delivery slot) = codes "delivery of an interrupt of slot " ++ decimal slot
-happening_text (told.Jump time) = codes "time moves to " ++ decimal time
+happening_text (told.Jump time) = codes "nobody is ready until " ++ decimal time
 happening_text (told.File name) = codes "asks for the file " ++ quoted name
 happening_text (told.Runs who last) = runs_text last
 happening_text (told.Called who call reply) = called_text call reply
 happening_text (told.Exception who at) = codes "exception at " ++ word_hex at
-happening_text told.Abort = codes "its line is aborted"
+happening_text told.Abort = codes "aborts its line"
 happening_text (told.Owned mutex owner) = codes "owns mutex " ++ decimal mutex
 happening_text (told.Freed mutex owner) = codes "no longer owns mutex " ++ decimal mutex
 happening_text (told.Queued queue sender) = codes "adds a message to queue " ++ decimal queue

@@ -11,9 +11,9 @@ signed v = signed_decimal (cast_signed w32 v)
 abbrev pub word_hex : ℕ → List ℕ
 word_hex v = codes "0x" ++ digits 16 false v
 
--- a byte that is shown as it is: from 0x20 to 0x7E, but not the backslash
+-- a byte that is shown as it is: from 0x20 to 0x7E, but neither the backslash nor the quote
 abbrev pub is_plain : ℕ → Bool
-is_plain b = nat_le 32 b && nat_le b 126 && not (b == 92)
+is_plain b = nat_le 32 b && nat_le b 126 && not (b == 92) && not (b == 34)
 
 -- a byte as it is shown: another one is a backslash, an `x` and its two hexadecimal digits
 abbrev pub escaped_byte : ℕ → List ℕ

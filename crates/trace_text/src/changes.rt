@@ -2,7 +2,7 @@
 
 ghost use Rattle.std.specs.Prelude.{◌≡◌, ◌++◌, OnOk};
 ghost use Rattle.std.specs.Fmt.{decimal};
-ghost use Rattle.board_trace.specs.Replies.{errno_named as errno_named_lem};
+ghost use Rattle.board_trace.specs.Errors.{errno_named as errno_named_lem};
 ghost use Rattle.trace_text.specs.Changes.{awaited_text, change_text, end_text, error_text, failed_text, inherited_text, object_text, priority_text, served_text, sleeps_text, spawned_text, started_text, until_text, until_tick_text, waits_text};
 
 use crate::pieces::{add, add_decimal, add_hex, add_signed, add_with};

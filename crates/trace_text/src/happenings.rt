@@ -55,7 +55,7 @@ fn add_handed(text: &mut Vec<u8>, queue: u32, receiver: Ident) -> Result<(), NoM
     ensures { OnOk result (text.new.items ≡ text.old.items ++ handed_text queue receiver) }
 {
     add_with(text, b"hands a message of queue ", u64::from(queue))?;
-    add_with(text, b" to ", u64::from(receiver.get()))
+    add_with(text, b" to task ", u64::from(receiver.get()))
 }
 
 // Adds that a routine begins.
@@ -111,12 +111,12 @@ pub(crate) fn add_happening(
         Happening::Delivery { slot } => {
             add_with(text, b"delivery of an interrupt of slot ", u64::from(*slot))
         }
-        Happening::Jump { time } => add_with(text, b"time moves to ", *time),
+        Happening::Jump { time } => add_with(text, b"nobody is ready until ", *time),
         Happening::File(name) => add_quoted(text, b"asks for the file ", name.bytes()),
         Happening::Runs { last, .. } => add_runs(text, *last),
         Happening::Called { call, reply, .. } => add_called(text, scratch, call, reply),
         Happening::Exception { at, .. } => add_exception(text, *at),
-        Happening::Abort => add(text, b"its line is aborted"),
+        Happening::Abort => add(text, b"aborts its line"),
         Happening::Owned { mutex, .. } => add_with(text, b"owns mutex ", u64::from(*mutex)),
         Happening::Freed { mutex, .. } => {
             add_with(text, b"no longer owns mutex ", u64::from(*mutex))

@@ -62,11 +62,11 @@ pub(crate) fn add_hex(text: &mut Vec<u8>, n: u32) -> Result<(), NoMemory>
     add(text, digits.as_bytes())
 }
 
-// Whether a byte is shown as it is: from 0x20 to 0x7E, but not the backslash.
+// Whether a byte is shown as it is: from 0x20 to 0x7E, but neither the backslash nor the quote.
 fn is_plain(byte: u8) -> bool
     ensures { result ≡ is_plain_lem byte }
 {
-    (0x20..=0x7e).contains(&byte) && byte != b'\\'
+    (0x20..=0x7e).contains(&byte) && byte != b'\\' && byte != b'"'
 }
 
 // Adds a byte; one that isn't plain as `\xNN`.

@@ -1,17 +1,17 @@
 -- Modules linked one after the other are the static link.
-use Rattle.std.proofs.Common.{◌≡◌, ℕ, suc, ◌+◌, ◌-◌, ◌^◌, ◌≤◌, ◌<◌, List, [], ◌∷◌, Option, Some, None, Ok, Err, length, get_or, take, drop, replicate, drop-cons, refl, sym, ap, ◌∙◌, subst, arith}
+use Rattle.std.proofs.Common.{◌≡◌, ℕ, suc, ◌+◌, ◌-◌, ◌^◌, ◌≤◌, ◌<◌, List, [], ◌∷◌, ◌++◌, Option, Some, None, Ok, Err, length, map, append_assoc, get_or, take, drop, replicate, drop-cons, refl, sym, ap, ◌∙◌, subst, arith}
 use Rattle.std.proofs.Math.Path.{fun_ext}
 use Rattle.std.specs.List.{All}
-use Rattle.std.proofs.lemmas.List.{take_all, length-drop}
+use Rattle.std.proofs.lemmas.List.{append-nil, take_all, length-drop}
 use Rattle.std.proofs.lemmas.List.Elements.{All-head, All-tail}
 use Rattle.wind_base.specs.Limits.{ram_bytes}
 use Rattle.mem_partition.specs.declared.block.Block.{Block}
 use Rattle.reloc_link.specs.declared.patching.RelocErr.{RelocErr}
 use Rattle.module_image.specs.declared.segments.SegmentKind.{SegmentKind}
-use Rattle.module_image.specs.Binding.{bind}
 use Rattle.module_image.specs.Image.{Images, image_by}
 use Rattle.module_image.specs.Link.{Load, export_by, value_else, meaning, link_after, link}
 use Rattle.module_image.specs.Linkable.{IsLinkable}
+use Rattle.symbol_table.specs.declared.symbol.Symbol.{Symbol}
 use Rattle.symbol_table.specs.Newest.{find_global}
 use Rattle.elf_read.specs.declared.module.Module.{Module}
 use Rattle.elf_read.specs.declared.module.Sym.{Sym}
@@ -33,15 +33,25 @@ use Rattle.wind_link.specs.Flat.{segments_of, segments, highest, flat}
 use Rattle.wind_link.specs.Linking.{load_of, opening_symbols, number_of, relocation_or, wrong_relocation, related_or, placed_or, images, linked, static_image, IsRefusal}
 use Rattle.wind_link.specs.Placing.{wrong_place, taken_by}
 use Rattle.wind_link.specs.Steps.{low_after, high_after, with_all, loads, cut_segments, index_of, refusal_of, TellsPlace}
-use Rattle.wind_link.specs.Values.{value_of, Means}
+use Rattle.wind_link.specs.Values.{value_of, entry_of, entry_else, Means, valueless_names}
+use Rattle.wind_link.specs.Undefined.{with_exports, undefined_from, undefined}
+use Rattle.wind_link.proofs.Exporting.{more, value_after, value_bound}
+use Rattle.wind_link.proofs.Unbinding.{names_unbound}
 use Rattle.wind_link.proofs.Extents.{AreSized, new_blocks, taken_is, lows, highs, all_between, LoadsInside, loads_inside, all_inside}
 use Rattle.wind_link.proofs.Flattening.{flattened}
 use Rattle.wind_link.proofs.Placement.{AllLinkable, all_placed, sized, high_within}
 
--- these modules are still to be linked, from module number i on
-pub record IsLinking (low n : ℕ) (ps : List Placed) (v : Values) (bytes : List ℕ) (i : ℕ) (all : List Load) : Type 0 where
+-- each name has this value
+abbrev Gives : Values → (List ℕ → ℕ) → Type 0
+Gives v f = (name : List ℕ) → value_of v name ≡ f name
+
+-- these modules are still to be linked, from module number i on; the undefined names of those before are collected
+pub record IsLinking (low n : ℕ) (ps : List Placed) (v : Values) (bytes : List ℕ) (i : ℕ) (names : List (ℕ × List ℕ)) (all : List Load) : Type 0 where
   pub earlier : List Load
-  pub means : Means v (meaning opening_symbols earlier)
+  pub means : Gives v (meaning opening_symbols earlier)
+  pub tab : List Symbol
+  pub entries : Means v tab
+  pub told : names ++ undefined_from (i + 1) tab (loads ps) ≡ undefined all
   pub image : with_all low bytes (segments (loads ps) (link_after opening_symbols earlier (loads ps))) ≡ with_all low (replicate n 0) (segments all (images all))
   pub whole : wrong_relocation i (link_after opening_symbols earlier (loads ps)) ≡ wrong_relocation 0 (images all)
   pub inside : LoadsInside low n (loads ps)
@@ -51,10 +61,14 @@ pub images_are : (ls : List Load) → images ls ≡ link_after opening_symbols [
 unfolding link
 images_are ls = refl
 
-pub begins : (low n : ℕ) (ps : List Placed) (v : Values) (bytes : List ℕ) → Means v (bind opening_symbols) → bytes ≡ replicate n 0 → length bytes ≡ n → LoadsInside low n (loads ps) → IsLinking low n ps v bytes 0 (loads ps)
-begins low n ps v bytes means zeros size inside = record {
+pub begins : (low n : ℕ) (ps : List Placed) (v : Values) (bytes : List ℕ) (names : List (ℕ × List ℕ)) → Means v opening_symbols → bytes ≡ replicate n 0 → length bytes ≡ n → names ≡ []
+    → LoadsInside low n (loads ps) → IsLinking low n ps v bytes 0 names (loads ps)
+begins low n ps v bytes names means zeros size none inside = record {
   earlier = [];
-  means = means;
+  means = λ q. value_bound v opening_symbols q (means q);
+  tab = opening_symbols;
+  entries = means;
+  told = ap (λ x. x ++ undefined (loads ps)) none;
   image = ap (λ b. with_all low b (segments (loads ps) (link_after opening_symbols [] (loads ps)))) zeros
       ∙ ap (λ is. with_all low (replicate n 0) (segments (loads ps) is)) (sym (images_are (loads ps)));
   whole = ap (wrong_relocation 0) (sym (images_are (loads ps)));
@@ -62,47 +76,58 @@ begins low n ps v bytes means zeros size inside = record {
   size = size;
 }
 
-same_image : (p : Placed) (v : Values) (earlier : List Load) → Means v (meaning opening_symbols earlier)
+same_image : (p : Placed) (v : Values) (earlier : List Load) → Gives v (meaning opening_symbols earlier)
     → image_by p.module (value_of v) (load_of p).at ≡ image_by p.module (meaning opening_symbols earlier) (load_of p).at
 same_image p v earlier means = ap (λ f. image_by p.module f (load_of p).at) (fun_ext means)
 
 passes : (i : ℕ) (one : Images) (is : List Images) → one.fault ≡ None → wrong_relocation i (one ∷ is) ≡ wrong_relocation (i + 1) is
 passes i one is h = ap (λ f. relocation_or i f (wrong_relocation (i + 1) is)) h
 
-pub goes_on : (low n : ℕ) (p : Placed) (ps : List Placed) (v w : Values) (bytes more : List ℕ) (i : ℕ) (all : List Load) → IsLinking low n (p ∷ ps) v bytes i all
-    → more ≡ with_all low bytes (segments_of (load_of p).at (image_by p.module (value_of v) (load_of p).at))
+pub goes_on : (low n : ℕ) (p : Placed) (ps : List Placed) (v w : Values) (bytes written_bytes : List ℕ) (i : ℕ) (names all_names : List (ℕ × List ℕ)) (all : List Load) → IsLinking low n (p ∷ ps) v bytes i names all
+    → written_bytes ≡ with_all low bytes (segments_of (load_of p).at (image_by p.module (value_of v) (load_of p).at))
     → (image_by p.module (value_of v) (load_of p).at).fault ≡ None
-    → ((q : List ℕ) → value_of w q ≡ value_else (export_by (load_of p) q) (value_of v q))
-    → length more ≡ length bytes → IsLinking low n ps w more (i + 1) all
-goes_on low n p ps v w bytes more i all k written fault values size =
+    → ((q : List ℕ) → entry_of w q ≡ entry_else (export_by (load_of p) q) (entry_of v q))
+    → length written_bytes ≡ length bytes → all_names ≡ names ++ map (λ name. (i + 1, name)) (valueless_names v p.module.symbols)
+    → IsLinking low n ps w written_bytes (i + 1) all_names all
+goes_on low n p ps v w bytes written_bytes i names all_names all k written fault entries size named =
     let l = load_of p in
     let one = image_by p.module (meaning opening_symbols k.earlier) l.at in
     let same : image_by p.module (value_of v) l.at ≡ one = same_image p v k.earlier k.means in
     let rest = link_after opening_symbols (l ∷ k.earlier) (loads ps) in
     record {
       earlier = l ∷ k.earlier;
-      means = λ q. values q ∙ ap (value_else (export_by l q)) (k.means q);
+      means = λ q. value_after v w (export_by l q) q (entries q) ∙ ap (value_else (export_by l q)) (k.means q);
+      tab = with_exports k.tab l;
+      entries = λ q. entries q ∙ ap (entry_else (export_by l q)) (k.entries q) ∙ sym (more q k.tab (exports l.body l.mode l.at 0) None);
+      told = ap (λ x. x ++ undefined_from (i + 1 + 1) (with_exports k.tab l) (loads ps)) named
+          ∙ append_assoc names (map (λ name. (i + 1, name)) (valueless_names v p.module.symbols)) (undefined_from (i + 1 + 1) (with_exports k.tab l) (loads ps))
+          ∙ ap (λ x. names ++ (map (λ name. (i + 1, name)) x ++ undefined_from (i + 1 + 1) (with_exports k.tab l) (loads ps))) (names_unbound v k.tab p.module.symbols k.entries)
+          ∙ k.told;
       image = ap (λ b. with_all low b (segments (loads ps) rest)) (written ∙ ap (λ (x : Images). with_all low bytes (segments_of l.at x)) same) ∙ k.image;
       whole = sym (passes i one rest (ap (λ (x : Images). x.fault) (sym same) ∙ fault)) ∙ k.whole;
       inside = (k.inside).1;
       size = size ∙ k.size;
     }
 
-pub stops : (low n : ℕ) (p : Placed) (ps : List Placed) (v : Values) (bytes : List ℕ) (i : ℕ) (all : List Load) (e : RelocErr) → IsLinking low n (p ∷ ps) v bytes i all
+pub stops : (low n : ℕ) (p : Placed) (ps : List Placed) (v : Values) (bytes : List ℕ) (i : ℕ) (names : List (ℕ × List ℕ)) (all : List Load) (e : RelocErr) → IsLinking low n (p ∷ ps) v bytes i names all
     → (image_by p.module (value_of v) (load_of p).at).fault ≡ Some e → linked all ≡ Err (refusal.BadReloc i (number_of e) e)
 unfolding linked
-stops low n p ps v bytes i all e k fault =
+stops low n p ps v bytes i names all e k fault =
     let l = load_of p in
     let rest = link_after opening_symbols (l ∷ k.earlier) (loads ps) in
     let first : wrong_relocation 0 (images all) ≡ Some (refusal.BadReloc i (number_of e) e) =
     sym k.whole ∙ ap (λ f. relocation_or i f (wrong_relocation (i + 1) rest)) (ap (λ (x : Images). x.fault) (sym (same_image p v k.earlier k.means)) ∙ fault) in
     ap (λ w. related_or w (flat (segments all (images all)))) first
 
-pub ends : (low n : ℕ) (v : Values) (bytes : List ℕ) (i : ℕ) (all : List Load) → IsLinking low n [] v bytes i all
+pub ends : (low n : ℕ) (v : Values) (bytes : List ℕ) (i : ℕ) (names : List (ℕ × List ℕ)) (all : List Load) → IsLinking low n [] v bytes i names all
     → with_all low (replicate n 0) (segments all (images all)) ≡ flat (segments all (images all)) → linked all ≡ Ok bytes
 unfolding linked
-ends low n v bytes i all k whole =
+ends low n v bytes i names all k whole =
     ap (λ w. related_or w (flat (segments all (images all)))) (sym k.whole) ∙ ap (λ b. Ok b) (sym (k.image ∙ whole))
+
+-- all undefined names are collected
+pub told_all : (low n : ℕ) (v : Values) (bytes : List ℕ) (i : ℕ) (names : List (ℕ × List ℕ)) (all : List Load) → IsLinking low n [] v bytes i names all → names ≡ undefined all
+told_all low n v bytes i names all k = sym (append-nil names) ∙ k.told
 
 -- what is known when the modules are rightly placed
 pub record AreReady (ps : List Placed) (low n : ℕ) : Type 0 where
@@ -166,12 +191,12 @@ pub index_within : (i n : ℕ) (e : PrepareErr) → i < n → index_of (refusal_
 index_within i n (making.Reloc r) h = omega (arith, h)
 index_within i n making.NoMemory h = omega arith
 
-pub told_is : (l : Load) (ys : List Sym) (vs : List (Option ℕ)) (q : List ℕ) (n : ℕ) → ys ≡ l.body.symbols → vs ≡ values l.body l.at
-    → value_else (find_global (exports_from l.body.sections l.mode 0 ys vs) q) n ≡ value_else (export_by l q) n
+pub told_is : (l : Load) (ys : List Sym) (vs : List (Option ℕ)) (q : List ℕ) (n : Option ℕ) → ys ≡ l.body.symbols → vs ≡ values l.body l.at
+    → entry_else (find_global (exports_from l.body.sections l.mode 0 ys vs) q) n ≡ entry_else (export_by l q) n
 unfolding exports
 told_is l ys vs q n y v =
-    ap (λ x. value_else (find_global (exports_from l.body.sections l.mode 0 x vs) q) n) y
-    ∙ ap (λ x. value_else (find_global (exports_from l.body.sections l.mode 0 l.body.symbols x) q) n) v
+    ap (λ x. entry_else (find_global (exports_from l.body.sections l.mode 0 x vs) q) n) y
+    ∙ ap (λ x. entry_else (find_global (exports_from l.body.sections l.mode 0 l.body.symbols x) q) n) v
 
 cut_made : (m : Module) (i : Images) (at : Places) (bytes : List ℕ) → IsMade i (needs_of m) bytes → i.bss ≡ replicate (needs_of m).bss.size 0
     → cut_segments (needs_of m) at bytes ≡ segments_of at i

@@ -9,3 +9,6 @@ pub mod Covering
 pub mod Boarding
 pub mod Commanding
 pub mod Naming
+pub mod Unbinding
+pub mod Fetching
+pub mod Telling

@@ -9,6 +9,7 @@ use Rattle.elf_read.specs.declared.module.Module.{Module}
 use Rattle.elf_read.specs.declared.error.ElfErr.{ElfErr}
 use Rattle.elf_read.specs.Contents.{ModuleOf}
 use Rattle.elf_read.specs.Rules.{Refused}
+use Rattle.module_image.specs.declared.segments.Places.{Places}
 use Rattle.module_image.specs.declared.segments.SegmentKind.{SegmentKind}
 use Rattle.module_image.specs.Needs.{needs_of}
 use Rattle.module_image.specs.Link.{Load}
@@ -103,11 +104,15 @@ IsMisplaced wrong n (status.BadPlace line kind) = (line ≡ n) × (wrong ≡ Som
 IsMisplaced wrong n status.NoMemory = Unit {0}
 IsMisplaced wrong n _ = ⊥
 
+-- why the file at this path, which line n names, gives no module at these places after these blocks
+abbrev pub RefusesFile : Option Files → List ℕ → List Block → ℕ → Places → Faults → LinkStatus → Type 0
+RefusesFile files path taken n at faults end =
+    NoModule files path n faults end
+    ⊎ ((m : Module) × HasModule files path m × IsMisplaced (wrong_segment taken (needs_of m) at) n end)
+
 -- why row number n has no placed module after these blocks
 abbrev pub RefusesRow : Option Files → List ℕ → List Block → ℕ → Row → Faults → LinkStatus → Type 0
-RefusesRow files dir taken n r faults end =
-    NoModule files (path_of dir r.name) n faults end
-    ⊎ ((m : Module) × HasModule files (path_of dir r.name) m × IsMisplaced (wrong_segment taken (needs_of m) r.at) n end)
+RefusesRow files dir taken n r faults end = RefusesFile files (path_of dir r.name) taken n r.at faults end
 
 -- the first row that has no placed module
 pub record FirstRefused (files : Option Files) (dir : List ℕ) (rows : List Row) (faults : Faults) (end : LinkStatus) : Type 0 where

@@ -8,3 +8,5 @@ pub mod Steps
 pub mod Rows
 pub mod Adding
 pub mod Boards
+pub mod Fetches
+pub mod Undefined

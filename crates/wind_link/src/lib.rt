@@ -10,6 +10,7 @@ mod list;
 mod placing;
 mod report;
 mod status;
+mod undefined;
 mod values;
 
 pub use command::windlink;

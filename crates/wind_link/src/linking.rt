@@ -1,11 +1,11 @@
 //! Links placed modules into one image.
 
-ghost use Rattle.std.specs.Prelude.{◌≡◌, ℕ, ◌+◌, ◌≤◌, ◌<◌, ◌^◌, List, None, Ok, OnOk, IfOk, IfErr, length};
+ghost use Rattle.std.specs.Prelude.{◌≡◌, ℕ, ◌+◌, ◌≤◌, ◌<◌, ◌^◌, List, None, Ok, OnOk, IfOk, IfErr, length, map};
 ghost use Rattle.std.specs.List.{All};
 ghost use Rattle.wind_base.specs.Limits.{ram_bytes};
 ghost use Rattle.module_image.specs.Image.{image_by};
 ghost use Rattle.module_image.specs.Layout.{addresses, ends_of, values as values_lem};
-ghost use Rattle.module_image.specs.Link.{export_by, value_else};
+ghost use Rattle.module_image.specs.Link.{export_by};
 ghost use Rattle.module_image.specs.Linkable.{IsLinkable};
 ghost use Rattle.module_image.specs.Making.{IsMade, IsRefusal as IsMakeRefusal};
 ghost use Rattle.module_image.specs.Needs.{needs_of};
@@ -14,10 +14,12 @@ ghost use Rattle.wind_link.specs.Flat.{segments_of};
 ghost use Rattle.wind_link.specs.Linking.{load_of, number_of, linked, static_image, IsRefusal};
 ghost use Rattle.wind_link.specs.Placing.{wrong_place, taken_by};
 ghost use Rattle.wind_link.specs.Steps.{with_all, AreInside, index_of, refusal_of, loads, TellsPlace};
-ghost use Rattle.wind_link.specs.Values.{value_of};
+ghost use Rattle.wind_link.specs.Undefined.{pair_of, undefined as undefined_lem};
+ghost use Rattle.wind_link.specs.Values.{entry_of, entry_else, value_of};
 
 use crate::image::{extent_of, put_segments};
 use crate::placing::{PlaceErr, opening_blocks, take_module};
+use crate::undefined::{Undefined, add_undefined};
 use crate::values::Values;
 use elf_read::Module;
 use mem_partition::Block;
@@ -127,8 +129,8 @@ fn link_module<'a>(
         (image_by placed.now.module (value_of values.old) (load_of placed.now).at))) }
     ensures whole { OnOk result ((image_by placed.now.module (value_of values.old)
         (load_of placed.now).at).fault ≡ None) }
-    ensures values { OnOk result ((q : List ℕ) → value_of values.new q
-        ≡ value_else (export_by (load_of placed.now) q) (value_of values.old q)) }
+    ensures entries { OnOk result ((q : List ℕ) → entry_of values.new q
+        ≡ entry_else (export_by (load_of placed.now) q) (entry_of values.old q)) }
     ensures length { length image.new ≡ length image.old }
     ensures fault { IfErr result (IsMakeRefusal
         (image_by placed.now.module (value_of values.old) (load_of placed.now).at).fault) }
@@ -150,18 +152,28 @@ fn link_module<'a>(
     }
 }
 
+/// Linked modules.
+#[derive(Drop)]
+pub(crate) struct Linked<'a> {
+    /// The bytes of the image.
+    pub image: Vec<u8>,
+    /// The undefined names, module by module, in symbol order.
+    pub undefined: Vec<Undefined<'a>>,
+}
+
 /// Links modules that are rightly placed; `taken` are the blocks of the pool at the start, followed
 /// by those of the modules. The error is the first relocation that is refused, or that memory ran
 /// out.
-pub(crate) fn link_placed(
+pub(crate) fn link_placed<'a>(
     alloc: Global,
-    list: &[Placed],
+    list: &'a [Placed],
     taken: &[Block],
-) -> Result<Vec<u8>, LinkErr>
+) -> Result<Linked<'a>, LinkErr>
     requires linkable { All (λ p. IsLinkable p.module) list.now }
     requires placed { wrong_place 0 opening_blocks_lem (loads list.now) ≡ None }
     requires taken { taken.now ≡ taken_by opening_blocks_lem (loads list.now) }
-    ensures done { IfOk result (λ v. linked (loads list.now) ≡ Ok v.items) }
+    ensures done { IfOk result (λ v. linked (loads list.now) ≡ Ok v.image.items) }
+    ensures undefined { IfOk result (λ v. map pair_of v.undefined.items ≡ undefined_lem (loads list.now)) }
     ensures refused { IfErr result (IsRefusal (linked (loads list.now))) }
     ensures index { IfErr result (λ e. index_of e ≤ length list.now) }
 {
@@ -172,13 +184,22 @@ pub(crate) fn link_placed(
     let Ok(mut values) = Values::opening(alloc) else {
         return Err(LinkErr::NoMemory);
     };
+    let mut names = Vec::new(alloc);
     for (i, placed) in list.iter().enumerate() {
+        let symbols = placed.module.symbols.as_slice();
+        match add_undefined(&mut names, &values, symbols, i as u64 + 1) {
+            Ok(()) => {}
+            Err(_) => return Err(LinkErr::NoMemory),
+        }
         match link_module(alloc, &mut values, &mut image, extent.low, placed) {
             Ok(()) => {}
             Err(error) => return Err(refusal(i as u64, error)),
         }
     }
-    Ok(image)
+    Ok(Linked {
+        image,
+        undefined: names,
+    })
 }
 
 // The blocks of the pool at the start, followed by those that the modules take; or the first segment
@@ -214,8 +235,12 @@ pub fn link_all(alloc: Global, list: &[Placed]) -> Result<Vec<u8>, LinkErr>
     ensures done { IfOk result (λ v. static_image (loads list.now) ≡ Ok v.items) }
     ensures refused { IfErr result (IsRefusal (static_image (loads list.now))) }
 {
-    match take_all(alloc, list) {
-        Ok(taken) => link_placed(alloc, list, &taken),
+    let taken = match take_all(alloc, list) {
+        Ok(taken) => taken,
+        Err(error) => return Err(error),
+    };
+    match link_placed(alloc, list, &taken) {
+        Ok(linked) => Ok(linked.image),
         Err(error) => Err(error),
     }
 }

@@ -1,13 +1,14 @@
 //! The values of the global names that the modules so far define.
 
-ghost use Rattle.std.specs.Prelude.{◌≡◌, ℕ, ◌∷◌, List, OnOk, IfOk, length, if◌then◌else◌, bytes_eq};
+ghost use Rattle.std.specs.Prelude.{◌≡◌, ℕ, ◌∷◌, List, None, Some, OnOk, IfOk, is_some, length, if◌then◌else◌, bytes_eq};
 ghost use Rattle.elf_read.specs.declared.module.Sect.{Sect};
 ghost use Rattle.symbol_table.specs.Newest.{find_global};
-ghost use Rattle.module_image.specs.{Binding.bind, Exports.{export_of, exports_from}, Image.{meaning_by, meanings_from}, Link.value_else, Opening.symbols_of_gate};
+ghost use Rattle.module_image.specs.{Exports.{export_of, exports_from}, Image.{meaning_by, meanings_from}, Opening.symbols_of_gate};
 ghost use Rattle.wind_base.specs.Limits.{gates_start};
-ghost use Rattle.wind_link.specs.{Linking.opening_symbols, Values.{value_of, Means}};
+ghost use Rattle.wind_link.specs.{Linking.opening_symbols, Values.{entry_of, entry_else, value_of, is_valueless as is_valueless_lem, Means}};
 
-use elf_read::Sym;
+use elf_read::standard::STB_WEAK;
+use elf_read::{Sym, SymPlace};
 use module_image::is_visible;
 use std::alloc::{AllocError, Global};
 use std::collections::BTreeMap;
@@ -23,9 +24,9 @@ pub(crate) struct Values<'a> {
 
 impl<'a> Values<'a> {
     // No name has a value.
-    #[tactic(auto, unfolding(crate::specs::Values::value_of))]
+    #[tactic(auto, unfolding(crate::specs::Values::entry_of))]
     fn new(alloc: Global) -> Values<'a>
-        ensures { (q : List ℕ) → value_of result q ≡ 0 }
+        ensures { (q : List ℕ) → entry_of result q ≡ None }
     {
         Values {
             by_name: BTreeMap::new(alloc),
@@ -33,7 +34,7 @@ impl<'a> Values<'a> {
     }
 
     // The value of a name; 0 if it has none.
-    #[tactic(auto, unfolding(crate::specs::Values::value_of))]
+    #[tactic(auto, unfolding(crate::specs::Values::entry_of, crate::specs::Values::value_of))]
     fn value(&self, name: &[u8]) -> u32
         ensures { result ≡ value_of self.now name.now }
     {
@@ -42,8 +43,8 @@ impl<'a> Values<'a> {
 
     // Gives a name this value.
     fn set(&mut self, name: &'a [u8], value: u32) -> Result<(), AllocError>
-        ensures { OnOk result ((q : List ℕ) → value_of self.new q
-            ≡ (if bytes_eq name.now q then value else value_of self.old q)) }
+        ensures { OnOk result ((q : List ℕ) → entry_of self.new q
+            ≡ (if bytes_eq name.now q then Some value else entry_of self.old q)) }
     {
         match self.by_name.insert(name, value) {
             Ok(_) => Ok(()),
@@ -53,8 +54,8 @@ impl<'a> Values<'a> {
 
     // Gives the gate's call its address, if the gate is that of a call.
     fn add_gate(&mut self, gate: Gate) -> Result<(), AllocError>
-        ensures { OnOk result ((q : List ℕ) → value_of self.new q
-            ≡ value_else (find_global (symbols_of_gate gates_start gate) q) (value_of self.old q)) }
+        ensures { OnOk result ((q : List ℕ) → entry_of self.new q
+            ≡ entry_else (find_global (symbols_of_gate gates_start gate) q) (entry_of self.old q)) }
     {
         match gate_name(gate.number()) {
             Some(name) => self.set(name.as_bytes(), gate.address(GATES_START)),
@@ -64,7 +65,7 @@ impl<'a> Values<'a> {
 
     /// The values at the start: each call has the address of its gate.
     pub(crate) fn opening(alloc: Global) -> Result<Values<'a>, AllocError>
-        ensures { IfOk result (λ v. Means v (bind opening_symbols)) }
+        ensures { IfOk result (λ v. Means v opening_symbols) }
     {
         let mut values = Values::new(alloc);
         for gate in Gate::all() {
@@ -80,8 +81,8 @@ impl<'a> Values<'a> {
         symbol: &'a Sym,
         value: Option<u32>,
     ) -> Result<(), AllocError>
-        ensures { OnOk result ((sections : List Sect) (q : List ℕ) → value_of self.new q
-            ≡ value_else (find_global (export_of sections mode 0 symbol.now value) q) (value_of self.old q)) }
+        ensures { OnOk result ((sections : List Sect) (q : List ℕ) → entry_of self.new q
+            ≡ entry_else (find_global (export_of sections mode 0 symbol.now value) q) (entry_of self.old q)) }
     {
         match value {
             Some(value) if is_visible(mode, symbol) => self.set(symbol.name.bytes(), value),
@@ -97,13 +98,31 @@ impl<'a> Values<'a> {
         values: &[Option<u32>],
     ) -> Result<(), AllocError>
         requires { length symbols.now ≡ length values.now }
-        ensures { OnOk result ((sections : List Sect) (q : List ℕ) → value_of self.new q
-            ≡ value_else (find_global (exports_from sections mode 0 symbols.now values.now) q) (value_of self.old q)) }
+        ensures { OnOk result ((sections : List Sect) (q : List ℕ) → entry_of self.new q
+            ≡ entry_else (find_global (exports_from sections mode 0 symbols.now values.now) q) (entry_of self.old q)) }
     {
         for (i, symbol) in symbols.iter().enumerate() {
             self.add_symbol(mode, symbol, values[i])?;
         }
         Ok(())
+    }
+
+    // Whether a name has a value.
+    #[tactic(auto, unfolding(crate::specs::Values::entry_of))]
+    fn has(&self, name: &[u8]) -> bool
+        ensures { result ≡ is_some (entry_of self.now name.now) }
+    {
+        self.by_name.get(name).is_some()
+    }
+
+    /// Whether the module doesn't define the symbol, the symbol isn't weak, and its name has no value.
+    pub(crate) fn is_valueless(&self, symbol: &Sym) -> bool
+        ensures { result ≡ is_valueless_lem self.now symbol.now }
+    {
+        match symbol.place {
+            SymPlace::Undefined => symbol.binding != STB_WEAK && !self.has(symbol.name.bytes()),
+            _ => false,
+        }
     }
 
     // The value of a symbol: its own, or else that of its name.

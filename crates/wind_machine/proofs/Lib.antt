@@ -26,4 +26,5 @@ pub mod Evaluating
 pub mod Slotted
 pub mod SlotSteps
 pub mod SlotRuns
+pub mod SlotRemovals
 pub use Rattle.live_loading.proofs.KernelCallsReading

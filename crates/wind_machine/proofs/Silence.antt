@@ -5,6 +5,8 @@ use Rattle.wind_machine.specs.State.{State}
 use Rattle.wind_machine.specs.Machine.{file_asked, machine_step}
 use Rattle.wind_machine.specs.Run.{Answers, after, text}
 use Rattle.wind_machine.specs.Silent.{IsSilentStep, SilentSteps, GoesOn, SilentLaw}
+use Rattle.wind_machine.proofs.Asking.{asks_at_gate}
+use Rattle.wind_machine.proofs.Counting.{counted}
 
 module _ (said : Answers) (s u : State) (i : ℕ) where
   -- before the first
@@ -33,10 +35,10 @@ module _ (said : Answers) (s u : State) (i : ℕ) where
       record {
         state = state ∙ ap (after said s) end;
         text_is = ap (text said s) (sym end) ∙ wrote;
-        counted = omega (arith, step.counted, on.counted);
+        counted = omega (arith, counted (said n) m t (step.steps (said n)), on.counted);
         uneventful = step.uneventful ∙ on.uneventful;
         made = λ j least below. below_more (λ x. i ≤ x → IsSome (machine_step (said x) (after said s x))) n (λ x less from. on.made x from less) (λ from. subst IsSome (sym taken) refl) j (omega (arith, below)) least;
-        unasked = λ j least below. below_more (λ x. i ≤ x → file_asked (after said s x) ≡ None) n (λ x less from. on.unasked x from less) (λ from. subst (λ v. file_asked v ≡ None) on.state step.unasked) j (omega (arith, below)) least;
+        unasked = λ j least below. below_more (λ x. i ≤ x → file_asked (after said s x) ≡ None) n (λ x less from. on.unasked x from less) (λ from. subst (λ v. file_asked v ≡ None) on.state (asks_at_gate m step.who step.instruction.comes step.instruction.no_gate)) j (omega (arith, below)) least;
       }
 
   silent_goes : (t : State) (k : ℕ) → u ≡ after said s i → SilentSteps k u t → GoesOn said s i k u t

@@ -1,13 +1,12 @@
 -- The interrupts of devices over steps and runs.
 use Rattle.std.proofs.Common.{◌≡◌, ℕ, zero, suc, ◌+◌, ◌<◌, ◌≤◌, Bool, true, false, cond, List, map, length, Option, None, Some, IfSome, add-one, refl, sym, ap, ap₂, ◌∙◌, subst, arith, ⊎_elim, get_or, replicate}
-use Rattle.std.specs.Prelude.{◌&&◌, nat_lt, slice_index, unwrap_or}
+use Rattle.std.specs.Prelude.{◌&&◌, nat_lt, unwrap_or}
 use Rattle.std.specs.List.{range_with_len}
 use Rattle.std.proofs.lemmas.Bool.{and_parts, cases_eq, eq-eqb, ne_eqb}
 use Rattle.std.proofs.lemmas.Bool.Decides.{nat_tests}
 use Rattle.std.proofs.lemmas.List.{get_or_past}
 use Rattle.std.proofs.lemmas.List.FromFn.{get_or-map-range_with_len, length-map-range_with_len}
 use Rattle.wind_base.specs.Limits.{most_slots, greatest_word}
-use Rattle.wind_base.specs.declared.gate.Gate.TheVariants as gates
 use Rattle.wind_base.specs.declared.board_kind.BoardKind.{BoardKind}
 use Rattle.wind_base.specs.declared.profile.Profile.{Profile}
 use Rattle.wind_outside.specs.Devices.{DeviceState}
@@ -23,30 +22,29 @@ use Rattle.dev_irq.proofs.Lines.{lines_stay, first_is}
 use Rattle.dev_irq.proofs.Counting.{counts}
 use Rattle.dev_irq.proofs.Nexts.{nexts}
 use Rattle.live_loading.specs.CallRowsIrqRows.{is_device}
-use Rattle.live_loading.specs.KernelWorldActors.{caller_words}
 use Rattle.live_loading.specs.KernelWorldOpening.{no_irqs, opening_world}
 use Rattle.live_loading.specs.KernelWorldActor.TheVariants.{Task as by_task, Interrupt}
 use Rattle.live_loading.specs.Said.{FileSaid}
 use Rattle.wind_machine.specs.State.{State}
-use Rattle.wind_machine.specs.Processor.{bus_of, gate_under}
+use Rattle.wind_machine.specs.Processor.{bus_of}
 use Rattle.wind_machine.specs.Events.{cleared, unreserved_world, without_next, event_step, delivery_step}
 use Rattle.wind_machine.specs.ActorSteps.{step_of, routine_step}
 use Rattle.wind_machine.specs.Next.{occupied, is_open, due_delivery, next}
-use Rattle.wind_machine.specs.Machine.{opening, settled_state, state_after, machine_step, actor_of}
+use Rattle.wind_machine.specs.Machine.{opening, settled_state, state_after, machine_step}
 use Rattle.wind_machine.specs.Run.{Answers, after}
-use Rattle.wind_machine.specs.Interrupts.{pending, raised_by, delivered_by, is_removed, SlotLaw, LinesOpenLaw, LinesLaw, raised_in, delivered_in, NeverRemoved, IsEmptySlot, InterruptLaw}
+use Rattle.wind_machine.specs.Interrupts.{IsRemoval, pending, raised_by, delivered_by, is_removed, SlotLaw, LinesOpenLaw, LinesLaw, raised_in, delivered_in, NeverRemoved, IsEmptySlot, InterruptLaw}
 use Rattle.wind_machine.specs.declared.next.Next.{Next}
 use Rattle.wind_machine.specs.declared.next.Next.TheVariants.{Deliver, Come, Arrive, Routine, Act, Load, Jump, Over}
 use Rattle.wind_machine.proofs.Order.{by_next, over_alone}
 use Rattle.wind_machine.proofs.Steps.{if_settled, if_each}
 use Rattle.wind_machine.proofs.Slotted.{slotted, Leaves, left, clash, not_gone, has_line}
-use Rattle.wind_machine.proofs.SlotSteps.{step_passes, routine_step_passes, load_step_leaves}
+use Rattle.wind_machine.proofs.SlotSteps.{removed_in_call, step_passes, routine_step_passes, load_step_leaves}
 
 -- ---- what a step for which this comes next does to slot i
 pub record Does (s u : State) (n : Next) (i : ℕ) : Type 0 where
   pub counts : pending u i + delivered_by i n ≡ cond (is_removed s u i) 0 (pending s i + raised_by s i n)
   pub gone : is_occupied s.world.slots i ≡ false → is_occupied u.world.slots i ≡ false
-  pub removed : is_removed s u i ≡ true → (who : ℕ) × (actor_of n ≡ Some (by_task who)) × (gate_under s.world (by_task who) ≡ Some gates.DevRemove) × (slice_index (caller_words s.world (by_task who)) 3 ≡ i)
+  pub removed : is_removed s u i ≡ true → (who : ℕ) × IsRemoval s n who i
 
 -- and the controller is valid after it
 pub record DoesAll (s u : State) (n : Next) : Type 0 where
@@ -221,7 +219,7 @@ acting s who is =
       slot = λ i. record {
         counts = same_counts s u i (h.counts i);
         gone = h.gone i;
-        removed = λ yes. let r = h.removed i yes in (who, refl, r.2, r.3);
+        removed = λ yes. let r = h.removed i yes in (who, record { acts = refl; calls = removed_in_call s is who i yes; gate = r.2; slot = r.3; device = r.4 });
       };
     }
 

@@ -1,10 +1,7 @@
 -- What each step does to the device slots and their interrupts.
 use Rattle.std.proofs.Common.{◌≡◌, ℕ, true, false, cond, eqb, List, [], ◌∷◌, Option, None, Some, Ok, Err, refl, sym, ap, subst}
-use Rattle.std.specs.Prelude.{Result, slice_index, unwrap_or}
-use Rattle.std.specs.Option.{option_map}
-use Rattle.std.proofs.lemmas.Bool.{eqb-true}
-use Rattle.wind_base.specs.Boards.{board_rules}
-use Rattle.wind_base.specs.Gates.{gate_at}
+use Rattle.std.specs.Prelude.{Result, slice_index}
+use Rattle.std.proofs.lemmas.Bool.{eqb-true, eq-eqb}
 use Rattle.wind_base.specs.declared.gate.Gate.{Gate}
 use Rattle.wind_base.specs.declared.regs.Regs.{Regs}
 use Rattle.ppc_core.specs.Instructions.{exec_of}
@@ -24,7 +21,6 @@ use Rattle.dev_irq.specs.State.{pending_of, IsIrqs}
 use Rattle.shell_eval.specs.Pending.{Pending}
 use Rattle.shell_eval.specs.Evaluate.{Ending, Value, Call, Fault, Waiting, evaluate}
 use Rattle.live_loading.specs.KernelWorldState.{WorldState}
-use Rattle.live_loading.specs.KernelWorldStarting.{no_regs}
 use Rattle.id_table.specs.Idents.{shell_id}
 use Rattle.live_loading.specs.KernelWorldActors.{caller_words}
 use Rattle.live_loading.specs.KernelWorldAllowed.{is_call}
@@ -41,13 +37,13 @@ use Rattle.wind_machine.specs.Task.{aborted}
 use Rattle.wind_machine.specs.Shell.{at_prompt, returned, eval_state, with_eval, came_to, eval_part}
 use Rattle.wind_machine.specs.Processor.{bus_of, regs_of, with_regs, trap_text, trapped, is_return, without_own, return_part, called, gate_part, executed, word_part, part_at, gate_under, actor_part}
 use Rattle.wind_machine.specs.Events.{cleared, unreserved_world}
-use Rattle.wind_machine.specs.ActorSteps.{at_step_start, shell_step, task_step, step_of, routine_step, load_step}
+use Rattle.wind_machine.specs.ActorSteps.{IsOnProcessor, at_step_start, shell_step, task_step, step_of, routine_step, load_step}
 use Rattle.wind_machine.specs.declared.phase.Phase.{Phase}
 use Rattle.wind_machine.specs.declared.phase.Phase.TheVariants as phases
 use Rattle.wind_machine.proofs.Executing.{IfDone, executing_lasts}
 use Rattle.wind_machine.proofs.Evaluating.{evaluating_lasts}
-use Rattle.wind_machine.proofs.Free.{own_found}
-use Rattle.wind_machine.proofs.Slotted.{slotted, Leaves, left, Passes, passes_by, call_passes, HasPlaces, places_last}
+use Rattle.wind_machine.proofs.Asking.{own_gate, own_words}
+use Rattle.wind_machine.proofs.Slotted.{slotted, is_gone, Leaves, left, clash, not_gone, Passes, passes_by, call_passes, HasPlaces, places_last}
 
 -- dropping an actor's reservation touches no slot
 own_slotted : (w : WorldState) (who : Actor) → slotted (without_own w who) ≡ slotted w
@@ -141,13 +137,6 @@ module _ (w : WorldState) (is : IsIrqs w.irqs) where
   unfolding load_call
   load_leaves name said = effect_leaves (left_gate w shell) name (mode_wanted w) said refl
 
--- ---- the gate and the words of the task that makes the step are the same at the step's beginning
-own_gate : (w : WorldState) (who : ℕ) → gate_under (at_step_start w who) (by_task who) ≡ gate_under w (by_task who)
-own_gate w who = ap (λ o. gate_at (board_rules w.board).gates_start (unwrap_or (option_map (λ t. t.regs) o) no_regs).pc) (own_found w.kern.tasks who)
-
-own_words : (w : WorldState) (who : ℕ) → caller_words (at_step_start w who) (by_task who) ≡ caller_words w (by_task who)
-own_words w who = ap (λ o. (unwrap_or (option_map (λ t. t.regs) o) no_regs).gpr) (own_found w.kern.tasks who)
-
 -- ---- the steps of a state
 module _ (s : State) (is : IsIrqs s.world.irqs) where
   -- what the step of this task does
@@ -169,6 +158,18 @@ module _ (s : State) (is : IsIrqs s.world.irqs) where
   shell_step_passes phases.Read = leaves (shell_step phases.Read s) (left (slotted s.world) is)
   shell_step_passes phases.Eval = leaves (shell_step phases.Eval s) (eval_leaves (at_step_start s.world shell_id) is s.shell.trees)
   shell_step_passes phases.Call = task_step_passes shell_id
+
+  -- only in phase Call does a step of the shell's task remove a device
+  removed_by_shell : (p : Phase) (i : ℕ) → is_gone (slotted s.world) (slotted (shell_step p s).world) i ≡ true → p ≡ phases.Call
+  removed_by_shell phases.Prompt i e = absurd (clash _ e (not_gone (slotted s.world) (slotted (shell_step phases.Prompt s).world) i refl))
+  removed_by_shell phases.Read i e = absurd (clash _ e (not_gone (slotted s.world) (slotted (shell_step phases.Read s).world) i refl))
+  removed_by_shell phases.Eval i e =
+      absurd (clash _ e (not_gone (slotted s.world) (slotted (shell_step phases.Eval s).world) i ((eval_leaves (at_step_start s.world shell_id) is s.shell.trees).places i)))
+  removed_by_shell phases.Call i e = refl
+
+  pub removed_in_call : (who i : ℕ) → is_gone (slotted s.world) (slotted (step_of s who).world) i ≡ true → IsOnProcessor s.shell.phase (by_task who)
+  removed_in_call who i e own =
+      removed_by_shell s.shell.phase i (subst (λ b. is_gone (slotted s.world) (slotted (cond b (shell_step s.shell.phase s) (task_step s who)).world) i ≡ true) (eq-eqb who shell_id own) e)
 
   pub step_passes : (who : ℕ) → PassesBy who (step_of s who)
   step_passes who =

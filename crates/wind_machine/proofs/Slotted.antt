@@ -25,7 +25,8 @@ use Rattle.live_loading.specs.KernelWorldActor.{Actor}
 use Rattle.live_loading.specs.KernelWorldActor.TheVariants.{Task, Interrupt}
 use Rattle.live_loading.specs.KernelWorldReply.{Reply}
 use Rattle.live_loading.specs.KernelWorldReply.TheVariants.{Answer, Refusal, Later, Gone}
-use Rattle.live_loading.specs.KernelCallsCalls.{row_of, refusal_before, row_unless, made, call}
+use Rattle.live_loading.specs.CallRowsUnless.{unless}
+use Rattle.live_loading.specs.KernelCallsCalls.{row_of, refusal_before, declined, made, call}
 use Rattle.live_loading.proofs.KernelCallsRemoving.{slot_law, none_back}
 use Rattle.wind_machine.proofs.Executing.{Lasts}
 
@@ -55,7 +56,7 @@ left p is = record { places = λ i. refl; counts = λ i. refl; lines = is }
 pub record Passes (o : Option Gate) (a : Actor) (words : List ℕ) (p q : Slotted) : Type 0 where
   pub counts : (i : ℕ) → pending_of q.irqs i ≡ cond (is_gone p q i) 0 (pending_of p.irqs i)
   pub gone : (i : ℕ) → is_occupied p.slots i ≡ false → is_occupied q.slots i ≡ false
-  pub removed : (i : ℕ) → is_gone p q i ≡ true → (who : ℕ) × (a ≡ Task who) × (o ≡ Some gates.DevRemove) × (slice_index words 3 ≡ i)
+  pub removed : (i : ℕ) → is_gone p q i ≡ true → (who : ℕ) × (a ≡ Task who) × (o ≡ Some gates.DevRemove) × (slice_index words 3 ≡ i) × (is_device p.slots i ≡ true)
   pub lines : IsIrqs q.irqs
 
 -- ---- tests
@@ -115,7 +116,7 @@ replied_valid g w a Gone is = is
 
 made_valid : (g : Gate) (w : WorldState) (a : Actor) → IsIrqs w.irqs → IsIrqs (made g w a).world.irqs
 made_valid g w a is = go (refusal_before g a) where
-  go : (o : Option Errno) → IsIrqs (row_unless o (call_by g w a) (left_gate w a) a).world.irqs
+  go : (o : Option Errno) → IsIrqs (unless o (declined (left_gate w a)) (row_of (call_by g w a) (left_gate w a) a)).world.irqs
   go None = row_valid g w.ram (caller_words w a) (left_gate w a) a (gate_valid w a is)
   go (Some e) = gate_valid w a is
 
@@ -128,7 +129,7 @@ call_passes g w a is = record {
   gone = λ i. none_back g w a i;
   removed = λ i yes.
       let r = (slot_law g w a i).removed yes in
-      (r.0, r.1.caller, ap (λ h. Some h) r.1.gate, ap (λ b. slice_index (caller_words w b) 3) r.1.caller ∙ r.1.slot);
+      (r.0, r.1.caller, ap (λ h. Some h) r.1.gate, ap (λ b. slice_index (caller_words w b) 3) r.1.caller ∙ r.1.slot, r.1.device);
   lines = call_valid g w a is;
 }
 

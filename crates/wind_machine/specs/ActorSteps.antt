@@ -1,10 +1,11 @@
 -- The step of a task, and that of an interrupt routine. Each takes one unit of board time.
-use Rattle.std.specs.Prelude.{ℕ, ◌+◌, List, Option, Some, None, ◌==◌, if◌then◌else◌}
+use Rattle.std.specs.Prelude.{◌≡◌, ℕ, ◌+◌, List, Option, Some, None, ◌==◌, if◌then◌else◌}
 use Rattle.wind_base.specs.declared.gate.Gate.{Gate}
 use Rattle.shell_parse.specs.Reading.{read_line}
 use Rattle.con_line.specs.Lines.{has_line, first_line, line_dropped}
 use Rattle.live_loading.specs.KernelWorldState.{WorldState}
 use Rattle.id_table.specs.Idents.{shell_id}
+use Rattle.live_loading.specs.KernelWorldActor.{Actor}
 use Rattle.live_loading.specs.KernelWorldActor.TheVariants.{Task as by_task, Interrupt}
 use Rattle.live_loading.specs.KernelCallsCalls.{file_wanted}
 use Rattle.live_loading.specs.Said.{FileSaid}
@@ -62,6 +63,11 @@ shell_step phases.Call s = task_step s shell_id
 -- the step of the task with this id
 abbrev pub step_of : State → ℕ → State
 step_of s who = if who == shell_id then shell_step s.shell.phase s else task_step s who
+
+-- who makes instructions and kernel calls: every task and routine, but the shell's task only during a call of the shell
+abbrev pub IsOnProcessor : Phase → Actor → Type 0
+IsOnProcessor p (by_task who) = who ≡ shell_id → p ≡ phases.Call
+IsOnProcessor p Interrupt = Unit {0}
 
 -- ---- the load of a file, which is a step of the shell's task
 -- the file that the shell's task needs: at the gate of ld, the file with the name that it hands in

@@ -17,6 +17,10 @@ HasItsLine phase finished = phase ≡ phases.Read → finished ≢ []
 abbrev pub settle_sinces : ℕ
 settle_sinces = 256
 
+-- the most order numbers that one step hands out
+abbrev pub step_sinces : ℕ
+step_sinces = 8192
+
 -- the invariant but for exact priorities, with this many order numbers left
 pub record Keeps (spare : ℕ) (s : State) : Type 0 where
   -- the edited line and the finished lines keep the console's invariant
@@ -31,7 +35,7 @@ pub record Keeps (spare : ℕ) (s : State) : Type 0 where
   -- whoever has a reservation ran last
   pub reserved : ReservedBy s.world.kern.last s.world.kern
   -- the counters are bounded by the steps made
-  pub sinces : s.world.kern.next_since + spare ≤ 8192 * (s.steps + 1)
+  pub sinces : s.world.kern.next_since + spare ≤ step_sinces * (s.steps + 1)
   pub ticks : s.world.kern.tick ≤ s.steps
   pub within : Within s.steps s.world
   pub names : s.world.names ≤ s.steps + 1

@@ -13,16 +13,20 @@ use Rattle.board_bus.specs.Slots.{is_occupied, slot_number}
 use Rattle.board_bus.specs.Access.{faults_at}
 use Rattle.dev_irq.specs.State.{pending_of, IsIrqs}
 use Rattle.live_loading.specs.CallRowsIrqRows.{is_device}
+use Rattle.live_loading.specs.KernelCallsRemoving.{OnlyRemoves}
+use Rattle.live_loading.specs.KernelWorldState.{WorldState}
 use Rattle.live_loading.specs.KernelWorldActors.{caller_words}
 use Rattle.live_loading.specs.KernelWorldActor.TheVariants.{Task as by_task}
 use Rattle.live_loading.specs.Said.{FileSaid}
 use Rattle.wind_machine.specs.State.{State}
-use Rattle.wind_machine.specs.Processor.{bus_of, gate_under}
+use Rattle.wind_machine.specs.Part.{part_of}
+use Rattle.wind_machine.specs.Processor.{bus_of, gate_under, without_own}
+use Rattle.wind_machine.specs.ActorSteps.{IsOnProcessor, at_step_start, stepped}
 use Rattle.wind_machine.specs.Next.{next, due_delivery}
-use Rattle.wind_machine.specs.Machine.{machine_step, stepping, opening}
+use Rattle.wind_machine.specs.Machine.{machine_step, settled_state, opening}
 use Rattle.wind_machine.specs.Run.{Answers, after}
 use Rattle.wind_machine.specs.declared.next.Next.{Next}
-use Rattle.wind_machine.specs.declared.next.Next.TheVariants.{Deliver, Come}
+use Rattle.wind_machine.specs.declared.next.Next.TheVariants.{Deliver, Come, Act}
 
 -- ---- one step
 -- how many interrupts of slot i are pending
@@ -49,18 +53,38 @@ delivered_by i n = 0
 abbrev pub is_removed : State → State → ℕ → Bool
 is_removed s t i = is_occupied s.world.slots i && not (is_occupied t.world.slots i)
 
+-- what comes next is a task's call of devRemove with the number of slot i, which holds a device
+pub record IsRemoval (s : State) (n : Next) (who i : ℕ) : Type 0 where
+  pub acts : n ≡ Act who
+  pub calls : IsOnProcessor s.shell.phase (by_task who)
+  pub gate : gate_under s.world (by_task who) ≡ Some gates.DevRemove
+  pub slot : slice_index (caller_words s.world (by_task who)) 3 ≡ i
+  pub device : is_device s.world.slots i ≡ true
+
 -- what a step does to slot i and its interrupts
 pub record StepsSlot (s t : State) (i : ℕ) : Type 0 where
   -- the count changes exactly by what is raised and what is delivered, and becomes 0 at a removal
   pub counts : pending t i + delivered_by i (next s) ≡ (if is_removed s t i then 0 else pending s i + raised_by s i (next s))
   -- an empty slot stays empty
   pub gone : is_occupied s.world.slots i ≡ false → is_occupied t.world.slots i ≡ false
-  -- only devRemove removes a device: a task at its gate, with the slot in r3
-  pub removed : is_removed s t i ≡ true → (who : ℕ) × (stepping s ≡ Some (by_task who)) × (gate_under s.world (by_task who) ≡ Some gates.DevRemove) × (slice_index (caller_words s.world (by_task who)) 3 ≡ i)
+  -- only devRemove removes a device
+  pub removed : is_removed s t i ≡ true → (who : ℕ) × IsRemoval s (next s) who i
 
 -- this holds for every step from a state with a valid controller, whatever is said of a file
 abbrev pub SlotLaw : Type 0
 SlotLaw = (said : FileSaid) (s t : State) (i : ℕ) → IsIrqs s.world.irqs → machine_step said s ≡ Some t → StepsSlot s t i
+
+-- the task's call leaves a world in which the device of slot i is removed and nothing else changed but the task's answer;
+-- the rest is what each step of a task does: reservations and the output are dropped before it, the task's own
+-- reservation after it, the task is noted as the last that ran, the step is counted and priorities are settled
+pub record OnlyRemovesIn (s t : State) (who i : ℕ) : Type 0 where
+  pub left : WorldState
+  pub only : OnlyRemoves (at_step_start s.world who) left who i
+  pub step : t ≡ settled_state (stepped s who (part_of s.shell (without_own left (by_task who))))
+
+-- a removal changes nothing else
+abbrev pub RemovalLaw : Type 0
+RemovalLaw = (said : FileSaid) (s t : State) (who i : ℕ) → IsRemoval s (next s) who i → machine_step said s ≡ Some t → OnlyRemovesIn s t who i
 
 -- the controller is valid in the opening state, and after every step from a state in which it is
 abbrev pub LinesOpenLaw : Type 0

@@ -11,6 +11,7 @@ pub mod Next
 pub mod Part
 pub mod Processor
 pub mod Routine
+pub mod Replies
 pub mod Reserving
 pub mod Run
 pub mod Silent
@@ -22,3 +23,4 @@ pub use Rattle.live_loading.specs.KernelCallsCalls
 pub use Rattle.live_loading.specs.KernelCallsSpace
 pub use Rattle.live_loading.specs.Said as LiveLoadingSaid
 pub use Rattle.live_loading.specs.Loading as LiveLoadingLoading
+pub use Rattle.live_loading.specs.Replies as LiveLoadingReplies

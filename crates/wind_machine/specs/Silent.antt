@@ -22,18 +22,16 @@ pub record IsInstructionOf (who : Actor) (s : State) : Type 0 where
   pub in_call : is_shell who ≡ true → s.shell.phase ≡ phases.Call
   pub no_gate : gate_under s.world who ≡ None
 
--- one step leads from one state to the next; it needs no file, writes nothing, and takes no event. It is an instruction
--- of the task or routine that made the last one, and would go on; the task that ran last is the same after it
+-- one step leads from one state to the next; it writes nothing and takes no event. It is an instruction of the task or
+-- routine that made the last one, and would go on; the task that ran last is the same after it
 pub record IsSilentStep (s t : State) : Type 0 where
   pub who : Actor
   pub last : last_actor s.world ≡ Some who
   pub instruction : IsInstructionOf who s
   pub goes_on : last_actor t.world ≡ Some who
   pub last_stays : t.world.kern.last ≡ s.world.kern.last
-  pub unasked : file_asked s ≡ None
   pub steps : Steps s t
   pub silent : t.world.output ≡ []
-  pub counted : t.steps ≡ s.steps + 1
   pub uneventful : t.schedule ≡ s.schedule
 
 -- k such steps lead from a state to another

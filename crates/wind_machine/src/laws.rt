@@ -1,7 +1,7 @@
 //! What follows from the machine's definitions alone, whatever the code does.
 
 ghost use Rattle.wind_machine.specs.Laws.{OrderLaw, OverLaw, StartLaw, StepLaw, EffectLaw, SettleLaw, IdleLaw, ChoiceLaw, CountLaw, InstantLaw, SafetyLaw, RunLaw};
-ghost use Rattle.wind_machine.specs.Interrupts.{SlotLaw, LinesOpenLaw, LinesLaw, InterruptLaw};
+ghost use Rattle.wind_machine.specs.Interrupts.{SlotLaw, RemovalLaw, LinesOpenLaw, LinesLaw, InterruptLaw};
 ghost use Rattle.wind_machine.specs.Silent.{SilentLaw};
 
 use live_loading::loading_law;
@@ -73,16 +73,18 @@ pub fn silent_law()
 
 /// The law of slots, of one step. The count of pending interrupts of a slot changes exactly by what
 /// is raised and what is delivered, and becomes 0 if the slot's device is removed. An empty slot
-/// stays empty. Only a task at the gate of devRemove removes a device: that of the slot in r3. The
+/// stays empty. Only a task's call of devRemove removes a device: that of the slot in r3. It
+/// changes nothing else but the task's answer, except what every step of a task does. The
 /// controller is valid at first, and every step keeps it valid.
 pub fn slot_law()
     ensures step { SlotLaw }
+    ensures removal { RemovalLaw }
     ensures open { LinesOpenLaw }
     ensures lines { LinesLaw }
 {}
 
-/// The law of interrupts, of every run. An interrupt is delivered at most once for each time that it
-/// was raised. If the device isn't removed, each is delivered or pending. From the removal of a
+/// The law of interrupts, of every run. An interrupt is delivered at most once for each time that
+/// it was raised. If the device isn't removed, each is delivered or pending. From the removal of a
 /// device on, no interrupt of its slot is delivered, and an access to its addresses faults.
 pub fn interrupt_law()
     ensures { InterruptLaw }

@@ -12,7 +12,8 @@ use Rattle.msg_queue.specs.Laws.{Stock, IsBalanced}
 use Rattle.kernel_world.specs.State.{WorldState}
 use Rattle.id_table.specs.Idents.{shell_id}
 use Rattle.kernel_world.specs.Actors.{is_interrupt, is_shell, caller_words}
-use Rattle.kernel_calls.specs.Calls.{Row, scene_of, row_unless, allowed_row, made, answered, call}
+use Rattle.call_rows.specs.Unless.{unless}
+use Rattle.kernel_calls.specs.Calls.{Row, scene_of, row_of, declined, allowed_row, made, answered, call}
 use Rattle.kernel_world.specs.Allowed.{is_call, is_isr_callable, is_shells_own}
 use Rattle.kernel_world.specs.Replies.{left_gate}
 use Rattle.kernel_world.specs.declared.actor.Actor.{Actor}
@@ -59,17 +60,17 @@ module _ (ram r : List ℕ) where
 -- ---- the row that is made
 module _ (w : WorldState) (kept : IsKept (scene_of w)) (ram r : List ℕ) (a : Actor) where
   -- one that is refused before changes nothing
-  refused : (g : Gate) (e : Errno) → event_in a (call_of g ram r) ≡ None → Balances w (row_unless (Some e) (call_of g ram r) w a).world (scene_of w) (event_in a (call_of g ram r))
+  refused : (g : Gate) (e : Errno) → event_in a (call_of g ram r) ≡ None → Balances w (unless (Some e) (declined w) (row_of (call_of g ram r) w a)).world (scene_of w) (event_in a (call_of g ram r))
   refused g e none = subst (Balances w w (scene_of w)) (sym none) (leaves w w (scene_of w) refl (omega arith))
 
   allowed_balances : (g : Gate) → Balances w (allowed_row g (call_of g ram r) w a).world (scene_of w) (event_in a (call_of g ram r))
   allowed_balances g =
-      elim (is_interrupt a && not (is_isr_callable g)) as (λ b. (is_interrupt a && not (is_isr_callable g)) ≡ b → Balances w (row_unless (cond b (Some errors.NotIsrCallable) (cond (is_shells_own g && not (is_shell a)) (Some errors.NotShell) None)) (call_of g ram r) w a).world (scene_of w) (event_in a (call_of g ram r))) [
+      elim (is_interrupt a && not (is_isr_callable g)) as (λ b. (is_interrupt a && not (is_isr_callable g)) ≡ b → Balances w (unless (cond b (Some errors.NotIsrCallable) (cond (is_shells_own g && not (is_shell a)) (Some errors.NotShell) None)) (declined w) (row_of (call_of g ram r) w a)).world (scene_of w) (event_in a (call_of g ram r))) [
         | true ↦ λ never. refused g errors.NotIsrCallable (none_refused ram r a g never)
         | false ↦ λ allowed.
-            elim (is_shells_own g) as (λ b. is_shells_own g ≡ b → Balances w (row_unless (cond (b && not (is_shell a)) (Some errors.NotShell) None) (call_of g ram r) w a).world (scene_of w) (event_in a (call_of g ram r))) [
+            elim (is_shells_own g) as (λ b. is_shells_own g ≡ b → Balances w (unless (cond (b && not (is_shell a)) (Some errors.NotShell) None) (declined w) (row_of (call_of g ram r) w a)).world (scene_of w) (event_in a (call_of g ram r))) [
               | true ↦ λ own.
-                  elim (not (is_shell a)) as (λ b. Balances w (row_unless (cond b (Some errors.NotShell) None) (call_of g ram r) w a).world (scene_of w) (event_in a (call_of g ram r))) [
+                  elim (not (is_shell a)) as (λ b. Balances w (unless (cond b (Some errors.NotShell) None) (declined w) (row_of (call_of g ram r) w a)).world (scene_of w) (event_in a (call_of g ram r))) [
                     | true ↦ refused g errors.NotShell (none_own ram r a g own)
                     | false ↦ row_balances w kept ram r a g
                   ]

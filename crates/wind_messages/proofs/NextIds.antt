@@ -82,14 +82,11 @@ next-letting_go p k who m =
     let less : KernState = mutex.less_held k who in
     next-if m.inversion_safe k (mutex.dropped p k who) k (next-restored p less who (task_of less.tasks who)) refl
 
-next-taken : (s : MutexState) (who id n : ℕ) (m : Mutex) (o : Option ℕ) → NextSame s.kern (mutex.taken s who id n m o).kern
-next-taken s who id n m None = next_hand s.kern who m
-next-taken s who id n m (Some o) =
-    elim (eqb o who) as (λ b. NextSame s.kern (cond b (mutex.deepen s who id m) (mutex.await s who id n m)).kern) [ true ↦ next-guarded s.kern who m | false ↦ refl ]
-
-next-take_alone : (s : MutexState) (who id n : ℕ) (o : Option Mutex) → NextSame s.kern (mutex.take_alone s who id n o).kern
-next-take_alone s who id n None = refl
-next-take_alone s who id n (Some m) = next-taken s who id n m m.owner
+next-taken : (s : MutexState) (who id n : ℕ) (d : mutex.TakeDeed) → NextSame s.kern (mutex.after_take s who id n d).kern
+next-taken s who id n (mutex.declined e) = refl
+next-taken s who id n (mutex.taken m) = next_hand s.kern who m
+next-taken s who id n (mutex.retaken m) = next-guarded s.kern who m
+next-taken s who id n (mutex.starved m) = refl
 
 next-pass_on : (s : MutexState) (id : ℕ) (m : Mutex) (o : Option Task) → NextSame s.kern (mutex.pass_on s id m o).kern
 next-pass_on s id m None = refl
@@ -101,10 +98,10 @@ next-give_up s who id m =
     let passed : KernState = (mutex.pass_on s id m next).kern in
     next-eased (mutex.letting_go s.profile passed who m) who m 1 ∙ next-letting_go s.profile passed who m ∙ next-pass_on s id m next
 
-next-give_alone : (s : MutexState) (who id : ℕ) (o : Option Mutex) → NextSame s.kern (mutex.give_alone s who id o).kern
-next-give_alone s who id None = refl
-next-give_alone s who id (Some m) =
-    elim (ltb 1 m.depth) as (λ b. NextSame s.kern (cond b (mutex.shallow s who id m) (mutex.give_up s who id m)).kern) [ true ↦ next-eased s.kern who m 1 | false ↦ next-give_up s who id m ]
+next-given : (s : MutexState) (who id : ℕ) (d : mutex.GiveDeed) → NextSame s.kern (mutex.after_give s who id d).kern
+next-given s who id (mutex.denied e) = refl
+next-given s who id (mutex.lowered m) = next-eased s.kern who m 1
+next-given s who id (mutex.given_up m) = next-give_up s who id m
 
 next-ended : (p : Profile) (k : KernState) (who : ℕ) (m : Mutex) (o : Option Task) → NextSame k (mutex.ended p k who m o)
 next-ended p k who m None = refl
@@ -133,10 +130,10 @@ next-followed One k who pri = next-change_pri k who pri
 next-followed Two k who pri = refl
 
 pub next-mutex_take : (s : MutexState) (who id n : ℕ) → NextSame s.kern (mutex.take s who id n).kern
-next-mutex_take s who id n = raises s (mutex.take_alone s who id n (object_of s.mutexes id)) (next-take_alone s who id n (object_of s.mutexes id))
+next-mutex_take s who id n = raises s (mutex.after_take s who id n (mutex.take_deed who n (object_of s.mutexes id))) (next-taken s who id n (mutex.take_deed who n (object_of s.mutexes id)))
 
 pub next-mutex_give : (s : MutexState) (who id : ℕ) → NextSame s.kern (mutex.give s who id).kern
-next-mutex_give s who id = raises s (mutex.give_alone s who id (object_of s.mutexes id)) (next-give_alone s who id (object_of s.mutexes id))
+next-mutex_give s who id = raises s (mutex.after_give s who id (mutex.give_deed who (object_of s.mutexes id))) (next-given s who id (mutex.give_deed who (object_of s.mutexes id)))
 
 pub next-mutex_delete : (s : MutexState) (id : ℕ) → NextSame s.kern (mutex.delete s id).kern
 next-mutex_delete s id = raises s (mutex.delete_alone s id (object_of s.mutexes id)) (next-delete_alone s id (object_of s.mutexes id))

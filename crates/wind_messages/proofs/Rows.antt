@@ -1,15 +1,13 @@
 -- Each row of the kernel's calls agrees with what the queues hold: the rows of queues by what they move; all
 -- others don't touch the queues.
-use Rattle.std.proofs.Common.{◌≡◌, ℕ, ◌≤◌, true, false, cond, leb, List, [], length, Option, None, Some, Result, Ok, Err, refl, arith}
+use Rattle.std.proofs.Common.{◌≡◌, ℕ, ◌+◌, ◌≤◌, true, false, cond, List, [], length, Option, None, Some, Result, Ok, Err, refl, arith}
 use Rattle.std.specs.Prelude.{slice_index}
-use Rattle.wind_base.specs.SemBits.{read_options}
 use Rattle.wind_base.specs.declared.board_kind.BoardKind.{BoardKind}
 use Rattle.wind_base.specs.declared.errno.Errno.{Errno}
 use Rattle.wind_base.specs.declared.errno.Errno.TheVariants as errors
 use Rattle.wind_base.specs.declared.gate.Gate.{Gate}
 use Rattle.wind_base.specs.declared.gate.Gate.TheVariants as gates
 use Rattle.wind_base.specs.declared.semaphore.SemKind.TheVariants as kinds
-use Rattle.wind_base.specs.declared.semaphore.SemOptions.{SemOptions}
 use Rattle.id_table.specs.Rows.{object_of}
 use Rattle.mem_partition.specs.State.{PartState, alloc_of}
 use Rattle.mem_partition.specs.declared.block.PartErr.{PartErr}
@@ -17,34 +15,35 @@ use Rattle.task_block.specs.declared.task.Task.{Task as TaskRecord}
 use Rattle.board_mem.specs.Memory.{has, with_word, string_at}
 use Rattle.wind_core.specs.State.{KernState, task_of, task_named}
 use Rattle.wind_core.specs.Moves.{live_id, spawn_refusal}
-use Rattle.task_safety.specs.Safety.{unsafe_refusal}
+use Rattle.task_safety.specs.Safety.{lessen, unsafe_refusal}
 use Rattle.task_safety.specs.Deletion.{deed_of, asked}
 use Rattle.task_safety.specs.declared.deleting.Deed.{Deed}
 use Rattle.task_safety.specs.declared.deleting.Deed.TheVariants.{Refuses, EndsItself, Removes, Awaits}
 use Rattle.sem_plain.specs.declared.semaphore.Semaphore.{Semaphore}
 use Rattle.sem_plain.specs.Calls as plain
-use Rattle.sem_mutex.specs.Calls as mutex
-use Rattle.sem_mutex.specs.Making as making
 use Rattle.msg_queue.specs.State.{QueueState, Scene, queue_of}
-use Rattle.msg_queue.specs.Comings.{create_refusal, new_queue}
+use Rattle.msg_queue.specs.Comings.{create_refusal, new_queue, created}
 use Rattle.msg_queue.specs.Kept.{IsKept}
 use Rattle.msg_queue.specs.Machine.{Event, accepted_next, taken_next}
 use Rattle.msg_queue.specs.Laws.{Stock, IsBalanced}
 use Rattle.msg_queue.proofs.Traffic.{stock, balanced_still, balanced_send, balanced_receive, balanced_create, balanced_gone}
-use Rattle.isr_watch.specs.Calls.{create_refusal as watchdog_refusal}
+use Rattle.isr_watch.specs.Calls.{create_refusal as watchdog_refusal, created as watchdog_created}
 use Rattle.kernel_world.specs.State.{WorldState}
 use Rattle.kernel_world.specs.declared.objects.Objects.{Objects}
 use Rattle.call_rows.specs.TaskRows.{done, refused, ram_row, task_at, priority_in, suspend_row, resume_row, verify_row, found_row, name_row}
 use Rattle.kernel_world.specs.Actors.{target}
-use Rattle.call_rows.specs.SafetyRows.{deletes, meant, unsafe_unless}
+use Rattle.call_rows.specs.SafetyRows.{deletes, meant}
+use Rattle.call_rows.proofs.RowWalks.{on_made, on_binary, on_counting, on_mutex, on_plain_take, on_mutex_take, on_take, on_plain_give, on_mutex_give, on_give, on_flush, on_delete, on_priority}
+use Rattle.call_rows.specs.Unless.{unless}
 use Rattle.call_rows.specs.SemRows as sem
 use Rattle.call_rows.specs.QueueRows as queue
 use Rattle.call_rows.specs.WatchRows as watch
-use Rattle.call_rows.specs.Spawning.{SpawnState, SpawnRow, spawned_at, spawned_unless, spawned_if, stack_bytes, task_wanted, quick_wanted, spawn_state}
+use Rattle.call_rows.specs.Spawning.{SpawnState, SpawnRow, no_spawn, spawned_at, spawned_if, stack_bytes, task_wanted, quick_wanted, spawn_state}
 use Rattle.kernel_calls.specs.Calls.{of_objects, of_queues, of_watch, of_ram, scene_of, row_of}
 use Rattle.kernel_world.specs.CallWords.{ten_arguments, quick_arguments, call_of}
 use Rattle.kernel_world.specs.declared.actor.Actor.{Actor}
 use Rattle.kernel_world.specs.declared.actor.Actor.TheVariants.{Task as by_task, Interrupt}
+use Rattle.kernel_world.specs.declared.reply.Reply.TheVariants.{Answer, Refusal}
 use Rattle.wind_messages.specs.Messages.{event_in}
 use Rattle.wind_messages.proofs.NextIds.{NextSame, next-resume, next-lessen, next-sem_take, next-sem_give, next-sem_flush, next-sem_delete, next-mutex_take, next-mutex_give, next-mutex_delete, next-priority_set}
 
@@ -81,7 +80,7 @@ names : (k : KernState) (o : Option (List ℕ)) → NextSame k (name_row k o).ke
 names k None = refl
 names k (Some name) = finds k (task_named k.tasks name)
 
-unsafes : (k : KernState) (who : ℕ) (o : Option Errno) → NextSame k (unsafe_unless o k who).kern
+unsafes : (k : KernState) (who : ℕ) (o : Option Errno) → NextSame k (unless o (refused k) (done (lessen k who 1))).kern
 unsafes k who None = next-lessen k who 1
 unsafes k who (Some e) = refl
 
@@ -99,7 +98,7 @@ spawns_at : (s : SpawnState) (x : _) (o : Result ℕ PartErr) → NextLater s (s
 spawns_at s x (Err e) = omega arith
 spawns_at s x (Ok at) = omega arith
 
-spawns_unless : (s : SpawnState) (x : _) (o : Option Errno) → NextLater s (spawned_unless s x o)
+spawns_unless : (s : SpawnState) (x : _) (o : Option Errno) → NextLater s (unless o (no_spawn s) (spawned_at s x (alloc_of s.part (stack_bytes x.stack) 16)))
 spawns_unless s x None = spawns_at s x (alloc_of s.part (stack_bytes x.stack) 16)
 spawns_unless s x (Some e) = omega arith
 
@@ -116,82 +115,43 @@ module _ (k : KernState) (o : Objects) where
   unchanged : (e : Errno) → LeavesQueues k o (sem.refused k o e)
   unchanged e = record { queues = refl; ids = omega arith }
 
-  making_one : (v : Semaphore) (r : Option Errno) → LeavesQueues k o (sem.made_unless r k o v)
-  making_one v None = record { queues = refl; ids = omega arith }
-  making_one v (Some e) = unchanged e
+  making_one : (v : Semaphore) → LeavesQueues k o (sem.made k o v)
+  making_one v = on_made k o (LeavesQueues k o) unchanged v (λ fine. record { queues = refl; ids = omega arith })
 
-  binaries : (state : ℕ) (options : Option SemOptions) → LeavesQueues k o (sem.binary_with k o state options)
-  binaries state None = unchanged errors.InvalidOption
-  binaries state (Some options) =
-      let v : Semaphore = plain.new_semaphore kinds.Binary options state in
-      elim (leb state 1) as (λ b. LeavesQueues k o (cond b (sem.made k o v) (sem.refused k o errors.InvalidState))) [ true ↦ making_one v (plain.create_refusal (sem.sems k o)) | false ↦ unchanged errors.InvalidState ]
+  binaries : (options state : ℕ) → LeavesQueues k o (sem.binary_row k o options state)
+  binaries options state = on_binary k o (LeavesQueues k o) unchanged options state (λ v low. making_one (plain.new_semaphore kinds.Binary v state))
 
-  countings : (count : ℕ) (options : Option SemOptions) → LeavesQueues k o (sem.counting_with k o count options)
-  countings count None = unchanged errors.InvalidOption
-  countings count (Some options) = making_one (plain.new_semaphore kinds.Counting options count) (plain.create_refusal (sem.sems k o))
+  countings : (options count : ℕ) → LeavesQueues k o (sem.counting_row k o options count)
+  countings options count = on_counting k o (LeavesQueues k o) unchanged options count (λ v. making_one (plain.new_semaphore kinds.Counting v count))
 
-  mutex_unless : (options : SemOptions) (r : Option Errno) → LeavesQueues k o (sem.mutex_unless r k o options)
-  mutex_unless options None = record { queues = refl; ids = omega arith }
-  mutex_unless options (Some e) = unchanged e
-
-  mutexes : (options : Option SemOptions) → LeavesQueues k o (sem.mutex_with k o options)
-  mutexes None = unchanged errors.InvalidOption
-  mutexes (Some options) = mutex_unless options (making.create_refusal (sem.mutexes k o))
-
-  -- at a mutex, or at another semaphore
-  by_kind : (id : ℕ) (mutexes plains : sem.ObjectRow) → LeavesQueues k o mutexes → LeavesQueues k o plains → LeavesQueues k o (cond (sem.is_mutex o id) mutexes plains)
-  by_kind id mutexes plains h g = elim (sem.is_mutex o id) as (λ b. LeavesQueues k o (cond b mutexes plains)) [ true ↦ h | false ↦ g ]
-
-  plain_takes : (who id n : ℕ) (r : Option Errno) → LeavesQueues k o (sem.plain_take_unless r k o who id n)
-  plain_takes who id n None = record { queues = refl; ids = omega (arith, next-sem_take (sem.sems k o) who id n (plain.take_deed n (object_of o.semaphores id))) }
-  plain_takes who id n (Some e) = unchanged e
-
-  mutex_takes : (who id n : ℕ) (r : Option Errno) → LeavesQueues k o (sem.mutex_take_unless r k o who id n)
-  mutex_takes who id n None = record { queues = refl; ids = omega (arith, next-mutex_take (sem.mutexes k o) who id n) }
-  mutex_takes who id n (Some e) = unchanged e
+  mutexes : (options : ℕ) → LeavesQueues k o (sem.mutex_row k o options)
+  mutexes options = on_mutex k o (LeavesQueues k o) unchanged options (λ v fine. record { queues = refl; ids = omega arith })
 
   takes : (a : Actor) (id n : ℕ) → LeavesQueues k o (sem.take_row k o a id n)
-  takes Interrupt id n = unchanged errors.NotIsrCallable
-  takes (by_task who) id n = by_kind id (sem.mutex_take k o who id n) (sem.plain_take k o who id n)
-      (mutex_takes who id n (mutex.take_refusal who n (object_of o.mutexes.rows id))) (plain_takes who id n (plain.take_refusal (sem.sems k o) id n))
-
-  plain_gives : (id : ℕ) (r : Option Errno) → LeavesQueues k o (sem.plain_give_unless r k o id)
-  plain_gives id None = record { queues = refl; ids = omega (arith, next-sem_give (sem.sems k o) id (plain.give_deed (plain.next_of (sem.sems k o) id) (object_of o.semaphores id))) }
-  plain_gives id (Some e) = unchanged e
-
-  mutex_gives : (who id : ℕ) (r : Option Errno) → LeavesQueues k o (sem.mutex_give_unless r k o who id)
-  mutex_gives who id None = record { queues = refl; ids = omega (arith, next-mutex_give (sem.mutexes k o) who id) }
-  mutex_gives who id (Some e) = unchanged e
+  takes a id n =
+      on_take k o (LeavesQueues k o) unchanged a id n
+      (λ who is there. on_mutex_take k o (LeavesQueues k o) unchanged who id n (λ fine. record { queues = refl; ids = omega (arith, next-mutex_take (sem.mutexes k o) who id n) }))
+      (λ who other. on_plain_take k o (LeavesQueues k o) unchanged who id n (λ fine.
+      record { queues = refl; ids = omega (arith, next-sem_take (sem.sems k o) who id n (plain.take_deed n (object_of o.semaphores id))) }))
 
   gives : (a : Actor) (id : ℕ) → LeavesQueues k o (sem.give_row k o a id)
-  gives Interrupt id = by_kind id (sem.refused k o errors.NotIsrCallable) (sem.plain_give k o id)
-      (unchanged errors.NotIsrCallable) (plain_gives id (plain.give_refusal (sem.sems k o) id))
-  gives (by_task who) id = by_kind id (sem.mutex_give k o who id) (sem.plain_give k o id)
-      (mutex_gives who id (mutex.give_refusal who (object_of o.mutexes.rows id))) (plain_gives id (plain.give_refusal (sem.sems k o) id))
-
-  plain_flushes : (id : ℕ) (r : Option Errno) → LeavesQueues k o (sem.flush_unless r k o id)
-  plain_flushes id None = record { queues = refl; ids = omega (arith, next-sem_flush (sem.sems k o) id) }
-  plain_flushes id (Some e) = unchanged e
+  gives a id =
+      on_give k o (LeavesQueues k o) unchanged a id
+      (λ who is there. on_mutex_give k o (LeavesQueues k o) unchanged who id (λ fine. record { queues = refl; ids = omega (arith, next-mutex_give (sem.mutexes k o) who id) }))
+      (λ other. on_plain_give k o (LeavesQueues k o) unchanged id (λ fine.
+      record { queues = refl; ids = omega (arith, next-sem_give (sem.sems k o) id (plain.give_deed (plain.next_of (sem.sems k o) id) (object_of o.semaphores id))) }))
 
   flushes : (id : ℕ) → LeavesQueues k o (sem.flush_row k o id)
-  flushes id = by_kind id (sem.refused k o errors.InvalidOperation) (sem.flush_unless (plain.flush_refusal (sem.sems k o) id) k o id)
-      (unchanged errors.InvalidOperation) (plain_flushes id (plain.flush_refusal (sem.sems k o) id))
-
-  plain_deletes : (id : ℕ) (r : Option Errno) → LeavesQueues k o (sem.plain_delete_unless r k o id)
-  plain_deletes id None = record { queues = refl; ids = omega (arith, next-sem_delete (sem.sems k o) id) }
-  plain_deletes id (Some e) = unchanged e
+  flushes id = on_flush k o (LeavesQueues k o) unchanged id (λ other fine. record { queues = refl; ids = omega (arith, next-sem_flush (sem.sems k o) id) })
 
   sem_deletes : (id : ℕ) → LeavesQueues k o (sem.delete_row k o id)
-  sem_deletes id = by_kind id (sem.by_mutexes o (mutex.delete (sem.mutexes k o) id) (done k).reply) (sem.plain_delete_unless (plain.delete_refusal (sem.sems k o) id) k o id)
-      (record { queues = refl; ids = omega (arith, next-mutex_delete (sem.mutexes k o) id) }) (plain_deletes id (plain.delete_refusal (sem.sems k o) id))
+  sem_deletes id =
+      on_delete k o (LeavesQueues k o) unchanged id
+      (λ there. record { queues = refl; ids = omega (arith, next-mutex_delete (sem.mutexes k o) id) })
+      (λ other fine. record { queues = refl; ids = omega (arith, next-sem_delete (sem.sems k o) id) })
 
   priorities : (pri : ℕ) (who : Option ℕ) → LeavesQueues k o (sem.priority_row k o pri who)
-  priorities pri None = unchanged errors.ObjIdError
-  priorities pri (Some id) =
-      elim (leb pri 255) as (λ b. LeavesQueues k o (cond b (sem.by_mutexes o (mutex.priority_set (sem.mutexes k o) id pri) (done k).reply) (sem.refused k o errors.IllegalPriority))) [
-        | true ↦ record { queues = refl; ids = omega (arith, next-priority_set (sem.mutexes k o) id pri) }
-        | false ↦ unchanged errors.IllegalPriority
-      ]
+  priorities pri who = on_priority k o (LeavesQueues k o) unchanged pri who (λ id. record { queues = refl; ids = omega (arith, next-priority_set (sem.mutexes k o) id pri) })
 
 -- ---- the row of each gate
 module _ (w : WorldState) (kept : IsKept (scene_of w)) (ram r : List ℕ) where
@@ -215,15 +175,19 @@ module _ (w : WorldState) (kept : IsKept (scene_of w)) (ram r : List ℕ) where
   creates : (max_msgs max_len options : ℕ) → Balances w (of_queues w (queue.create_row (scene_of w) max_msgs max_len options)).world (scene_of w) None
   creates max_msgs max_len options =
       let q : QueueState = new_queue max_msgs max_len options in
-      elim (create_refusal (length w.objects.queues.queues) w.kern.next_id max_msgs max_len options) as (λ o. Balances w (of_queues w (queue.create_unless o (scene_of w) q)).world (scene_of w) None) [
+      elim (create_refusal (length w.objects.queues.queues) w.kern.next_id max_msgs max_len options) as (λ o. Balances w (of_queues w (unless o (λ e. queue.row_of (scene_of w) (Refusal e)) (queue.row_of (created (scene_of w) q) (Answer w.kern.next_id)))).world (scene_of w) None) [
         | None ↦ balanced_create (scene_of w) q kept refl
         | Some e ↦ none w refl (omega arith)
       ]
 
+  -- the row of a watchdog that is created
+  abbrev watch_made : watch.WatchRow
+  watch_made = watch.row_of (record w.kern { next_id = w.kern.next_id + 1 }) (watchdog_created w.watch w.kern.next_id) (Answer w.kern.next_id)
+
   watch_creates : Balances w (of_watch w (watch.create_row w.kern w.watch)).world (scene_of w) None
   watch_creates =
-      elim (watchdog_refusal (length w.watch.watchdogs) w.kern.next_id) as (λ o. Balances w (of_watch w (watch.create_unless o w.kern w.watch)).world (scene_of w) None) [
-        | None ↦ none (of_watch w (watch.create_unless None w.kern w.watch)).world refl (omega arith)
+      elim (watchdog_refusal (length w.watch.watchdogs) w.kern.next_id) as (λ o. Balances w (of_watch w (unless o (λ e. watch.row_of w.kern w.watch (Refusal e)) watch_made)).world (scene_of w) None) [
+        | None ↦ none (of_watch w watch_made).world refl (omega arith)
         | Some e ↦ none w refl (omega arith)
       ]
 
@@ -239,9 +203,9 @@ module _ (w : WorldState) (kept : IsKept (scene_of w)) (ram r : List ℕ) where
   row_balances (by_task who) gates.TaskUnsafe = by_tasks (by_task who) gates.TaskUnsafe refl (unsafes w.kern who (unsafe_refusal (task_of w.kern.tasks who)))
   row_balances a gates.TaskIdVerify = by_tasks a gates.TaskIdVerify refl (verifies w.kern (live_id w.kern.tasks (slice_index r 3)))
   row_balances a gates.TaskNameToId = by_tasks a gates.TaskNameToId refl (names w.kern (string_at w.ram (slice_index r 3)))
-  row_balances a gates.SemBCreate = by_objects _ (binaries w.kern w.objects (slice_index r 4) (read_options (slice_index r 3) kinds.Binary))
-  row_balances a gates.SemCCreate = by_objects _ (countings w.kern w.objects (slice_index r 4) (read_options (slice_index r 3) kinds.Counting))
-  row_balances a gates.SemMCreate = by_objects _ (mutexes w.kern w.objects (read_options (slice_index r 3) kinds.Mutex))
+  row_balances a gates.SemBCreate = by_objects _ (binaries w.kern w.objects (slice_index r 3) (slice_index r 4))
+  row_balances a gates.SemCCreate = by_objects _ (countings w.kern w.objects (slice_index r 3) (slice_index r 4))
+  row_balances a gates.SemMCreate = by_objects _ (mutexes w.kern w.objects (slice_index r 3))
   row_balances a gates.SemTake = by_objects _ (takes w.kern w.objects a (slice_index r 3) (slice_index r 4))
   row_balances a gates.SemGive = by_objects _ (gives w.kern w.objects a (slice_index r 3))
   row_balances a gates.SemFlush = by_objects _ (flushes w.kern w.objects (slice_index r 3))

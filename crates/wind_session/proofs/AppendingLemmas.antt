@@ -4,7 +4,7 @@ use Rattle.std.proofs.lemmas.Bool.{cases_eq}
 use Rattle.std.proofs.lemmas.List.{take-append-drop}
 use Rattle.wind_outside.specs.Counts.{Rose}
 use Rattle.wind_outside.specs.Appending.{AppendedPrefix}
-pub use Rattle.generated_session.proofs.Appended.{appended_both, appended_none}
+pub use Rattle.generated_session.proofs.Appended.{appended_both, appended_none, cut_prefix}
 use Rattle.wind_session.specs.Texts.{IsCutShort, IsText, memory_text, status_text}
 use Rattle.wind_session.specs.Command.{CommandState}
 use Rattle.wind_session.specs.declared.ending.Status.TheVariants as status

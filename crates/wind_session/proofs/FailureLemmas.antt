@@ -17,7 +17,8 @@ use Rattle.wind_session.specs.declared.command.Source.TheVariants as sources
 use Rattle.wind_session.specs.Fetches.{LeadsTo, IsAfterFiles, EndsWithSource, Requests, IsLastRequest, IsFine, IsFailure, FailsLast, file_requests, module_request, outcome_said, requests_of, source_requests, step_request, text_request}
 use Rattle.wind_session.specs.Headline.{IsLeft, IsSummed, status_of}
 use Rattle.wind_session.specs.Modules.{Shelf}
-use Rattle.wind_session.specs.Outside.{Outside}
+use Rattle.generated_session.specs.Puts.{SinkLog}
+use Rattle.wind_session.specs.Outside.{Outside, sink_of}
 use Rattle.wind_session.specs.declared.run.RunEnd.{RunEnd}
 use Rattle.wind_session.specs.declared.run.RunEnd.TheVariants as ends
 use Rattle.wind_session.specs.declared.ending.Status.{Status}
@@ -156,15 +157,15 @@ module _ (folder : List ℕ) (said : Answers) (start : State) (k : ℕ) (old new
   run_fails ends.ReadFault h = run_unread (file_asked (after said start k)) h.last h.last_is h.requests
 
   -- and for a generated session, whose line may fail to be put
-  summed_or : (end : RunEnd) (s : Status) (line : List ℕ) (old_bytes new_bytes : Option (List ℕ)) → IsSummed end s line old_bytes new_bytes → (s ≡ status_of end) ⊎ ((s ≡ status.WriteFault) × (end ≢ ends.ReadFault) × (end ≢ ends.NoMemory))
-  summed_or ends.ReadFault s line old_bytes new_bytes h = inl h.0
-  summed_or ends.NoMemory s line old_bytes new_bytes h = inl h.0
-  summed_or ends.Quiet s line old_bytes new_bytes (inl h) = inl h.0
-  summed_or ends.Quiet s line old_bytes new_bytes (inr h) = inr (h.0, λ e. cc, λ e. cc)
-  summed_or ends.Limit s line old_bytes new_bytes (inl h) = inl h.0
-  summed_or ends.Limit s line old_bytes new_bytes (inr h) = inr (h.0, λ e. cc, λ e. cc)
-  summed_or ends.WriteFault s line old_bytes new_bytes (inl h) = inl h.0
-  summed_or ends.WriteFault s line old_bytes new_bytes (inr h) = inr (h.0, λ e. cc, λ e. cc)
+  summed_or : (end : RunEnd) (s : Status) (texts : List (List ℕ)) (old_log new_log : SinkLog) → IsSummed end s texts old_log new_log → (s ≡ status_of end) ⊎ ((s ≡ status.WriteFault) × (end ≢ ends.ReadFault) × (end ≢ ends.NoMemory))
+  summed_or ends.ReadFault s texts old_log new_log h = inl h.0
+  summed_or ends.NoMemory s texts old_log new_log h = inl h.0
+  summed_or ends.Quiet s texts old_log new_log (inl h) = inl h.0
+  summed_or ends.Quiet s texts old_log new_log (inr h) = inr (h.0, λ e. cc, λ e. cc)
+  summed_or ends.Limit s texts old_log new_log (inl h) = inl h.0
+  summed_or ends.Limit s texts old_log new_log (inr h) = inr (h.0, λ e. cc, λ e. cc)
+  summed_or ends.WriteFault s texts old_log new_log (inl h) = inl h.0
+  summed_or ends.WriteFault s texts old_log new_log (inr h) = inr (h.0, λ e. cc, λ e. cc)
 
   unput : (end : RunEnd) → end ≢ ends.ReadFault → end ≢ ends.NoMemory → Requests end folder said start k old new → FailsLast status.WriteFault old new
   unput ends.Quiet a b h = run_ends status.WriteFault h.last (λ e. cc) h.last_is h.requests
@@ -181,7 +182,7 @@ pub left_fails : (source : Source) (s : Status) (end : RunEnd) (shelf : Shelf) (
 left_fails sources.Files s end shelf start limit board old new (is, ran) =
     subst (λ x. FailsLast x old.requests new.requests) (sym is) (run_fails shelf.name ran.said start ran.k old.requests new.requests end ran.made.fetches)
 left_fails (sources.Generated n) s end shelf start limit board old new h =
-    summed_fails shelf.name h.said start h.k old.requests new.requests end s (summed_or shelf.name h.said start h.k old.requests new.requests end s _ old.bytes new.bytes h.summed) h.made.fetches
+    summed_fails shelf.name h.said start h.k old.requests new.requests end s (summed_or shelf.name h.said start h.k old.requests new.requests end s _ (sink_of old) (sink_of new) h.summed) h.made.fetches
 
 -- after the files of a command
 pub fails_after : (s : Status) (source : Source) (c : CommandState) (old mid new : Option (List Request)) → GrowsBy old mid (source_requests source c) → FailsLast s mid new → FailsLast s old new

@@ -1,11 +1,12 @@
 -- Logged lists, and the requests for files.
-use Rattle.std.proofs.Common.{◌≡◌, ◌≢◌, ℕ, zero, suc, ◌+◌, ◌<◌, ◌≤◌, List, [], ◌∷◌, ◌++◌, Option, Some, None, true, false, cond, inl, inr, refl, sym, ap, subst, ◌∙◌, arith, append_assoc}
+use Rattle.std.proofs.Common.{◌≡◌, ◌≢◌, ℕ, zero, suc, ◌+◌, ◌<◌, ◌≤◌, List, [], ◌∷◌, ◌++◌, Option, Some, None, true, false, cond, inl, inr, refl, sym, ap, subst, ◌∙◌, arith}
 use Rattle.std.specs.Option.{option_map}
 use Rattle.std.specs.Str.{IsUtf8, is_utf8}
 use Rattle.std.proofs.lemmas.List.{append-nil}
 use Rattle.std.proofs.lemmas.Str.{IsUtf8-from_is_utf8, is_utf8-from_IsUtf8}
 use Rattle.wind_base.specs.Limits.{longest_module_file}
 use Rattle.wind_outside.specs.Requests.{GrowsBy, Request}
+pub use Rattle.generated_session.proofs.Appended.{grows_both, grows_none}
 use Rattle.wind_outside.specs.declared.folder.FetchOutcome.{FetchOutcome}
 use Rattle.wind_outside.specs.declared.folder.FetchOutcome.TheVariants as outcomes
 use Rattle.board_player.specs.LiveLoadingSaid.{FileSaid, Held, Missing, TooLong}
@@ -24,18 +25,7 @@ use Rattle.wind_session.specs.declared.ending.Which.{Which}
 use Rattle.wind_session.specs.declared.ending.Which.TheVariants as which
 
 module _ {X : Type 0} where
-  -- a list grows twice
-  pub grows_both : (old mid new : Option (List X)) (a b : List X) → GrowsBy old mid a → GrowsBy mid new b → GrowsBy old new (a ++ b)
-  grows_both old mid None a b p q = tt
-  grows_both old None (Some z) a b p q = absurd q
-  grows_both None (Some y) (Some z) a b p q = absurd p
-  grows_both (Some x) (Some y) (Some z) a b p q = q ∙ ap (λ xs. xs ++ b) p ∙ append_assoc x a b
-
   -- a list that stays as it is grows by nothing
-  pub grows_none : (old : Option (List X)) → GrowsBy old old []
-  grows_none None = tt
-  grows_none (Some x) = sym (append-nil x)
-
   pub grows_same : (old new : Option (List X)) → new ≡ old → GrowsBy old new []
   grows_same old new same = subst (λ now. GrowsBy old now []) (sym same) (grows_none old)
 

@@ -9,7 +9,6 @@ use Rattle.wind_base.specs.Decimal.{decimal_value}
 use Rattle.generated_session.specs.Session.{most_rounds}
 use Rattle.clap.specs.Kinds.{Kinds}
 use Rattle.clap.specs.Words.{App, Row, Rule, Text, fault_of, first_of, matches_of, new_app, new_rule, with_rule}
-use Rattle.wind_session.specs.declared.command.Machine.{Machine}
 use Rattle.wind_session.specs.declared.command.Source.{Source}
 use Rattle.wind_session.specs.declared.command.Source.TheVariants as sources
 
@@ -49,10 +48,13 @@ most_number_digits = 13
 abbrev pub number_value : ℕ → Text → Option ℕ
 number_value most text = if nat_le (length text) most_number_digits then decimal_value most text else None
 
--- ---- the options that choose the machine
+-- ---- the options of every program that plays a session
 -- a command line with these options, each with its default
-abbrev pub with_machine_options : App → App
-with_machine_options app = with_option (codes "board") (codes "1") (with_option (codes "profile") (codes "1") app)
+abbrev pub with_board_options : App → App
+with_board_options app =
+    with_option (codes "board") (codes "1")
+    (with_option (codes "profile") (codes "1")
+    (with_option (codes "modules") (codes ".") app))
 
 -- the rule of inheritance with this number
 abbrev pub profile_of_number : Option ℕ → Option Profile
@@ -80,12 +82,18 @@ most_boards = 2
 abbrev pub board_value : Text → Option BoardKind
 board_value text = board_of_number (number_value most_boards text)
 
--- the machine of clap's matches; none if the rule or the kind is invalid
-abbrev pub machine_value : List Row → Option Machine
-machine_value rows =
+-- their values: the folder of modules, the rule of inheritance, and the kind of board
+pub record BoardOptionsState : Type 0 where
+  pub modules : List ℕ
+  pub profile : Profile
+  pub board : BoardKind
+
+-- those of clap's matches; none if the rule or the kind is invalid
+abbrev pub board_options_value : List Row → Option BoardOptionsState
+board_options_value rows =
     if_valid (profile_value (value_of (codes "profile") rows)) (λ profile.
     if_valid (board_value (value_of (codes "board") rows)) (λ board.
-    Some (record { profile = profile; board = board })))
+    Some (record { modules = value_of (codes "modules") rows; profile = profile; board = board })))
 
 -- ---- the command of a session
 -- what this number of rounds asks for: with 0, the files are played
@@ -116,27 +124,26 @@ pub record CommandState : Type 0 where
 -- a command line with the options of a session, each with its default
 abbrev pub with_session_options : App → App
 with_session_options app =
-    with_machine_options
+    with_board_options
     (with_option (codes "generate") (codes "0")
     (with_option (codes "limit") (codes "1000000")
-    (with_option (codes "modules") (codes ".")
     (with_option (codes "ticks") (codes "ticks.txt")
-    (with_option (codes "console") (codes "console.txt") app)))))
+    (with_option (codes "console") (codes "console.txt") app))))
 
 -- the command of clap's matches; none if a value is invalid
 abbrev pub command_of_rows : List Row → Option CommandState
 command_of_rows rows =
     if_valid (number_value most_steps (value_of (codes "limit") rows)) (λ limit.
     if_valid (source_value (value_of (codes "generate") rows)) (λ source.
-    if_valid (machine_value rows) (λ machine.
+    if_valid (board_options_value rows) (λ options.
     Some (record {
       console = value_of (codes "console") rows;
       ticks = value_of (codes "ticks") rows;
-      modules = value_of (codes "modules") rows;
+      modules = options.modules;
       limit = limit;
       source = source;
-      profile = machine.profile;
-      board = machine.board;
+      profile = options.profile;
+      board = options.board;
     }))))
 
 -- ---- windplay

@@ -4,7 +4,6 @@ use Rattle.std.specs.declared.dyn_box.DynBox.{DynBox}
 use Rattle.std.specs.declared.alloc.Global.{Global}
 use Rattle.wind_outside.specs.Devices.{DeviceState}
 use Rattle.wind_outside.specs.Files.{Files}
-use Rattle.wind_outside.specs.Appending.{Appended, AppendedPrefix}
 use Rattle.board_player.specs.WindMachineState.{State}
 use Rattle.board_player.specs.WindMachineGood.{Good}
 use Rattle.board_player.specs.WindMachineInstants.{IsInstant}
@@ -14,7 +13,8 @@ use Rattle.board_player.specs.WindMachineRun.{Answers}
 use Rattle.wind_session.specs.Modules.{Shelf}
 use Rattle.wind_session.specs.Fetches.{EndsWithInputs}
 use Rattle.wind_session.specs.Keeping.{Around, FolderFailed, SinkFailed}
-use Rattle.wind_session.specs.Outside.{Outside, with_inputs}
+use Rattle.generated_session.specs.Puts.{ArePut, AreCutOff, SinkLog}
+use Rattle.wind_session.specs.Outside.{Outside, sink_of, with_inputs}
 use Rattle.wind_session.specs.Runs.{Made, Ran}
 use Rattle.wind_session.specs.Generated.{summary}
 use Rattle.wind_session.specs.Status.{status_number}
@@ -78,19 +78,18 @@ source_of (Some command) = command.source
 abbrev pub shelf_of : Option Files → CommandState → Shelf
 shelf_of files command = record { files = files; name = command.modules }
 
--- the sink gained the line that sums a run up, or a prefix of it if a put failed; if the run was given up, it
--- gained nothing
-abbrev pub IsSummed : RunEnd → Status → List ℕ → Option (List ℕ) → Option (List ℕ) → Type 0
-IsSummed ends.ReadFault s line old new = (s ≡ status.ReadFault) × (new ≡ old)
-IsSummed ends.NoMemory s line old new = (s ≡ status.NoMemory) × (new ≡ old)
-IsSummed end s line old new = ((s ≡ status_of end) × Appended old new line) ⊎ ((s ≡ status.WriteFault) × AppendedPrefix old new line)
+-- the texts that sum a run up were put, or the put of one of them failed; if the run was given up, nothing was put
+abbrev pub IsSummed : RunEnd → Status → List (List ℕ) → SinkLog → SinkLog → Type 0
+IsSummed ends.ReadFault s texts old new = (s ≡ status.ReadFault) × (new ≡ old)
+IsSummed ends.NoMemory s texts old new = (s ≡ status.NoMemory) × (new ≡ old)
+IsSummed end s texts old new = ((s ≡ status_of end) × ArePut texts old new) ⊎ ((s ≡ status.WriteFault) × AreCutOff texts old new)
 
--- a run of a session generated with n rounds, after which one line is put
+-- a run of a session generated with n rounds, after which the texts of one line are put
 pub record SumsUp (n : ℕ) (s : Status) (end : RunEnd) (shelf : Shelf) (start : State) (limit : ℕ) (board : State) (old new : Outside) : Type 0 where
   pub said : Answers
   pub k : ℕ
   pub made : Made end shelf said start limit k board old.requests new.requests
-  pub summed : IsSummed end s (summary n said start k (status_number (status_of end))) old.bytes new.bytes
+  pub summed : IsSummed end s (summary n said start k (status_number (status_of end))) (sink_of old) (sink_of new)
   pub all_put : end ≢ ends.WriteFault
 
 -- what a run leaves: what its steps wrote, or the line of a generated session

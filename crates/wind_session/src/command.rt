@@ -3,8 +3,8 @@
 ghost use Rattle.std.specs.Prelude.{◌≡◌, ◌≢◌, ◌≤◌, IfOk, IfErr, IfSome, Some, None, true, false, map};
 ghost use Rattle.clap.specs.Words.{app_of, found_of, is_simple_and_free, new_app, rows_of, rule_of};
 ghost use Rattle.wind_base.specs.Limits.{most_steps};
-ghost use Rattle.wind_session.specs.Command.{app as app_lem, HasFewRounds, board_value, command_of as command_of_lem, command_of_rows, machine_value, number_value, option_rule, profile_value, source_value, rows_given, value_of as value_of_lem, with_machine_options as with_machine_options_lem, with_session_options as with_session_options_lem};
-ghost use Rattle.wind_session.specs.Words.{command_state};
+ghost use Rattle.wind_session.specs.Command.{app as app_lem, HasFewRounds, board_options_value, board_value, command_of as command_of_lem, command_of_rows, number_value, option_rule, profile_value, source_value, rows_given, value_of as value_of_lem, with_board_options as with_board_options_lem, with_session_options as with_session_options_lem};
+ghost use Rattle.wind_session.specs.Words.{board_options_state, command_state};
 ghost use Rattle.wind_session.specs.declared.command.CommandErr.TheVariants as errors;
 
 use clap::error::ErrorKind;
@@ -41,9 +41,11 @@ pub struct Command<'a> {
     pub board: BoardKind,
 }
 
-/// The machine on which a session is played.
-#[derive(Clone, Copy, Debug, PartialEq, Eq)]
-pub struct Machine {
+/// The options of every program that plays a session.
+#[derive(Clone, Copy)]
+pub struct BoardOptions<'a> {
+    /// The name of the folder of modules.
+    pub modules: &'a str,
     /// The rule of inheritance.
     pub profile: Profile,
     /// The kind of board.
@@ -71,7 +73,7 @@ impl From<AllocError> for CommandErr {
 }
 
 /// The name of the program.
-pub(crate) const PROGRAM: &str = "windplay";
+pub const PROGRAM: &str = "windplay";
 
 // The most digits that a number may have.
 const NUMBER_DIGITS: usize = 13;
@@ -156,23 +158,30 @@ pub fn option<'a>(
         .help(help)
 }
 
-/// A command line with the options that choose the machine.
-pub fn with_machine_options<'a>(
+// What 1 and 2 are of `--profile`.
+const PROFILE_HELP: &str = "\
+    An inherited priority lasts until its owner gives back all mutexes (1), \
+    or until its cause stops waiting (2)";
+
+/// A command line with the options of every program that plays a session.
+pub fn with_board_options<'a>(
     alloc: Global,
     command: clap::Command<'a>,
 ) -> Result<clap::Command<'a>, AllocError>
-    ensures { IfOk result (λ c. app_of c ≡ with_machine_options_lem (app_of command.entry)) }
+    ensures { IfOk result (λ c. app_of c ≡ with_board_options_lem (app_of command.entry)) }
 {
+    let modules = "The folder of the modules that ld loads";
+    let board = "The board: with 16 MiB of RAM (1) or 64 MiB (2)";
     command
-        .arg(option(
-            alloc,
-            "profile",
-            "N",
-            "1",
-            "The rule by which owners of mutexes inherit priorities, 1 or 2",
-        ))?
-        .arg(option(alloc, "board", "N", "1", "The kind of board, 1 or 2"))
+        .arg(option(alloc, "modules", "DIR", ".", modules))?
+        .arg(option(alloc, "profile", "N", "1", PROFILE_HELP))?
+        .arg(option(alloc, "board", "N", "1", board))
 }
+
+// What `--generate` plays.
+const GENERATE_HELP: &str = "\
+    Plays N generated rounds (a sum, a mutex, a delay), up to 10000, in place of the files, \
+    and sums them up in one line; 0 plays the files";
 
 /// A command line with the options of a session.
 pub fn with_session_options<'a>(
@@ -181,25 +190,15 @@ pub fn with_session_options<'a>(
 ) -> Result<clap::Command<'a>, AllocError>
     ensures { IfOk result (λ c. app_of c ≡ with_session_options_lem (app_of command.entry)) }
 {
+    let console = "The console file: the lines for the shell";
+    let ticks = "The tick file: when ticks, bytes and interrupts come";
+    let limit = "The most steps to make, up to 1000000000000";
     let command = command
-        .arg(option(alloc, "console", "FILE", "console.txt", "The console file"))?
-        .arg(option(alloc, "ticks", "FILE", "ticks.txt", "The tick file"))?
-        .arg(option(alloc, "modules", "DIR", ".", "The folder of modules"))?
-        .arg(option(
-            alloc,
-            "limit",
-            "N",
-            "1000000",
-            "The most steps to make, up to 1000000000000",
-        ))?
-        .arg(option(
-            alloc,
-            "generate",
-            "N",
-            "0",
-            "Plays a session of N generated rounds, up to 10000, in place of the files",
-        ))?;
-    with_machine_options(alloc, command)
+        .arg(option(alloc, "console", "FILE", "console.txt", console))?
+        .arg(option(alloc, "ticks", "FILE", "ticks.txt", ticks))?
+        .arg(option(alloc, "limit", "N", "1000000", limit))?
+        .arg(option(alloc, "generate", "N", "0", GENERATE_HELP))?;
+    with_board_options(alloc, command)
 }
 
 /// A command line without options.
@@ -280,20 +279,26 @@ pub fn valid<T: Drop>(
     }
 }
 
-/// The machine that the arguments choose.
-pub fn machine_of(
+/// The options of every program that plays a session, from what clap found.
+pub fn board_options_of<'a>(
     alloc: Global,
     app: &mut clap::Command<'_>,
-    matches: &ArgMatches,
-) -> Result<Machine, CommandErr>
-    ensures value { IfOk result (λ m. machine_value (rows_of (found_of matches.now)) ≡ Some m) }
-    ensures usage { IfErr result (λ e. e ≢ errors.NoMemory → machine_value (rows_of (found_of matches.now)) ≡ None) }
+    matches: &ArgMatches<'a>,
+) -> Result<BoardOptions<'a>, CommandErr>
+    ensures value { IfOk result (λ o. board_options_value (rows_of (found_of matches.now))
+        ≡ Some (board_options_state o)) }
+    ensures usage { IfErr result (λ e. e ≢ errors.NoMemory
+        → board_options_value (rows_of (found_of matches.now)) ≡ None) }
 {
     let profile = profile(value_of(matches, "profile"));
     let profile = valid(alloc, app, profile, BAD_PROFILE)?;
     let board = board(value_of(matches, "board"));
     let board = valid(alloc, app, board, BAD_BOARD)?;
-    Ok(Machine { profile, board })
+    Ok(BoardOptions {
+        modules: value_of(matches, "modules"),
+        profile,
+        board,
+    })
 }
 
 /// The command of a session, from what clap found.
@@ -310,15 +315,15 @@ pub fn command_of_matches<'a>(
     let limit = valid(alloc, app, limit, BAD_LIMIT)?;
     let source = session_source(value_of(matches, "generate"));
     let source = valid(alloc, app, source, BAD_ROUNDS)?;
-    let Machine { profile, board } = machine_of(alloc, app, matches)?;
+    let options = board_options_of(alloc, app, matches)?;
     Ok(Command {
         console: value_of(matches, "console"),
         ticks: value_of(matches, "ticks"),
-        modules: value_of(matches, "modules"),
+        modules: options.modules,
         limit,
         source,
-        profile,
-        board,
+        profile: options.profile,
+        board: options.board,
     })
 }
 

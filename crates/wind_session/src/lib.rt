@@ -9,15 +9,15 @@ mod modules;
 mod opening;
 mod paths;
 mod playing;
-mod program;
 mod report;
 mod resuming;
 mod run;
 
 pub use board_player::{Board, instant_law};
 pub use command::{
-    Command, CommandErr, Machine, Source, command_line, command_of, command_of_matches, machine_of,
-    matches_of, number_of, option, valid, value_of, with_machine_options, with_session_options,
+    BoardOptions, Command, CommandErr, PROGRAM, Source, board_options_of, command_line, command_of,
+    command_of_matches, matches_of, number_of, option, valid, value_of, with_board_options,
+    with_session_options,
 };
 pub use ending::{Ending, Stand, Status, Which};
 pub use laws::{growing_law, words_law};
@@ -25,7 +25,6 @@ pub use modules::step;
 pub use opening::OpeningDevices;
 pub use paths::path_in;
 pub use playing::{Inputs, inputs_of, play};
-pub use program::play_program;
 pub use report::{put_pieces, tell, tell_no_memory, tell_usage};
 pub use resuming::resume_board;
 pub use run::{RunEnd, Tally, count_board, run_board};

@@ -5,7 +5,8 @@ ghost use Rattle.wind_base.specs.Limits.{most_steps};
 ghost use Rattle.wind_outside.specs.Counts.{Rose};
 ghost use Rattle.board_player.specs.LiveLoadingSaid.{FileSaid, said_of};
 ghost use Rattle.board_player.specs.WindMachineMachine.{file_asked, machine_step};
-ghost use Rattle.board_player.specs.Seen.{seen};
+ghost use Rattle.board_player.specs.WindMachineReplies.{step_reply};
+ghost use Rattle.board_player.specs.Seen.{last_reply, seen};
 ghost use Rattle.wind_session.specs.Keeping.{KeepsFolder};
 ghost use Rattle.wind_session.specs.Modules.{IsSaid, IsSaidOf};
 ghost use Rattle.wind_outside.specs.Requests.{GrowsBy};
@@ -69,7 +70,8 @@ fn load_step<F: Folder>(
         × IsSaidOf (record { files = F.files folder.old; name = modules.now }) name.now said
         × (machine_step said (seen ⟦<dyn Device as Device>⟧ board.old) ≡ Some (seen ⟦<dyn Device as Device>⟧ board.new))
         × GrowsBy (F.requests folder.old) (F.requests folder.new)
-        (module_request modules.now name.now (outcome_said said))) }
+        (module_request modules.now name.now (outcome_said said))
+        × (last_reply board.new ≡ step_reply said (seen ⟦<dyn Device as Device>⟧ board.old))) }
     ensures counted { OnOk result ((seen ⟦<dyn Device as Device>⟧ board.new).steps
         ≡ (seen ⟦<dyn Device as Device>⟧ board.old).steps + 1) }
     ensures given_up { IfErr result (λ end. is_given_up end ≡ true) }
@@ -108,7 +110,8 @@ pub fn step<F: Folder>(
         (seen ⟦<dyn Device as Device>⟧ board.old) said
         × (machine_step said (seen ⟦<dyn Device as Device>⟧ board.old) ≡ Some (seen ⟦<dyn Device as Device>⟧ board.new))
         × GrowsBy (F.requests folder.old) (F.requests folder.new)
-        (step_request modules.now (file_asked (seen ⟦<dyn Device as Device>⟧ board.old)) (outcome_said said))) }
+        (step_request modules.now (file_asked (seen ⟦<dyn Device as Device>⟧ board.old)) (outcome_said said))
+        × (last_reply board.new ≡ step_reply said (seen ⟦<dyn Device as Device>⟧ board.old))) }
     ensures counted { OnOk result ((seen ⟦<dyn Device as Device>⟧ board.new).steps
         ≡ (seen ⟦<dyn Device as Device>⟧ board.old).steps + 1) }
     ensures halts { IfErr result (λ end. IsHalt end (seen ⟦<dyn Device as Device>⟧ board.old)) }

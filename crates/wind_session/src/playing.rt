@@ -4,7 +4,7 @@ ghost use Rattle.std.specs.Prelude.{◌≡◌, ◌≢◌, ℕ, ◌<◌, ◌≤�
 ghost use Rattle.wind_base.specs.Limits.{most_slots, most_steps};
 ghost use Rattle.wind_outside.specs.{Counts.Rose, Devices.slots_of, Requests.GrowsBy};
 ghost use Rattle.board_player.specs.Seen.{seen};
-ghost use Rattle.generated_session.specs.Session.{most_rounds, summary_line};
+ghost use Rattle.generated_session.specs.{Puts.sink_log, Session.{most_rounds, summary_texts}};
 ghost use Rattle.wind_outside.specs.declared.folder.FetchOutcome.{FetchOutcome};
 ghost use Rattle.wind_outside.specs.declared.folder.FetchOutcome.TheVariants as outcomes;
 ghost use Rattle.wind_session.specs.{Keeping.{KeepsFiles, KeepsFolder, around, messages}, Command.{HasFewRounds, command_of as command_of_lem}, Fetches.{LeadsTo, IsAfterFiles, EndsWithFiles, EndsWithSource, FailsLast, file_requests, source_requests, text_request}, Outside.outside, Words.command_state, Plan.{Start, IsFilePlan, IsPlanOf, IsHeld, plan_ticks, generated_plan}, Headline.{Plays, IsRefusal, IsUnread, RefusesFiles, Refuses, IsComplete, IsKept, IsLeft, IsSummed, status_of}, Runs.{is_given_up as is_given_up_lem}, Status.status_number, Texts.Tells};
@@ -152,9 +152,9 @@ pub fn inputs_of<F: Folder>(
 fn sum_up<O: Sink>(rounds: u32, board: &Board, tally: Tally, out: &mut O) -> Status
     requires rounds { rounds ≤ most_rounds }
     requires all_put { tally.end ≢ ends.WriteFault }
-    ensures summed { IsSummed tally.end result (summary_line rounds tally.bytes
+    ensures summed { IsSummed tally.end result (summary_texts rounds tally.bytes
         (seen ⟦<dyn Device as Device>⟧ board.now).steps (seen ⟦<dyn Device as Device>⟧ board.now).world.kern.tick
-        (status_number (status_of tally.end))) (O.bytes out.old) (O.bytes out.new) }
+        (status_number (status_of tally.end))) (sink_log ⟦<O as Sink>⟧ out.old) (sink_log ⟦<O as Sink>⟧ out.new) }
     ensures read_fault { result ≡ status.ReadFault → tally.end ≡ ends.ReadFault }
     ensures fault { result ≡ status.WriteFault → Rose (O.faults out.old) (O.faults out.new) }
     ensures faults { O.faults out.old ≤ O.faults out.new }

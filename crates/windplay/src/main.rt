@@ -3,9 +3,9 @@
 #![tactic(auto)]
 
 use program_main::start;
+use session_promises::play_program;
 use std::process::ExitCode;
 use wind_outside::{HostFolder, HostSink};
-use wind_session::play_program;
 
 // Words that are no command; they replace arguments that are not UTF-8.
 const NO_COMMAND: [&str; 2] = ["windplay", "(arguments that are no text)"];

@@ -31,3 +31,6 @@ returns-in-Ok-Instruction-clause-stepped g c = λ e.
 
 pub settle-requires-clause-left : goal.settle-requires-clause-left
 settle-requires-clause-left g c = subst CanSettle (sym c.in-Ok-Other.ensures.ok) c.requires.left
+
+pub returns-in-Ok-Other-clause-known : goal.returns-in-Ok-Other-clause-known
+returns-in-Ok-Other-clause-known g c = c.after.ensures.known _ _

@@ -14,3 +14,6 @@ returns-in-Instruction-clause-step g c =
     let s : State = parts_by (λ d. (goal.Device-dyn g (d.vtable, d.value)).kind_of d.value) (λ d. (goal.Device-dyn g (d.vtable, d.value)).words_of d.value) c.args.parts.now in
     let yes : c.step_routine.result ≡ kinds.Instruction = cc in
     routine_still s _ c.step_routine.ensures.step c.requires.left (c.step_routine.ensures.kern yes) (c.step_routine.ensures.objects yes) c.requires.good
+
+pub returns-in-Other-clause-known : goal.returns-in-Other-clause-known
+returns-in-Other-clause-known g c = c.after.ensures.known _ _

@@ -1,6 +1,8 @@
-use Rattle.std.proofs.Common.{refl, sym, ◌∙◌}
+use Rattle.std.proofs.Common.{refl, sym, ap, ◌∙◌}
+use Rattle.wind_machine.specs.Replies.{reply_after}
 use Rattle.wind_machine.specs.LiveLoadingSaid.{Missing}
 use Rattle.board_player.proofs.Settled.{left_by, makes, deliver_left, deliver_makes, come_left, come_makes, arrive_left, arrive_makes, jumps}
+use Rattle.board_player.proofs.Answering.{quiet_reply}
 use Rattle.board_player.proofs.Deciding.{delivery_due, event_idle, routine_active}
 use Rattle.board_player.proofs.order.make.Goals as goal
 
@@ -45,3 +47,30 @@ returns-in-Act-clause-stepped g c = λ e. makes _ _ _ _ _ _ c.in-Act.is (λ said
 
 pub returns-in-Jump-clause-stepped : goal.returns-in-Jump-clause-stepped
 returns-in-Jump-clause-stepped g c = λ e. jumps _ _ _ c.in-Jump.time c.requires.good c.in-Jump.is c.jump.ensures.step
+
+pub returns-in-Deliver-clause-reply : goal.returns-in-Deliver-clause-reply
+returns-in-Deliver-clause-reply g c = λ e said. quiet_reply said _ _ _ c.in-Deliver.is refl
+
+pub returns-in-Come-clause-reply : goal.returns-in-Come-clause-reply
+returns-in-Come-clause-reply g c = λ e said. quiet_reply said _ _ _ c.in-Come.is refl
+
+pub returns-in-Arrive-clause-reply : goal.returns-in-Arrive-clause-reply
+returns-in-Arrive-clause-reply g c = λ e said. quiet_reply said _ _ _ c.in-Arrive.is refl
+
+pub returns-in-Routine-clause-reply : goal.returns-in-Routine-clause-reply
+returns-in-Routine-clause-reply g c = λ e said. c.act_routine.ensures.reply ∙ sym (ap (reply_after said _) c.in-Routine.is)
+
+pub returns-in-Act-clause-reply : goal.returns-in-Act-clause-reply
+returns-in-Act-clause-reply g c = λ e said. c.act.ensures.reply e ∙ sym (ap (reply_after said _) c.in-Act.is)
+
+pub returns-in-Jump-clause-reply : goal.returns-in-Jump-clause-reply
+returns-in-Jump-clause-reply g c = λ e said. c.requires.unreplied (λ q. cc) ∙ quiet_reply said _ _ _ c.in-Jump.is refl
+
+pub returns-in-Load-clause-no_reply : goal.returns-in-Load-clause-no_reply
+returns-in-Load-clause-no_reply g c = λ e. c.requires.unreplied (λ q. cc)
+
+pub returns-in-Over-clause-no_reply : goal.returns-in-Over-clause-no_reply
+returns-in-Over-clause-no_reply g c = λ e. c.requires.unreplied (λ q. cc)
+
+pub act-requires-clause-unreplied : goal.act-requires-clause-unreplied
+act-requires-clause-unreplied g c = c.requires.unreplied (λ q. cc)

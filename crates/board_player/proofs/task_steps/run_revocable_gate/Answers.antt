@@ -1,8 +1,8 @@
-use Rattle.std.proofs.Common.{◌≡◌, sym, ap, ◌∙◌}
+use Rattle.std.proofs.Common.{Some, sym, ap, ◌∙◌}
 use Rattle.wind_base.specs.declared.regs.Regs.{Regs}
 use Rattle.board_player.specs.Inside.{parts_by}
 use Rattle.board_player.proofs.Asked.{unasked_call}
-use Rattle.board_player.proofs.Stepping.{gate_stepped}
+use Rattle.board_player.proofs.Stepping.{gate_stepped, replied}
 use Rattle.board_player.proofs.task_steps.run_revocable_gate.Goals as goal
 
 pub at_gate-requires-clause-unasked : goal.at_gate-requires-clause-unasked
@@ -17,4 +17,9 @@ returns-in-Ok-clause-ok g c =
     c.args.who c.args.at c.args.gate _ _ _ c.start_revocable_step-kept.ensures.world c.in-Ok.ensures.ok (c.requires.stands.counter ∙ ap (λ (r : Regs). r.pc) (sym c.start_revocable_step-kept.ensures.ready.regs)) c.requires.stands.there
 
 pub at_gate-requires-clause-phase : goal.at_gate-requires-clause-phase
-at_gate-requires-clause-phase g c = λ same. c.requires.stands.phase (let one : c.args.who ≡ 1 = cc in one)
+at_gate-requires-clause-phase g c = c.requires.stands.phase
+
+pub returns-in-Ok-clause-reply : goal.returns-in-Ok-clause-reply
+returns-in-Ok-clause-reply g c =
+    replied (parts_by (λ d. (goal.Device-dyn g (d.vtable, d.value)).kind_of d.value) (λ d. (goal.Device-dyn g (d.vtable, d.value)).words_of d.value) c.args.parts.now)
+    c.args.who c.args.at (Some c.args.gate) _ c.in-Ok.reply c.start_revocable_step-kept.ensures.world c.in-Ok.ensures.reply (c.requires.stands.counter ∙ ap (λ (r : Regs). r.pc) (sym c.start_revocable_step-kept.ensures.ready.regs)) c.requires.stands.there

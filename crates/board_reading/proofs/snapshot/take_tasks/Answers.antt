@@ -1,19 +1,23 @@
-use Rattle.std.proofs.Common.{ap, ◌∙◌, ◌++◌, ◌∷◌, [], map, arith}
+use Rattle.std.proofs.Common.{◌<◌, ap, ◌∙◌, ◌++◌, ◌∷◌, [], take, length, arith}
 use Rattle.board_changes.specs.Views.{view_of_task}
 use Rattle.board_trace.specs.Snapshots.{view_in}
-use Rattle.board_reading.proofs.Collecting.{next_item, all_items}
+use Rattle.board_reading.proofs.Collecting.{one_placed, all_placed}
 use Rattle.board_reading.proofs.snapshot.take_tasks.Goals as goal
 
 pub loop-place-preserved : goal.loop-place-preserved
 loop-place-preserved c =
-    let f = view_in c.args.objects.now in
     let ts = c.args.kern.now.tasks in
-    next_item f c.loop-place.views.items c.add.new.list.items (map f ts) ts c.loop-place.place c.task_at-task.result.now
-    (omega (arith, c.live-place-end.ensures, c.loop-place-test.true)) c.task_at-task.ensures c.loop-place.invariant
-    (c.in_ok-add.ensures ∙ ap (λ v. c.loop-place.views.items ++ v ∷ []) (c.task_view.ensures ∙ ap (λ w. view_of_task w c.task_at-task.result.now) c.awaited_by.ensures))
+    let place = c.loop-place.place in
+    let old = c.loop-place.views.items in
+    let t = c.task_at-task.result.now in
+    let less : place < length ts = omega (arith, c.live-place-end.ensures, c.loop-place-test.true) in (
+      one_placed (view_in c.args.objects.now) old c.put_view.new.views.items ts place t less c.task_at-task.ensures c.loop-place.invariant.0
+          (c.in_ok-put_view.ensures.put ∙ ap (λ w. take place old ++ view_of_task w t ∷ []) c.awaited_by.ensures),
+      omega (arith, c.in_ok-put_view.ensures.len),
+      omega (arith, c.in_ok-put_view.ensures.len, c.loop-place.invariant.2, less),
+    )
 
 pub returns : goal.returns
 returns c =
-    let f = view_in c.args.objects.now in
-    all_items f c.loop-place.views.items (map f c.args.kern.now.tasks) c.args.kern.now.tasks c.loop-place.place
-    (omega (arith, c.live-place-end.ensures, c.loop-place-test.false)) c.loop-place.invariant
+    all_placed (view_in c.args.objects.now) c.loop-place.views.items c.args.kern.now.tasks c.loop-place.place
+    (omega (arith, c.live-place-end.ensures, c.loop-place-test.false)) c.loop-place.invariant.2 c.loop-place.invariant.0

@@ -15,10 +15,10 @@ returns c =
     let relocs = c.as_slice-relocs.ensures in
     let contents : c.contents_len.result ≡ length (flat_map sect_content m.sections) =
     c.contents_len.ensures.value ∙ ap (λ (ss : List Sect). length (flat_map sect_content ss)) sections in
-    let symbol_names : c.names_len.result ≡ length (flat_map sym_name m.symbols) =
-    c.names_len.ensures.value ∙ ap (λ (ss : List Sym). length (flat_map sym_name ss)) symbols in
-    let section_names : c.names_len-2.result ≡ length (flat_map sect_name m.sections) =
-    c.names_len-2.ensures.value ∙ ap (λ (ss : List Sect). length (flat_map sect_name ss)) sections in
+    let symbol_names : c.sym_names_len.result ≡ length (flat_map sym_name m.symbols) =
+    c.sym_names_len.ensures.value ∙ ap (λ (ss : List Sym). length (flat_map sym_name ss)) symbols in
+    let section_names : c.sect_names_len.result ≡ length (flat_map sect_name m.sections) =
+    c.sect_names_len.ensures.value ∙ ap (λ (ss : List Sect). length (flat_map sect_name ss)) sections in
     let section_count : length c.as_slice-sections.result.now ≡ length m.sections = ap (λ (ss : List Sect). length ss) sections in
     let symbol_count : length c.as_slice-symbols.result.now ≡ length m.symbols = ap (λ (ss : List Sym). length ss) symbols in
     let reloc_count : length c.as_slice-relocs.result.now ≡ length m.relocs = ap (λ (rs : List Rel). length rs) relocs in

@@ -1,7 +1,7 @@
 use Rattle.std.proofs.Common.{◌∙◌, ap, ap₂}
 use Rattle.std.proofs.lemmas.Result.{IfOk-weaker}
 use Rattle.clap.specs.Words.{with_rule}
-use Rattle.wind_session.specs.Command.{with_machine_options}
+use Rattle.wind_session.specs.Command.{with_board_options}
 use Rattle.live_session.specs.Command.{app}
 use Rattle.live_session.proofs.command.app.Goals as goal
 
@@ -10,7 +10,6 @@ pub returns : goal.returns
 unfolding app
 returns c =
     let one = c.in_ok-arg.ensures.shape c.option.ensures.local ∙ ap₂ with_rule c.command_line.ensures c.option.ensures.rule in
-    let two = c.in_ok-arg-2.ensures.shape c.option-2.ensures.local ∙ ap₂ with_rule one c.option-2.ensures.rule in
-    let three = c.in_ok-arg-3.ensures.shape c.flag.ensures.local ∙ ap₂ with_rule two c.flag.ensures.rule in
-    let four = c.in_ok-command.ensures.shape c.option-3.ensures.local ∙ ap₂ with_rule three c.option-3.ensures.rule in
-    IfOk-weaker c.with_machine_options.result _ _ (λ m h. h ∙ ap with_machine_options four) c.with_machine_options.ensures
+    let two = c.in_ok-arg-2.ensures.shape c.flag.ensures.local ∙ ap₂ with_rule one c.flag.ensures.rule in
+    let three = c.in_ok-command.ensures.shape c.option-2.ensures.local ∙ ap₂ with_rule two c.option-2.ensures.rule in
+    IfOk-weaker c.with_board_options.result _ _ (λ m h. h ∙ ap with_board_options three) c.with_board_options.ensures

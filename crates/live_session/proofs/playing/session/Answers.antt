@@ -1,8 +1,8 @@
 use Rattle.std.proofs.Common.{refl, inl, ◌≡◌, ◌≢◌, ◌∙◌, ℕ, List, [], ◌∷◌, Option, arith, eqb, eqb-true, false, inr, length, rules, subst, sym}
 use Rattle.std.proofs.lemmas.List.{nil_from_length}
 use Rattle.wind_outside.specs.Files.{Files}
-use Rattle.wind_session.specs.Keeping.{around}
 use Rattle.wind_session.proofs.AppendingLemmas.{rose_earlier}
+use Rattle.live_session.specs.LiveAround.{live_around}
 use Rattle.live_session.specs.Saving.{WritesOnly}
 use Rattle.live_session.specs.Words.{command_state}
 use Rattle.live_session.proofs.OtherFiles.{writes_both, writes_record}
@@ -22,8 +22,9 @@ returns-then-is_empty-clause-leaves g c =
     let folder = c.args.target.command.now.record.now in
     let none : folder ≡ [] = nil_from_length folder (eqb-true (length folder) 0 (sym c.is_empty.ensures ∙ c.if-is_empty.true)) in
     inr (plays c.writing_law.ensures.written closing.result.status (command_state c.args.target.command.now) closing.result.end _ _
-    (around g.F.Folder g.O.Sink c.args.folder.now c.args.out.now) (around g.F.Folder g.O.Sink closing.new.folder closing.new.out)
-    _ _ _ (g.D.RecordFolder.files c.args.records.now) _ _
+    (live_around g.I.Input g.F.Folder g.O.Sink g.D.RecordFolder c.args.input.now c.args.folder.now c.args.out.now c.args.records.now)
+    (live_around g.I.Input g.F.Folder g.O.Sink g.D.RecordFolder closing.new.input closing.new.folder closing.new.out closing.new.records)
+    (g.D.RecordFolder.files c.args.records.now)
     (record {
       runs = closing.ensures.runs;
       status_is = closing.ensures.status_is.0;
@@ -46,8 +47,9 @@ returns-clause-leaves g c =
     let named : folder ≢ [] = named_by folder (sym c.is_empty.ensures ∙ c.if-is_empty.false) in
     let after : IsAfter writing.result closing.result.status c.status_after.result = record { ok = c.status_after.ensures.ok; err = c.status_after.ensures.err } in
     inr (plays c.writing_law.ensures.written c.status_after.result (command_state c.args.target.command.now) closing.result.end _ _
-    (around g.F.Folder g.O.Sink c.args.folder.now c.args.out.now) (around g.F.Folder g.O.Sink closing.new.folder closing.new.out)
-    _ _ _ (g.D.RecordFolder.files closing.new.records) _ _
+    (live_around g.I.Input g.F.Folder g.O.Sink g.D.RecordFolder c.args.input.now c.args.folder.now c.args.out.now c.args.records.now)
+    (live_around g.I.Input g.F.Folder g.O.Sink g.D.RecordFolder closing.new.input closing.new.folder closing.new.out writing.new.records)
+    (g.D.RecordFolder.files closing.new.records)
     (record {
       runs = closing.ensures.runs;
       status_is = after_status writing.result closing.result.status c.status_after.result closing.result.end after closing.ensures.status_is.0;

@@ -1,32 +1,47 @@
-use Rattle.std.proofs.Common.{ℕ, List, ◌+◌, ◌++◌, take, drop, ap, ◌∙◌, arith}
-use Rattle.std.specs.List.{flat_map}
+use Rattle.std.proofs.Common.{◌+◌, ◌++◌, [], append_assoc, ap, sym, ◌∙◌, arith}
+use Rattle.std.proofs.lemmas.List.{append-nil}
 use Rattle.wind_outside.specs.declared.sink.Put.TheVariants.{Done, Failed}
-use Rattle.ppc_asm.specs.Listing.{section_lines, listing}
-use Rattle.ppc_asm.proofs.Listed.{puts_both, puts_cut, puts_as, flat_cut, flat_upto}
+use Rattle.elf_read.specs.Contents.{module_at}
+use Rattle.program_main.proofs.Putting.{puts_as, puts_both, puts_cut, puts_none}
+use Rattle.ppc_asm.specs.Listing.{lines_from, listing}
+use Rattle.ppc_asm.proofs.Listed.{lines_on, listing_is, no_section, section_next}
 use Rattle.ppc_asm.proofs.listing.list.Goals as goal
 
-pub returns-in-Failed : goal.returns-in-Failed
-unfolding listing
-returns-in-Failed g c =
-    let k = c.loop-section in
-    let ss = c.args.module.now.sections in
-    let s = c.section-item.result in
-    let i = k.section-index in
-    let before = flat_map section_lines (take i ss) in
-    let rest = flat_map section_lines (drop (i + 1) ss) in
-    let more = flat_upto section_lines c.as_slice-section-items.result.now ss i s c.as_slice-section-items.ensures c.loop-section-test.true c.section-item.is in
-    puts_as _ _ _ _ ((before ++ section_lines s) ++ rest) (flat_map section_lines ss) Failed
-    (ap (λ x. x ++ rest) more ∙ flat_cut section_lines ss (i + 1))
-    (puts_cut _ _ _ _ (before ++ section_lines s) rest (puts_both _ _ _ _ _ _ before (section_lines s) Failed k.invariant.listed c.in-Failed.ensures.put))
+pub loop-i-init : goal.loop-i-init
+loop-i-init g c = record {
+  listed = ([], puts_none (g.O.Sink.bytes c.args.out.now) (g.O.Sink.faults c.args.out.now), listing_is c.args.bytes.now c.header_count-count.result c.header_count-count.ensures.value);
+  space = omega arith;
+}
 
-pub loop-section-preserved : goal.loop-section-preserved
-loop-section-preserved g c =
-    let invariant = c.loop-section.invariant in
-    let upto : ℕ → List ℕ = λ n. flat_map section_lines (take n c.args.module.now.sections) in
-    let i = c.loop-section.section-index in
+pub returns-in-Failed : goal.returns-in-Failed
+returns-in-Failed g c =
+    let k = c.loop-i in
+    let t = k.invariant.listed in
+    let lines = lines_from 0 c.listed.result.now in
+    let rest = lines_on c.args.bytes.now (k.i + 1) c.header_count-count.result in
+    puts_as _ _ _ _ ((t.0 ++ lines) ++ rest) (listing (module_at c.args.bytes.now)) Failed
+    (append_assoc t.0 lines rest ∙ ap (λ x. t.0 ++ x) (section_next c.args.bytes.now lines k.i c.header_count-count.result c.loop-i-test.true c.listed.ensures) ∙ t.2)
+    (puts_cut _ _ _ _ (t.0 ++ lines) rest (puts_both _ _ _ _ _ _ t.0 lines Failed t.1 c.in-Failed.ensures.put))
+
+pub loop-i-preserved : goal.loop-i-preserved
+loop-i-preserved g c =
+    let k = c.loop-i in
+    let t = k.invariant.listed in
+    let lines = lines_from 0 c.listed.result.now in
+    let rest = lines_on c.args.bytes.now (k.i + 1) c.header_count-count.result in
     record {
-      listed = puts_as _ _ _ _ (upto i ++ section_lines c.section-item.result) (upto (i + 1)) Done
-          (flat_upto section_lines c.as_slice-section-items.result.now c.args.module.now.sections i c.section-item.result c.as_slice-section-items.ensures c.loop-section-test.true c.section-item.is)
-          (puts_both _ _ _ _ _ _ (upto i) (section_lines c.section-item.result) Done invariant.listed c.in-Done.ensures.put);
-      space = omega (arith, invariant.space, c.list_section.ensures.space);
+      listed = (
+        t.0 ++ lines,
+        puts_both _ _ _ _ _ _ t.0 lines Done t.1 c.in-Done.ensures.put,
+        append_assoc t.0 lines rest ∙ ap (λ x. t.0 ++ x) (section_next c.args.bytes.now lines k.i c.header_count-count.result c.loop-i-test.true c.listed.ensures) ∙ t.2,
+      );
+      space = omega (arith, k.invariant.space, c.list_bytes.ensures.space);
     }
+
+pub returns : goal.returns
+returns g c =
+    let k = c.loop-i in
+    let t = k.invariant.listed in
+    puts_as _ _ _ _ t.0 (listing (module_at c.args.bytes.now)) Done
+    (sym (append-nil t.0) ∙ ap (λ x. t.0 ++ x) (sym (no_section c.args.bytes.now k.i c.header_count-count.result (omega (arith, c.loop-i-test.false)))) ∙ t.2)
+    t.1

@@ -28,8 +28,8 @@ loop-made-preserved g c =
     let run = runs_on c.silent_law.ensures shelf _ _ _ _ _ _ _ c.loop-made.invariant.run c.in_ok-count.count few _ c.in_ok-count.ensures.made in
     record {
       said = saying c.loop-made.invariant.said (c.loop-made.made + c.in_ok-count.count) made.0;
-      run = further shelf _ _ _ _ _ _ _ run _ c.loop-made.invariant.keeps.0.0 _ _ made (omega arith) c.in-Ok.ensures.counted;
-      told = c.in_ok-put.ensures.tells c.in-Done.is _ _ _ _ _ _ c.in_ok-before_step.ensures.value c.in_ok-count.ensures.ready (goes_on shelf _ _ _ _ _ made.0 run.state made.2) (c.in_ok-count.ensures.tells _ _ _ _ _ c.loop-made.invariant.run.state c.loop-made.invariant.told);
+      run = further shelf _ _ _ _ _ _ _ run _ c.loop-made.invariant.keeps.0.0 _ _ (made.0, made.1, made.2, made.3) (omega arith) c.in-Ok.ensures.counted;
+      told = c.in_ok-put.ensures.tells c.in-Done.is _ _ _ _ _ _ c.in_ok-before_step.ensures.value c.in_ok-count.ensures.ready (goes_on shelf _ _ _ _ _ _ made.0 run.state made.2 made.4) (c.in_ok-count.ensures.tells _ _ _ _ _ c.loop-made.invariant.run.state c.loop-made.invariant.told);
       ready = c.in_ok-put.ensures.ready;
       keeps = files_both g.F.Folder g.O.Sink _ _ _ _ _ _ c.loop-made.invariant.keeps (c.in-Ok.ensures.keeps, c.in_ok-put.ensures.faults);
     }
@@ -42,8 +42,8 @@ loop-made-preserved-in-Done g c =
     let run = runs_on c.silent_law.ensures shelf _ _ _ _ _ _ _ c.loop-made.invariant.run c.in_ok-count.count few _ c.in_ok-count.ensures.made in
     record {
       said = saying c.loop-made.invariant.said (c.loop-made.made + c.in_ok-count.count) made.0;
-      run = further shelf _ _ _ _ _ _ _ run _ c.loop-made.invariant.keeps.0.0 _ _ made (omega arith) c.in-Ok.ensures.counted;
-      told = c.in_ok-put.ensures.tells c.in-Done.is _ _ _ _ _ _ c.in_ok-before_step.ensures.value c.in_ok-count.ensures.ready (goes_on shelf _ _ _ _ _ made.0 run.state made.2) (c.in_ok-count.ensures.tells _ _ _ _ _ c.loop-made.invariant.run.state c.loop-made.invariant.told);
+      run = further shelf _ _ _ _ _ _ _ run _ c.loop-made.invariant.keeps.0.0 _ _ (made.0, made.1, made.2, made.3) (omega arith) c.in-Ok.ensures.counted;
+      told = c.in_ok-put.ensures.tells c.in-Done.is _ _ _ _ _ _ c.in_ok-before_step.ensures.value c.in_ok-count.ensures.ready (goes_on shelf _ _ _ _ _ _ made.0 run.state made.2 made.4) (c.in_ok-count.ensures.tells _ _ _ _ _ c.loop-made.invariant.run.state c.loop-made.invariant.told);
       ready = c.in_ok-put.ensures.ready;
       keeps = files_both g.F.Folder g.O.Sink _ _ _ _ _ _ c.loop-made.invariant.keeps (c.in-Ok.ensures.keeps, c.in_ok-put.ensures.faults);
     }
@@ -93,8 +93,8 @@ returns-in-Failed-clause-told g c =
     let shelf : Shelf = record { files = g.F.Folder.files c.args.folder.now; name = c.args.modules.now } in
     let few : c.loop-made.made + c.in_ok-count.count ≤ c.args.limit = omega (arith, c.in_ok-count.ensures.within) in
     let run = runs_on c.silent_law.ensures shelf _ _ _ _ _ _ _ c.loop-made.invariant.run c.in_ok-count.count few _ c.in_ok-count.ensures.made in
-    told_end _ _ ends.WriteFault shelf _ _ _ _ _ _ _ (stopped shelf _ _ _ _ _ _ _ (further shelf _ _ _ _ _ _ _ run _ c.loop-made.invariant.keeps.0.0 _ _ made (omega arith) c.in-Ok.ensures.counted))
-    (c.in_ok-put.ensures.lost c.in-Failed.is _ _ _ _ _ _ c.in_ok-before_step.ensures.value c.in_ok-count.ensures.ready (goes_on shelf _ _ _ _ _ made.0 run.state made.2) (c.in_ok-count.ensures.tells _ _ _ _ _ c.loop-made.invariant.run.state c.loop-made.invariant.told))
+    told_end _ _ ends.WriteFault shelf _ _ _ _ _ _ _ (stopped shelf _ _ _ _ _ _ _ (further shelf _ _ _ _ _ _ _ run _ c.loop-made.invariant.keeps.0.0 _ _ (made.0, made.1, made.2, made.3) (omega arith) c.in-Ok.ensures.counted))
+    (c.in_ok-put.ensures.lost c.in-Failed.is _ _ _ _ _ _ c.in_ok-before_step.ensures.value c.in_ok-count.ensures.ready (goes_on shelf _ _ _ _ _ _ made.0 run.state made.2 made.4) (c.in_ok-count.ensures.tells _ _ _ _ _ c.loop-made.invariant.run.state c.loop-made.invariant.told))
 
 pub returns-clause-told : goal.returns-clause-told
 returns-clause-told g c =
@@ -129,4 +129,4 @@ returns-in_err-put-clause-given_up g c =
     let p = err_from_is_err_and c.from_residual-in_err-put.result c.from_residual-in_err-put.ensures.1 in
     rw p.1 (given_up g.T.Teller.part _ _ shelf _ _ _ _ c.loop-made.made _ _ _
     (rw c.in_err-put.ensures.given_up (c.part_law.ensures _ _ c.loop-made.invariant.said (saying c.loop-made.invariant.said (c.loop-made.made + c.in_ok-count.count) made.0) _ c.loop-made.made (λ j below. as_before c.loop-made.invariant.said (c.loop-made.made + c.in_ok-count.count) made.0 j (omega arith)) c.loop-made.invariant.told)) (omega arith)
-    (further shelf _ _ _ _ _ _ _ run _ c.loop-made.invariant.keeps.0.0 _ _ made (omega arith) c.in-Ok.ensures.counted))
+    (further shelf _ _ _ _ _ _ _ run _ c.loop-made.invariant.keeps.0.0 _ _ (made.0, made.1, made.2, made.3) (omega arith) c.in-Ok.ensures.counted))

@@ -7,7 +7,7 @@ use Rattle.module_image.specs.Needs.{needs_of}
 use Rattle.module_image.proofs.Made.{length_valued}
 use Rattle.wind_link.specs.Linking.{load_of}
 use Rattle.wind_link.specs.Steps.{with_all, cut_segments}
-use Rattle.wind_link.specs.Values.{value_of}
+use Rattle.wind_link.specs.Values.{entry_of, value_of}
 use Rattle.wind_link.proofs.Joining.{told_is, cut_is}
 use Rattle.wind_link.proofs.linking.link_module.Goals as goal
 
@@ -26,10 +26,10 @@ returns-in-Ok-add_symbols-clause-image c =
     ∙ ap (λ (a : Places). with_all c.args.low c.args.image.now (cut_segments c.in-Ok.needs a c.deref.result.now)) c.places-at.ensures
     ∙ ap (with_all c.args.low c.args.image.now) (cut_is m f c.in-Ok.needs at c.deref.result.now c.in-Ok.ensures made)
 
-pub returns-in-Ok-add_symbols-clause-values : goal.returns-in-Ok-add_symbols-clause-values
-returns-in-Ok-add_symbols-clause-values c = λ q.
+pub returns-in-Ok-add_symbols-clause-entries : goal.returns-in-Ok-add_symbols-clause-entries
+returns-in-Ok-add_symbols-clause-entries c = λ q.
     let m = c.args.placed.now.module in
     let l = load_of c.args.placed.now in
     c.in-Ok-add_symbols.ensures m.sections q
-    ∙ told_is l c.as_slice-symbols.result.now c.deref-2.result.now q (value_of c.args.values.now q) c.as_slice-symbols.ensures
+    ∙ told_is l c.as_slice-symbols.result.now c.deref-2.result.now q (entry_of c.args.values.now q) c.as_slice-symbols.ensures
     (c.deref-2.ensures.value ∙ c.in-Ok-locate.ensures.values ∙ ap (values m) c.places-at.ensures)

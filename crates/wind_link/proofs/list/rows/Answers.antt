@@ -1,7 +1,7 @@
 use Rattle.std.proofs.Common.{◌≡◌, ℕ, ◌+◌, ◌<◌, ◌≤◌, List, [], ◌∷◌, ◌++◌, Err, length, map, rules, sym, ap, ◌∙◌, arith}
 use Rattle.std.proofs.lemmas.List.{length-append, length-map, map-append, nil_from_length}
 use Rattle.wind_link.specs.Lists.{row_of, rows_of, lines_of, most_lines, rows_after}
-use Rattle.wind_link.specs.Rows.{row, first_line}
+use Rattle.wind_link.specs.Rows.{row}
 use Rattle.wind_link.proofs.Lining.{too_many, bad_row, good_row}
 use Rattle.wind_link.proofs.list.rows.Goals as goal
 

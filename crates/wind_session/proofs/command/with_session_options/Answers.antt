@@ -1,7 +1,7 @@
 use Rattle.std.proofs.Common.{◌∙◌, ap, ap₂}
 use Rattle.std.proofs.lemmas.Result.{IfOk-weaker}
 use Rattle.clap.specs.Words.{app_of, with_rule}
-use Rattle.wind_session.specs.Command.{with_machine_options}
+use Rattle.wind_session.specs.Command.{with_board_options}
 use Rattle.wind_session.proofs.command.with_session_options.Goals as goal
 
 -- each option adds its rule
@@ -10,6 +10,5 @@ returns c =
     let one = c.in_ok-arg.ensures.shape c.option.ensures.local ∙ ap (with_rule (app_of c.args.command)) c.option.ensures.rule in
     let two = c.in_ok-arg-2.ensures.shape c.option-2.ensures.local ∙ ap₂ with_rule one c.option-2.ensures.rule in
     let three = c.in_ok-arg-3.ensures.shape c.option-3.ensures.local ∙ ap₂ with_rule two c.option-3.ensures.rule in
-    let four = c.in_ok-arg-4.ensures.shape c.option-4.ensures.local ∙ ap₂ with_rule three c.option-4.ensures.rule in
-    let five = c.in_ok-command.ensures.shape c.option-5.ensures.local ∙ ap₂ with_rule four c.option-5.ensures.rule in
-    IfOk-weaker c.with_machine_options.result _ _ (λ m h. h ∙ ap with_machine_options five) c.with_machine_options.ensures
+    let four = c.in_ok-command.ensures.shape c.option-4.ensures.local ∙ ap₂ with_rule three c.option-4.ensures.rule in
+    IfOk-weaker c.with_board_options.result _ _ (λ m h. h ∙ ap with_board_options four) c.with_board_options.ensures

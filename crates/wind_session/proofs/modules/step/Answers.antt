@@ -18,6 +18,7 @@ returns-in-Stepped-clause-made g c = (
   λ name asked. let bad : None ≡ Some name = sym (c.in-Stepped.ensures.unasked refl) ∙ asked in absurd (cc),
   c.in-Stepped.ensures.stepped refl Missing,
   subst (λ asked. GrowsBy (g.F.Folder.requests c.args.folder.now) (g.F.Folder.requests c.args.folder.now) (step_request c.args.modules.now asked outcomes.Missing)) (sym (c.in-Stepped.ensures.unasked refl)) (grows_none (g.F.Folder.requests c.args.folder.now)),
+  c.in-Stepped.ensures.reply refl Missing,
 )
 
 -- nor does one for which memory ran out, and none is made if no step is left

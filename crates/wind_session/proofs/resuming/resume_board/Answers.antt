@@ -25,7 +25,7 @@ loop-made-preserved g c =
       run = λ start first ran.
           step_on _ start _ c.args.most _ _ first _
           (burst_on _ start _ c.args.most _ _ first _ (c.loop-made.invariant.run start first ran) c.silent_law.ensures c.burst-made.result few _ c.burst-made.ensures.made)
-          _ c.loop-made.invariant.keeps.0.0 _ _ made (omega arith) c.in-Ok.ensures.counted _ _
+          _ c.loop-made.invariant.keeps.0.0 _ _ (made.0, made.1, made.2, made.3) (omega arith) c.in-Ok.ensures.counted _ _
           (rw c.output.ensures at c.in-Done.ensures.done refl) (rw c.output.ensures at c.in-Done.ensures.pieces);
       counted = omega (arith, c.in-Ok.ensures.counted, burst_counted c.silent_law.ensures _ _ c.burst-made.result c.burst-made.ensures.made, c.loop-made.invariant.counted);
       within = omega (arith, few);
@@ -71,9 +71,10 @@ returns-in-Err-clause-room g c = λ time line h.
 -- ---- a put failed, so the last step wrote something
 pub returns-in-Failed-clause-ran : goal.returns-in-Failed-clause-ran
 returns-in-Failed-clause-ran g c = λ start first ran.
+    let made = c.in-Ok.ensures.made in
     let few : c.loop-made.made + c.burst-made.result ≤ c.args.most = omega (arith, c.burst-made.ensures.within) in
     cut_on _ start _ c.args.most _ _ first _ (burst_on _ start _ c.args.most _ _ first _ (c.loop-made.invariant.run start first ran) c.silent_law.ensures c.burst-made.result few _ c.burst-made.ensures.made)
-    _ c.loop-made.invariant.keeps.0.0 _ _ c.in-Ok.ensures.made (omega arith) c.in-Ok.ensures.counted _ _
+    _ c.loop-made.invariant.keeps.0.0 _ _ (made.0, made.1, made.2, made.3) (omega arith) c.in-Ok.ensures.counted _ _
     (rw c.output.ensures at c.in-Failed.ensures.part refl)
     (λ e. c.in-Failed.ensures.some refl (c.output.ensures ∙ e))
     (rw c.output.ensures at c.in-Failed.ensures.pieces)

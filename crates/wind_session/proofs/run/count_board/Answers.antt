@@ -24,8 +24,8 @@ loop-made-preserved g c =
     let run = runs_on c.silent_law.ensures shelf _ _ _ _ _ _ _ c.loop-made.invariant.run c.burst-made.result (omega (arith, c.burst-made.ensures.within)) _ c.burst-made.ensures.made in
     record {
       said = saying c.loop-made.invariant.said (c.loop-made.made + c.burst-made.result) made.0;
-      run = further shelf _ _ _ _ _ _ _ run _ c.loop-made.invariant.keeps.0 _ _ made (omega arith) c.in-Ok.ensures.counted;
-      bytes = ap (λ written. c.loop-made.bytes + length written) c.output.ensures ∙ bytes_on shelf _ _ _ _ _ _ _ run _ c.loop-made.invariant.keeps.0 _ _ made c.loop-made.bytes (c.loop-made.invariant.bytes ∙ ap length (as_written c.silent_law.ensures shelf _ _ _ _ _ _ _ c.loop-made.invariant.run _ _ c.burst-made.ensures.made));
+      run = further shelf _ _ _ _ _ _ _ run _ c.loop-made.invariant.keeps.0 _ _ (made.0, made.1, made.2, made.3) (omega arith) c.in-Ok.ensures.counted;
+      bytes = ap (λ written. c.loop-made.bytes + length written) c.output.ensures ∙ bytes_on shelf _ _ _ _ _ _ _ run _ c.loop-made.invariant.keeps.0 _ _ (made.0, made.1, made.2, made.3) c.loop-made.bytes (c.loop-made.invariant.bytes ∙ ap length (as_written c.silent_law.ensures shelf _ _ _ _ _ _ _ c.loop-made.invariant.run _ _ c.burst-made.ensures.made));
       small = omega (arith, c.loop-made.invariant.small);
       keeps = folder_both _ _ _ _ _ _ c.loop-made.invariant.keeps c.in-Ok.ensures.keeps;
     }

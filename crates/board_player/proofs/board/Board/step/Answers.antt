@@ -1,5 +1,5 @@
 use Rattle.wind_machine.specs.LiveLoadingSaid.{Missing}
-use Rattle.board_player.proofs.Answering.{steps_on}
+use Rattle.board_player.proofs.Answering.{replies_on, steps_on}
 use Rattle.board_player.proofs.Keeping.{kept}
 use Rattle.board_player.proofs.Settled.{leaves}
 use Rattle.board_player.proofs.board.Board.step.Goals as goal
@@ -18,3 +18,12 @@ make-requires-clause-left g c = leaves c.step_law.ensures.effect c.step_law.ensu
 
 pub returns-clause-slots : goal.returns-clause-slots
 returns-clause-slots g c = λ e i. c.slot_law.ensures.step Missing _ _ i c.facts.ensures (steps_on _ _ c.in-Ok.next c.in-Ok.ensures.next (c.make.ensures.stepped e) Missing)
+
+pub returns-clause-removal : goal.returns-clause-removal
+returns-clause-removal g c = λ e who i r. c.slot_law.ensures.removal Missing _ _ who i r (steps_on _ _ c.in-Ok.next c.in-Ok.ensures.next (c.make.ensures.stepped e) Missing)
+
+pub returns-clause-reply : goal.returns-clause-reply
+returns-clause-reply g c = λ e. replies_on _ _ c.in-Ok.next c.in-Ok.ensures.next (c.make.ensures.reply e)
+
+pub make-requires-clause-unreplied : goal.make-requires-clause-unreplied
+make-requires-clause-unreplied g c = λ other. c.next.ensures.unreplied (λ e. other (cc))

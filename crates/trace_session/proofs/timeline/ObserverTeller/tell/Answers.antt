@@ -14,4 +14,4 @@ returns-clause-tells g c = λ done first said next s u i is ready on spans.
     c.in_ok-look.ensures
     ∙ ap (λ (b : BeforeStep). looked_at b c.args.self.now.spans new) is
     ∙ ap (λ (seen : SpanState). looked_at (before_step u) seen new) spans
-    ∙ spans_now said next s u new i on
+    ∙ spans_now said next s u new _ i on

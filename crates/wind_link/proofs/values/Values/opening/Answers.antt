@@ -3,23 +3,19 @@ use Rattle.std.proofs.lemmas.List.{drop_all}
 use Rattle.wind_base.specs.Limits.{gates_start}
 use Rattle.wind_base.specs.Gates.{gates}
 use Rattle.symbol_table.specs.Newest.{find_global}
-use Rattle.module_image.specs.Binding.{bind}
-use Rattle.module_image.specs.Link.{value_else}
 use Rattle.module_image.specs.Opening.{gate_symbols}
-use Rattle.wind_link.specs.Values.{value_of}
-use Rattle.wind_link.proofs.Exporting.{after_gate, zero_else}
+use Rattle.wind_link.specs.Values.{entry_of, entry_else}
+use Rattle.wind_link.proofs.Exporting.{after_gate}
 use Rattle.wind_link.proofs.values.Values.opening.Goals as goal
 
 pub loop-gate-preserved : goal.loop-gate-preserved
 loop-gate-preserved c = λ q.
-    after_gate gates_start gates c.all-gate-items.result.now c.loop-gate.gate-index _ q (value_of c.loop-gate.values q) (value_of c.add_gate.new.self q)
+    after_gate gates_start gates c.all-gate-items.result.now c.loop-gate.gate-index _ q (entry_of c.loop-gate.values q) (entry_of c.add_gate.new.self q)
     c.all-gate-items.ensures c.loop-gate-test.true (c.in_ok-add_gate.ensures q)
     ∙ c.loop-gate.invariant q
 
 pub returns : goal.returns
-unfolding bind
 returns c = λ q.
     let none : drop c.loop-gate.gate-index gates ≡ [] = drop_all c.loop-gate.gate-index gates (omega (arith, c.loop-gate-test.false, ap length c.all-gate-items.ensures)) in
-    ap (λ gs. value_else (find_global (gate_symbols gates_start gs) q) (value_of c.loop-gate.values q)) (sym none)
+    ap (λ gs. entry_else (find_global (gate_symbols gates_start gs) q) (entry_of c.loop-gate.values q)) (sym none)
     ∙ c.loop-gate.invariant q
-    ∙ zero_else (find_global (gate_symbols gates_start gates) q)

@@ -1,0 +1,56 @@
+-- What follows from the definitions of a trace alone.
+use Rattle.std.specs.Prelude.{◌≡◌, ℕ, ◌<◌, ◌==◌, true, if◌then◌else◌, List, [], ◌∷◌, ◌++◌, length, Option, None, Some}
+use Rattle.wind_base.specs.Errno.{errno_number}
+use Rattle.wind_base.specs.Limits.{error_word}
+use Rattle.wind_base.specs.declared.errno.Errno.{Errno}
+use Rattle.task_block.specs.declared.task.Task.{Task}
+use Rattle.wind_core.specs.Moves.{answered, errno_after}
+use Rattle.kernel_world.specs.declared.objects.Objects.{Objects}
+use Rattle.kernel_world.specs.declared.reply.Reply.{Reply}
+use Rattle.wind_machine.specs.LiveLoadingSaid.{FileSaid}
+use Rattle.wind_machine.specs.State.{State}
+use Rattle.wind_machine.specs.Replies.{step_reply}
+use Rattle.board_changes.specs.Tasks.{has_result, wait_changes}
+use Rattle.board_changes.specs.declared.awaited.Awaited.{Awaited}
+use Rattle.board_changes.specs.declared.change.Change.{Change}
+use Rattle.board_changes.specs.declared.change.Change.TheVariants as changes
+use Rattle.board_changes.specs.declared.view.TaskView.{TaskView}
+use Rattle.board_trace.specs.Errors.{errno_named}
+use Rattle.board_trace.specs.Snapshots.{view_in}
+use Rattle.board_trace.specs.Steps.{happenings}
+use Rattle.board_trace.specs.declared.happening.Happening.{Happening}
+use Rattle.board_trace.specs.declared.happening.Happening.TheVariants as told
+
+-- the reply that is told with a call
+abbrev pub reply_in : Happening → List Reply
+reply_in (told.Called who c r) = r ∷ []
+reply_in h = []
+
+-- the replies that are told, one for each call
+abbrev pub replies_in : List Happening → List Reply
+replies_in [] = []
+replies_in (h ∷ hs) = reply_in h ++ replies_in hs
+
+abbrev pub listed : Option Reply → List Reply
+listed None = []
+listed (Some r) = r ∷ []
+
+-- a step tells exactly one call if it makes one, with the reply of that call, and else none. So a refusal is told exactly
+-- if the call was refused, with its error
+abbrev pub ReplyLaw : Type 0
+ReplyLaw = (said : FileSaid) (s t : State) → replies_in (happenings said s t) ≡ listed (step_reply said s)
+
+-- each error is found by its number
+abbrev pub ErrorLaw : Type 0
+ErrorLaw = (e : Errno) → errno_named (errno_number e) ≡ Some e
+
+-- the end of a task's wait for an object, with this answer; with ERROR, the error number is told
+abbrev pub wait_end : ℕ → Awaited → ℕ → ℕ → Change
+wait_end who object answer errno = if answer == error_word then changes.Failed who object errno else changes.Served who object answer
+
+-- if the kernel ends a task's wait with an answer, and an error if there is one, exactly one change of waits is told: its
+-- end, with that answer and that error. The wait is one whose end gives the task's call a result
+abbrev pub WaitEndLaw : Type 0
+WaitEndLaw = (b : TaskView) (t : Task) (o : Objects) (object : Awaited) (answer : ℕ) (e : Option Errno)
+    → b.wait ≡ Some object → has_result object ≡ true → 3 < length t.regs.gpr
+    → wait_changes true b (view_in o (answered answer e t)) ≡ wait_end t.id object answer (errno_after t.errno e) ∷ []

@@ -1,0 +1,21 @@
+//! What follows from the definitions of a trace alone.
+
+ghost use Rattle.board_trace.specs.Laws.{ReplyLaw, ErrorLaw, WaitEndLaw};
+
+/// The law of replies: the happenings of a step tell exactly one call if the step makes one, with
+/// the reply of that call. So a line tells a refusal exactly if the call was refused, with its
+/// error.
+pub fn reply_law()
+    ensures { ReplyLaw }
+{}
+
+/// The law of errors: each error of the kernel's calls is found by its number.
+pub fn error_law()
+    ensures { ErrorLaw }
+{}
+
+/// The law of ends of waits: if the kernel ends a task's wait with an answer, and an error if there
+/// is one, the end is told with that answer and that error.
+pub fn wait_end_law()
+    ensures { WaitEndLaw }
+{}
