@@ -164,6 +164,7 @@ status=0
 ends 12 '' 'windlink: image.lst: line 1: bad place of text\n'
 
 shows 'and is listed within 64 MiB'
+python3 "$here/many_sections.py" 200 1000000 >"$work/session/many.o"
 status=0
 (ulimit -v 65536 && cd "$work/session" && exec "$ppcasm" --list many.o) >"$work/stdout" 2>"$work/stderr" || status=$?
 ends 0 '00000000 60000000 ori r0, r0, 0\n' ''
