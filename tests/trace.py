@@ -8,11 +8,12 @@ import sys
 import tempfile
 import xml.dom.minidom
 
-# Lines of a console, and the call and reply that its trace has to tell, by the table in docs/calls.md.
+# Lines of a console, and what its trace has to tell: a call with its reply, by the table in docs/calls.md, or an abort at the prompt.
 REPLIES = [
     (b"ld < none.o\n", rb"ld\(0, 0, 0x[0-9a-f]+\) = 0 LOAD_FAILED"),
     (b"ld 0, 0, 0xfffffff0\n", rb"ld\(0, 0, 0xfffffff0\) = -1 BAD_ADDRESS"),
     (b"errnoSet 0xffffffff\nerrnoGet\n", rb"errnoGet\(\) = 0xffffffff"),
+    (b"abc\x03\n", rb"aborts its line"),
 ]
 WRITES = re.compile(rb'^ *\d+ +\d+  .{16}  writes "(.*)"$')
 ESCAPED = re.compile(rb"\\x([0-9a-f]{2})")
