@@ -18,7 +18,7 @@ use std::alloc::Global;
 use tick_file::{Event, Schedule};
 use wind_base::limits::CHUNK_BYTES;
 use wind_base::{BoardKind, Name, NoMemory, OutBuf, Profile};
-use wind_machine::{Next, Phase, slot_law, step_law};
+use wind_machine::{Next, Phase, safety_law, slot_law, step_law};
 use wind_outside::{Device, Slots};
 
 // The room, in bytes, for what one step writes. Each byte of the console echoes at most three
@@ -103,7 +103,7 @@ impl Board {
     ghost use Rattle.std.specs.Prelude.{◌≢◌, ◌↔◌, ◌<◌, ◌≤◌, ◌-◌, ◌^◌, ℕ, Some, None, IfSome, OnOk, OnErr, true};
     ghost use Rattle.std.specs.List.{All};
     ghost use Rattle.wind_base.specs.Limits.{most_steps};
-    ghost use Rattle.wind_machine.specs.{LiveLoadingSaid.{FileSaid, said_of}, Extending.{extended, more_of}, Silent.SilentSteps, Interrupts.{IsRemoval, OnlyRemovesIn, StepsSlot}, Next.{next as next_lem}, Machine.{file_asked, machine_step, Steps, IsOver, may_exhaust_memory}, Replies.step_reply};
+    ghost use Rattle.wind_machine.specs.{LiveLoadingSaid.{FileSaid, said_of}, Extending.{extended, more_of}, Silent.SilentSteps, Interrupts.{IsRemoval, OnlyRemovesIn, StepsSlot}, Laws.OnlyUnsafeGo, Next.{next as next_lem}, Machine.{file_asked, machine_step, Steps, IsOver, may_exhaust_memory}, Replies.step_reply};
     ghost use Rattle.board_player.specs.{Asking.needed, Seen.{seen, last_reply}};
     ghost use Rattle.board_player.specs.declared.Step.TheVariants as steps;
 
@@ -123,6 +123,8 @@ impl Board {
         ensures removal { result ≡ steps.Stepped → (who i : ℕ)
             → IsRemoval (seen ⟦<dyn Device as Device>⟧ self.old) (next_lem (seen ⟦<dyn Device as Device>⟧ self.old)) who i
             → OnlyRemovesIn (seen ⟦<dyn Device as Device>⟧ self.old) (seen ⟦<dyn Device as Device>⟧ self.new) who i }
+        ensures safety { result ≡ steps.Stepped → OnlyUnsafeGo (seen ⟦<dyn Device as Device>⟧ self.old)
+            (seen ⟦<dyn Device as Device>⟧ self.new) }
         ensures reply { result ≡ steps.Stepped → (said : FileSaid)
             → last_reply self.new ≡ step_reply said (seen ⟦<dyn Device as Device>⟧ self.old) }
         ensures no_reply { result ≢ steps.Stepped → last_reply self.new ≡ None }
@@ -137,6 +139,7 @@ impl Board {
     {
         step_law();
         slot_law();
+        safety_law();
         is_early(&self.parts);
         self.parts.world.irqs.facts();
         let Ok(next) = next(&self.parts, &mut self.known) else {
@@ -177,6 +180,8 @@ impl Board {
             ≡ (seen ⟦<dyn Device as Device>⟧ self.old).steps + 1) }
         ensures slots { OnOk result ((i : ℕ) → StepsSlot (seen ⟦<dyn Device as Device>⟧ self.old)
             (seen ⟦<dyn Device as Device>⟧ self.new) i) }
+        ensures safety { OnOk result (OnlyUnsafeGo (seen ⟦<dyn Device as Device>⟧ self.old)
+            (seen ⟦<dyn Device as Device>⟧ self.new)) }
         ensures reply { OnOk result (last_reply self.new
             ≡ step_reply (said_of file.now) (seen ⟦<dyn Device as Device>⟧ self.old)) }
         ensures no_reply { OnErr result (last_reply self.new ≡ None) }
@@ -186,6 +191,7 @@ impl Board {
     {
         step_law();
         slot_law();
+        safety_law();
         is_early(&self.parts);
         self.parts.world.irqs.facts();
         self.known = Known::Nothing;

@@ -27,3 +27,6 @@ returns-clause-reply g c = λ e. replies_on _ _ c.in-Ok.next c.in-Ok.ensures.nex
 
 pub make-requires-clause-unreplied : goal.make-requires-clause-unreplied
 make-requires-clause-unreplied g c = λ other. c.next.ensures.unreplied (λ e. other (cc))
+
+pub returns-clause-safety : goal.returns-clause-safety
+returns-clause-safety g c = λ e. c.safety_law.ensures Missing _ _ c.args.self.now.good (steps_on _ _ c.in-Ok.next c.in-Ok.ensures.next (c.make.ensures.stepped e) Missing)

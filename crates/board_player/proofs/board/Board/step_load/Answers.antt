@@ -24,3 +24,6 @@ returns-clause-slots g c = loaded_slots c.slot_law.ensures.step _ _ _ _ c.facts.
 
 pub returns-clause-reply : goal.returns-clause-reply
 returns-clause-reply g c = loaded_reply _ _ _ _ c.requires.asked c.in-Ok.ensures.reply
+
+pub returns-clause-safety : goal.returns-clause-safety
+returns-clause-safety g c = c.safety_law.ensures _ _ _ c.args.self.now.good (loaded_step _ _ _ _ c.requires.asked c.in-Ok.ensures.ok)
