@@ -169,8 +169,8 @@ impl Board {
         burst(&mut self.parts, self.known, most)
     }
 
-    /// Makes the next step, which loads the file with this name, given what is said of that file.
-    /// If host memory runs out, nothing changes, except that the board has no reply.
+    /// Makes the next step, which loads the file with this name, given what the folder answers
+    /// about that file. If host memory runs out, nothing changes, except that the board has no reply.
     pub fn step_load(&mut self, name: &Name, file: &FileAnswer) -> Result<(), NoMemory>
         requires few { (seen ⟦<dyn Device as Device>⟧ self.old).steps < most_steps }
         requires asked { file_asked (seen ⟦<dyn Device as Device>⟧ self.old) ≡ Some name.now }

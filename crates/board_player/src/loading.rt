@@ -83,8 +83,8 @@ pub(crate) fn file_for(parts: &Parts, who: Ident) -> Result<Option<Name>, NoMemo
     }
 }
 
-// The shell's task loads the file with this name, given what is said of that file. Returns the
-// reply. If memory runs out, nothing changes.
+// The shell's task loads the file with this name, given what the folder answers about that file.
+// Returns the reply. If memory runs out, nothing changes.
 #[tactic(auto, using(crate::proofs::Beginning::good_world, crate::proofs::Asked::wanted, crate::proofs::Asked::asker_ready))]
 fn load_file(parts: &mut Parts, name: &Name, file: &FileAnswer) -> Result<Reply, NoMemory>
     requires good { Good (inside parts.old) }
@@ -109,8 +109,8 @@ fn load_file(parts: &mut Parts, name: &Name, file: &FileAnswer) -> Result<Reply,
     Ok(reply)
 }
 
-/// The shell's task loads the file with this name, given what is said of that file, and priorities
-/// are settled. Returns the reply. If memory runs out, nothing changes.
+/// The shell's task loads the file with this name, given what the folder answers about that file,
+/// and priorities are settled. Returns the reply. If memory runs out, nothing changes.
 pub(crate) fn load(parts: &mut Parts, name: &Name, file: &FileAnswer) -> Result<Reply, NoMemory>
     requires good { Good (inside parts.old) }
     requires few { parts.old.clock.steps < most_steps }

@@ -17,7 +17,7 @@ next_item f items new all xs i x less here before w =
 pub all_items : {A B : Type 0} (f : A → B) (items all : List B) (xs : List A) (i : ℕ) → length xs ≤ i → items ++ map f (drop i xs) ≡ all → items ≡ all
 all_items f items all xs i end before = sym (append-nil items) ∙ ap (λ ys. items ++ map f ys) (sym (drop_of_length-le xs end)) ∙ before
 
--- the views of the first items are in place, and so is that of one more
+-- the views of the first items are in place, and the view of one more too
 pub one_placed : {A B : Type 0} (f : A → B) (old new : List B) (xs : List A) (i : ℕ) (x : A)
     → i < length xs → x ≡ get_or xs i x → take i old ≡ map f (take i xs) → take (i + 1) new ≡ take i old ++ f x ∷ []
     → take (i + 1) new ≡ map f (take (i + 1) xs)

@@ -61,7 +61,7 @@ fn token_text(token: &[u8]) -> ArrayString<TOKEN_ROOM> {
     text
 }
 
-// What is said of a token.
+// The token in quotes, and these words after it.
 fn words_of(token: &[u8], words: &str) -> ReasonText {
     let mut text = ArrayString::new();
     let token = token_text(token);

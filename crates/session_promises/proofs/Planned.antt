@@ -15,7 +15,7 @@ use Rattle.wind_session.specs.declared.ending.Which.{Which}
 use Rattle.wind_session.specs.declared.ending.Which.TheVariants as which
 
 module _ (console : List ℕ) (schedule : Timetable) where
-  -- the schedule is that of some tick file
+  -- some tick file gives the schedule
   abbrev pub IsTimed : Type 0
   IsTimed = (ticks : List ℕ) × (schedule ≡ timetable_of ticks)
 

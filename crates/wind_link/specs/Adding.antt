@@ -31,7 +31,7 @@ TellsObject n bytes (status.BadObject line error) = (line ≡ n) × Refused byte
 TellsObject n bytes status.NoMemory = Unit {0}
 TellsObject n bytes _ = ⊥
 
--- line n's file has these bytes, of which a rule or a place after these blocks is refused, or memory ran out
+-- line n's file has these bytes, and a rule or a place after these blocks refuses them, or memory ran out
 abbrev pub RefusesBytes : List ℕ → List Block → ℕ → Places → LinkStatus → Type 0
 RefusesBytes bytes taken n at (status.BadObject line error) = (line ≡ n) × Refused bytes error
 RefusesBytes bytes taken n at (status.BadPlace line kind) =

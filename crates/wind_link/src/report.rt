@@ -21,7 +21,7 @@ const USAGE: &str = "usage: windlink LIST DIR\n";
 /// The name of a relocation without a symbol.
 const NO_NAME: &[u8] = b"";
 
-/// The most bytes of what is said of a line, without names.
+/// The most bytes that a message on a line takes, without names.
 const LINE_BYTES: usize = 96;
 
 /// The files that a message can name.

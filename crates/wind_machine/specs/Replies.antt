@@ -48,7 +48,7 @@ act_reply s who = if who == shell_id then shell_reply s.shell.phase s else task_
 abbrev pub routine_reply : State → Option Reply
 routine_reply s = actor_reply (cleared (unreserved_world s.world)) Interrupt
 
--- the reply of what comes next, given what is said of the file that it needs
+-- the reply of what comes next, given what the folder answers about the file that it needs
 abbrev pub reply_after : FileSaid → State → Next → Option Reply
 reply_after said s Routine = routine_reply s
 reply_after said s (Act who) = act_reply s who
