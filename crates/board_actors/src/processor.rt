@@ -218,6 +218,7 @@ fn call(alloc: Global, world: &mut World, who: &Actor, gate: Gate) -> Result<Rep
 
 /// What an actor does at a gate. A kernel call returns its reply. Host memory may run out only if
 /// the gate's call may run out of it and a task makes it; nothing changes then.
+#[inline(always)]
 pub fn at_gate(
     alloc: Global,
     shell: &mut Shell,

@@ -1,6 +1,6 @@
 //! When reservations are dropped.
 
-ghost use Rattle.std.specs.Prelude.{◌≡◌, IfSome};
+ghost use Rattle.std.specs.Prelude.{◌≡◌, IfSome, true, false};
 ghost use Rattle.wind_core.specs.State.{Lives};
 ghost use Rattle.wind_core.specs.Moves.{unreserve};
 ghost use Rattle.live_loading.specs.KernelWorldKept.{ReservedBy};
@@ -40,14 +40,37 @@ pub(crate) fn other_holder(kern: &Kern, who: Ident) -> Option<Ident>
     if_live(kern, other_last(kern, who))
 }
 
+// Whether a task lives and has a reservation.
+#[tactic(auto, using(crate::proofs::Dropped::not_own, crate::proofs::Dropped::not_reserved))]
+#[inline]
+fn has_reservation(kern: &Kern, who: Ident) -> bool
+    ensures live { result ≡ true → Lives kern.now who }
+    ensures none { result ≡ false → unreserve kern.now who ≡ kern.now }
+{
+    kern.facts();
+    match kern.task(who) {
+        Some(task) => task.regs.reserve.is_some(),
+        None => false,
+    }
+}
+
+/// Drops the reservation of this task.
+#[inline]
+pub fn drop_own(kern: &mut Kern, who: Ident)
+    ensures { kern.new ≡ unreserve kern.old who }
+{
+    if has_reservation(kern, who) {
+        kern.unreserve(who);
+    }
+}
+
 // Drops the reservation of this task, if one is given.
 #[inline]
 fn drop_of(kern: &mut Kern, holder: Option<Ident>)
-    requires { IfSome holder (λ last. Lives kern.old last) }
     ensures { kern.new ≡ without kern.old holder }
 {
     if let Some(last) = holder {
-        kern.unreserve(last);
+        drop_own(kern, last);
     }
 }
 
@@ -58,8 +81,8 @@ pub(crate) fn drop_others(kern: &mut Kern, who: Ident)
     requires { ReservedBy kern.old.last kern.old }
     ensures { kern.new ≡ drop_others_lem kern.old who }
 {
-    let holder = other_holder(kern, who);
-    drop_of(kern, holder);
+    let last = other_last(kern, who);
+    drop_of(kern, last);
 }
 
 /// Drops the reservations of all tasks.
@@ -68,16 +91,6 @@ pub fn drop_all(kern: &mut Kern)
     requires { ReservedBy kern.old.last kern.old }
     ensures { kern.new ≡ drop_all_lem kern.old }
 {
-    let holder = if_live(kern, kern.last());
-    drop_of(kern, holder);
-}
-
-/// Drops the reservation of this task.
-#[tactic(auto, using(crate::proofs::Dropped::not_own))]
-pub fn drop_own(kern: &mut Kern, who: Ident)
-    ensures { kern.new ≡ unreserve kern.old who }
-{
-    if kern.task(who).is_some() {
-        kern.unreserve(who);
-    }
+    let last = kern.last();
+    drop_of(kern, last);
 }

@@ -6,6 +6,7 @@ use Rattle.wind_base.specs.Limits.{longest_chunk}
 use Rattle.wind_outside.specs.Devices.{DeviceState, slots_of}
 use Rattle.wind_outside.specs.declared.device.Device.{Ghosts}
 use Rattle.wind_outside.specs.declared.device.DeviceKind.{DeviceKind}
+use Rattle.live_loading.specs.KernelWorldOpening.{most_output}
 use Rattle.live_loading.specs.KernelWorldSeen.{world_with}
 use Rattle.wind_machine.specs.State.{State}
 use Rattle.board_player.specs.declared.parts.Parts.{Parts}
@@ -33,10 +34,6 @@ parts_by kind_of words_of p = parts_with (slots_of kind_of words_of p.world.bus.
 -- the parts, with each device seen as its kind and its words
 abbrev pub parts_seen : {I : Type 0} {X : I → Type 0} → ((i : I) → Ghosts (X i)) → Parts I X → State
 parts_seen devices p = parts_by (λ d. (devices d.vtable).kind_of d.value) (λ d. (devices d.vtable).words_of d.value) p
-
--- the most that a step writes: each byte of a chunk echoes at most three bytes, and a newline may be supplied after it
-abbrev pub most_output : ℕ
-most_output = 3 * (longest_chunk + 1)
 
 -- the most order numbers that a chunk takes: two for each byte, and for a newline that is supplied
 abbrev pub chunk_sinces : ℕ

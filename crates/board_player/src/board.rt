@@ -13,17 +13,12 @@ use crate::order::{Known, is_early, make, next};
 use crate::parts::Parts;
 use board_actors::{Feed, Shell};
 use con_line::Console;
-use live_loading::{FileAnswer, Reply, World};
+use live_loading::{FileAnswer, OUTPUT_BYTES, Reply, World};
 use std::alloc::Global;
 use tick_file::{Event, Schedule};
-use wind_base::limits::CHUNK_BYTES;
 use wind_base::{BoardKind, Name, NoMemory, OutBuf, Profile};
 use wind_machine::{Next, Phase, safety_law, slot_law, step_law};
 use wind_outside::{Device, Slots};
-
-// The room, in bytes, for what one step writes. Each byte of the console echoes at most three
-// bytes, and a newline may be supplied after a chunk.
-const OUTPUT_BYTES: u32 = 3 * (CHUNK_BYTES as u32 + 1);
 
 /// A board: the wind machine's state in memory.
 #[derive(Drop)]

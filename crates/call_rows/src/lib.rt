@@ -15,7 +15,7 @@ pub mod watch_rows;
 
 pub use ending::end_task;
 pub use kernel_world::{
-    Actor, Call, DONE, Reply, World, errno_of, gate_address, gate_at, is_call, is_isr_callable,
-    is_shell, is_shells_own, leave_gate, may_exhaust_memory, put_frame, read_call, reply_to,
-    set_errno, starting_regs,
+    Actor, Call, DONE, OUTPUT_BYTES, Reply, World, errno_of, gate_address, gate_at, is_call,
+    is_isr_callable, is_shell, is_shells_own, leave_gate, may_exhaust_memory, put_frame, read_call,
+    reply_to, set_errno, starting_regs,
 };

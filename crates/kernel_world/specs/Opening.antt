@@ -1,6 +1,6 @@
 -- The world at the start.
-use Rattle.std.specs.Prelude.{ℕ, List, [], Option, None, false, replicate, codes}
-use Rattle.wind_base.specs.Limits.{pool_start, shell_stack_bytes, most_slots}
+use Rattle.std.specs.Prelude.{ℕ, ◌+◌, ◌*◌, List, [], Option, None, false, replicate, codes}
+use Rattle.wind_base.specs.Limits.{pool_start, shell_stack_bytes, most_slots, longest_chunk}
 use Rattle.wind_base.specs.Boards.{board_rules}
 use Rattle.wind_base.specs.Gates.{gates}
 use Rattle.wind_base.specs.declared.board_kind.BoardKind.{BoardKind}
@@ -20,6 +20,10 @@ use Rattle.kernel_world.specs.Objects.{no_objects}
 use Rattle.kernel_world.specs.State.{WorldState}
 use Rattle.kernel_world.specs.Starting.{no_regs}
 pub use Rattle.module_image.specs.Opening.{interrupt_stack}
+
+-- the most that a step writes: each byte of a chunk echoes at most three bytes, and a newline may be supplied after it
+abbrev pub most_output : ℕ
+most_output = 3 * (longest_chunk + 1)
 
 -- the shell's task: its stack begins where the pool does
 abbrev pub shell_record : NewTask

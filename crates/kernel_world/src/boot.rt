@@ -5,7 +5,7 @@ ghost use Rattle.wind_base.specs.{Limits.most_slots, Boards.board_rules, Gates.g
 ghost use Rattle.wind_outside.specs.Devices.{slots_of};
 ghost use Rattle.module_loader.specs.Modules.{modules_on};
 ghost use Rattle.isr_watch.specs.{State.no_watch, Calls.routine_return};
-ghost use Rattle.kernel_world.specs.{Objects.no_objects, Opening.{shell_record as shell_record_lem, opening_kern as opening_kern_lem, opening_part as opening_part_lem, zeros, opening_world}, Seen.world_seen};
+ghost use Rattle.kernel_world.specs.{Objects.no_objects, Opening.{shell_record as shell_record_lem, opening_kern as opening_kern_lem, most_output, opening_part as opening_part_lem, zeros, opening_world}, Seen.world_seen};
 ghost use Rattle.module_image.specs.Opening.{symbols_of_gate, gate_symbols as gate_symbols_lem};
 
 use crate::board_gates::gate_address;
@@ -28,9 +28,9 @@ use wind_base::{
 use wind_core::Kern;
 use wind_outside::{Device, Slots};
 
-// The room, in bytes, for what one step writes. Each byte of the console echoes at most three
-// bytes, and a newline may be supplied after a chunk.
-const OUTPUT_BYTES: u32 = 3 * (CHUNK_BYTES as u32 + 1);
+/// The room, in bytes, for what one step writes. Each byte of the console echoes at most three
+/// bytes, and a newline may be supplied after a chunk.
+pub const OUTPUT_BYTES: u32 = 3 * (CHUNK_BYTES as u32 + 1);
 
 // The priority of the shell's task.
 fn shell_priority() -> Pri
@@ -196,7 +196,7 @@ impl World {
         requires { length slots.items ≤ most_slots }
         ensures ok { IfOk result (λ w. world_seen ⟦<dyn Device as Device>⟧ w
             ≡ opening_world (slots_of kind_of words_of slots.items) profile board) }
-        ensures room { IfOk result (λ w. 12291 ≤ w.out.room) }
+        ensures room { IfOk result (λ w. most_output ≤ w.out.room) }
         ensures err { IfErr result (λ back. back ≡ slots) }
     {
         // The smallest part comes first: if a later part runs out of memory, all earlier parts are

@@ -17,6 +17,7 @@ mod world;
 pub use actor::{Actor, caller_regs, is_shell, stack_word, target};
 pub use answering::{errno_of, reply_to, set_errno};
 pub use board_gates::{gate_address, gate_at};
+pub use boot::OUTPUT_BYTES;
 pub use call::{Call, read_call};
 pub use gates::{is_call, is_isr_callable, is_shells_own, may_exhaust_memory};
 pub use leaving::leave_gate;

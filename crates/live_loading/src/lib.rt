@@ -9,8 +9,8 @@ mod text;
 
 pub use answer::FileAnswer;
 pub use kernel_calls::{
-    Actor, Reply, World, end_task, file_wanted, gate_address, gate_at, is_call, is_device,
-    make_call, may_exhaust_memory, put_frame, starting_regs,
+    Actor, OUTPUT_BYTES, Reply, World, end_task, file_wanted, gate_address, gate_at, is_call,
+    is_device, make_call, may_exhaust_memory, put_frame, starting_regs,
 };
 pub use laws::loading_law;
 pub use load::kernel_load;

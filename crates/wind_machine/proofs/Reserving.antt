@@ -15,7 +15,7 @@ abbrev Own : Option ℕ → Task → Type 0
 Own who t = IsSome t.regs.reserve → who ≡ Some t.id
 
 -- a record without a reservation stays
-none_stays : (t : Task) → (IsSome t.regs.reserve → ⊥) → unreserved t ≡ t
+pub none_stays : (t : Task) → (IsSome t.regs.reserve → ⊥) → unreserved t ≡ t
 none_stays t none =
     elim t.regs.reserve as (λ o. t.regs.reserve ≡ o → unreserved t ≡ t) [
       | None ↦ λ e. ap (λ o. record t { regs = record t.regs { reserve = o } }) (sym e)
@@ -92,7 +92,7 @@ all_last (t ∷ ts) last h =
     ∙ ap (λ us. cond (eqb t.id last) (unreserved t) t ∷ us) (all_last ts last (All-tail (Own (Some last)) t ts h))
 
 -- ---- a task gets its registers back
-change_identity : (ts : List Task) (who : ℕ) → change task_id ts who (λ t. t) ≡ ts
+pub change_identity : (ts : List Task) (who : ℕ) → change task_id ts who (λ t. t) ≡ ts
 change_identity [] who = refl
 change_identity (t ∷ ts) who = ap (λ u. u ∷ change task_id ts who (λ v. v)) (elim (eqb t.id who) as (λ b. cond b t t ≡ t) [ true ↦ refl | false ↦ refl ]) ∙ ap (λ us. t ∷ us) (change_identity ts who)
 
