@@ -18,7 +18,7 @@ use Rattle.wind_machine.specs.Reserving.{drop_others, drop_all}
 use Rattle.wind_machine.proofs.Free.{own_found, step_start_ready}
 use Rattle.wind_machine.proofs.Dropping.{others_advance, all_advance}
 use Rattle.wind_machine.proofs.Reserving.{regs_again}
-use Rattle.board_actors.specs.StepStart.{other_holder, kept_with, kept_if, kept_of, put_back, restored, without, Readies, IsEarlyWorld}
+use Rattle.board_actors.specs.StepStart.{if_other, kept_with, kept_if, kept_of, put_back, restored, without, Readies, IsEarlyWorld}
 use Rattle.board_actors.proofs.Dropped.{dropped_others, not_own}
 
 within : (w : WorldState) → IsEarly w → Within (2 ^ 60 - 1) w
@@ -75,7 +75,7 @@ given k (Some last) is = by_task (task_of k.tasks last) refl where
   by_task (Some t) e = ap (λ n. set_regs (unreserve k last) n t.regs) (found_id task_id k.tasks last t e) ∙ regs_again k last t is e
 
 pub given_back : (k : KernState) (who : ℕ) → IsKern k → ReservedBy k.last k → put_back (drop_others k who) (kept_of k who) ≡ k
-given_back k who is h = ap (λ j. put_back j (kept_of k who)) (sym (dropped_others k who h)) ∙ given k (other_holder k who) is
+given_back k who is h = ap (λ j. put_back j (kept_of k who)) (sym (dropped_others k who h)) ∙ given k (if_other who k.last) is
 
 pub world_back : (w : WorldState) (who : ℕ) → IsKern w.kern → ReservedBy w.kern.last w.kern → restored (at_step_start w who) w.output (kept_of w.kern who) ≡ w
 world_back w who is h = ap (λ k. record w { kern = k }) (given_back w.kern who is h)

@@ -1,5 +1,5 @@
 -- How the step of a task begins, and how a step that runs out of memory leaves everything as it was.
-use Rattle.std.specs.Prelude.{◌≡◌, ℕ, List, Option, None, Some, ◌==◌, if◌then◌else◌, is_some}
+use Rattle.std.specs.Prelude.{◌≡◌, ℕ, List, Option, None, Some, ◌==◌, if◌then◌else◌}
 use Rattle.wind_base.specs.declared.regs.Regs.{Regs}
 use Rattle.task_block.specs.declared.task.Task.{Task}
 use Rattle.wind_core.specs.State.{KernState, Lives, task_of}
@@ -10,21 +10,12 @@ use Rattle.live_loading.specs.KernelWorldKept.{IsWorld, IsEarly}
 use Rattle.live_loading.specs.KernelWorldActor.TheVariants.{Task as by_task}
 use Rattle.wind_machine.specs.Processor.{regs_of}
 
--- the task, if there is one and it lives
-abbrev pub if_live : List Task → Option ℕ → Option ℕ
-if_live ts None = None
-if_live ts (Some last) = if is_some (task_of ts last) then Some last else None
-
 -- the task, if it is another than this one
 abbrev pub if_other : ℕ → Option ℕ → Option ℕ
 if_other who None = None
 if_other who (Some last) = if last == who then None else Some last
 
--- the task that ran last, if it is another than this one and lives
-abbrev pub other_holder : KernState → ℕ → Option ℕ
-other_holder k who = if_live k.tasks (if_other who k.last)
-
--- that task with its registers
+-- a task with its registers
 abbrev pub kept_with : Option Task → Option (ℕ × Regs)
 kept_with None = None
 kept_with (Some t) = Some (t.id, t.regs)
@@ -33,8 +24,9 @@ abbrev pub kept_if : List Task → Option ℕ → Option (ℕ × Regs)
 kept_if ts None = None
 kept_if ts (Some last) = kept_with (task_of ts last)
 
+-- the task that ran last, if it is another than this one and lives
 abbrev pub kept_of : KernState → ℕ → Option (ℕ × Regs)
-kept_of k who = kept_if k.tasks (other_holder k who)
+kept_of k who = kept_if k.tasks (if_other who k.last)
 
 -- the task has its registers again
 abbrev pub put_back : KernState → Option (ℕ × Regs) → KernState

@@ -1,43 +1,23 @@
 //! When reservations are dropped.
 
-ghost use Rattle.std.specs.Prelude.{◌≡◌, IfSome, true, false};
+ghost use Rattle.std.specs.Prelude.{◌≡◌, true, false};
 ghost use Rattle.wind_core.specs.State.{Lives};
 ghost use Rattle.wind_core.specs.Moves.{unreserve};
 ghost use Rattle.live_loading.specs.KernelWorldKept.{ReservedBy};
-ghost use Rattle.board_actors.specs.StepStart.{if_live as if_live_lem, if_other, other_holder as other_holder_lem, without};
+ghost use Rattle.board_actors.specs.StepStart.{if_other, without};
 ghost use Rattle.wind_machine.specs.Reserving.{drop_others as drop_others_lem, drop_all as drop_all_lem};
 
 use id_table::Ident;
 use wind_core::Kern;
 
-// The task, if it lives.
-fn if_live(kern: &Kern, who: Option<Ident>) -> Option<Ident>
-    ensures task { result ≡ if_live_lem kern.now.tasks who }
-    ensures live { IfSome result (λ id. Lives kern.now id) }
-{
-    match who {
-        Some(id) if kern.task(id).is_some() => Some(id),
-        _ => None,
-    }
-}
-
-// The task that ran last, if it is another one.
-fn other_last(kern: &Kern, who: Ident) -> Option<Ident>
+/// The task that ran last, if it is another one. No third task has a reservation.
+pub(crate) fn other_last(kern: &Kern, who: Ident) -> Option<Ident>
     ensures { result ≡ if_other who kern.now.last }
 {
     match kern.last() {
         Some(last) if last != who => Some(last),
         _ => None,
     }
-}
-
-/// The task whose reservation is dropped at a step of `who`. Only the task that ran last can have
-/// one.
-pub(crate) fn other_holder(kern: &Kern, who: Ident) -> Option<Ident>
-    ensures holder { result ≡ other_holder_lem kern.now who }
-    ensures live { IfSome result (λ last. Lives kern.now last) }
-{
-    if_live(kern, other_last(kern, who))
 }
 
 // Whether a task lives and has a reservation.

@@ -7,7 +7,7 @@ ghost use Rattle.wind_machine.specs.Events.{cleared, unreserved_world};
 ghost use Rattle.wind_machine.specs.ActorSteps.{at_step_start};
 ghost use Rattle.board_actors.specs.StepStart.{kept_of as kept_of_lem, put_back as put_back_lem, restored, Readies, IsEarlyWorld};
 
-use crate::reserving::{drop_all, drop_others, other_holder};
+use crate::reserving::{drop_all, drop_others, other_last};
 use id_table::Ident;
 use live_loading::World;
 use std::mem::swap;
@@ -52,7 +52,7 @@ pub fn start_routine_step(world: &mut World)
 fn kept_of(kern: &Kern, who: Ident) -> Option<(Ident, Regs)>
     ensures { result ≡ kept_of_lem kern.now who }
 {
-    let last = other_holder(kern, who)?;
+    let last = other_last(kern, who)?;
     match kern.task(last) {
         Some(task) => Some((task.id, task.regs)),
         None => None,
