@@ -11,7 +11,7 @@ use Rattle.wind_core.specs.State.{KernState, IsKern, task_of}
 use Rattle.wind_core.specs.Orders.{same_place}
 use Rattle.wind_core.specs.Moves.{renewed, wake_at, pended, remove, set_again}
 use Rattle.wind_core.specs.Move.{Remove, Pend, Set}
-use Rattle.wind_core.specs.declared.changes.Change.TheVariants as changes
+use Rattle.wind_core.specs.declared.settings.Setting.TheVariants as settings
 use Rattle.wind_core.proofs.Keeping.{change_task_keeps}
 use Rattle.wind_core.proofs.Moving.{move_keeps}
 use Rattle.wind_core.proofs.Stable.{All-change}
@@ -94,7 +94,7 @@ module _ {board : BoardKind} (k : KernState) (o : Objects) (is : IsKern k) (kept
   mutexes_back : (who id : ℕ) → IsSome (task_of k.tasks id) → KeepsMutexes (with_mutexes (back_at_gate board (awaiting k who id) who) o.mutexes)
   mutexes_back who id lives =
       let ms = o.mutexes in
-      let one : KeepsMutexes (with_mutexes (marked who) ms) = beside_law (with_mutexes k ms) (Set who (changes.Again true)) kept.mutexes tt in
+      let one : KeepsMutexes (with_mutexes (marked who) ms) = beside_law (with_mutexes k ms) (Set who (settings.Again true)) kept.mutexes tt in
       let two : KeepsMutexes (with_mutexes (awaiting k who id) ms) = beside_law (with_mutexes (marked who) ms) (Pend who (deletion id) false wait_forever) one (refl, lives_below k id is lives) in
       follows_keeps (with_mutexes (awaiting k who id) ms) (back_at_gate board (awaiting k who id) who)
       (mutexes.by_change ms.rows (awaiting k who id) who (at_deletion board) (λ t. alike ms.rows (awaiting k who id) t (at_deletion board t) refl refl refl refl refl refl)) two
@@ -105,21 +105,21 @@ module _ {board : BoardKind} (k : KernState) (o : Objects) (is : IsKern k) (kept
       let rs = o.queues.queues in
       let wait : KernState = awaiting k who id in
       let waits : IsCalm rs k wait =
-      calm_series rs k (Set who (changes.Again true) ∷ Pend who (deletion id) false wait_forever ∷ []) is ((tt, tt), ((omega arith, λ side. absurd (omega (arith, side))), tt)) in
+      calm_series rs k (Set who (settings.Again true) ∷ Pend who (deletion id) false wait_forever ∷ []) is ((tt, tt), ((omega arith, λ side. absurd (omega (arith, side))), tt)) in
       let stands : IsCalm rs wait (back_at_gate board wait who) =
       calm_set rs wait who (at_deletion board) (λ t. refl) (λ t. refl) (change_task_keeps wait who (at_deletion board) waits.kern (record { id = λ t. refl; since = λ t. refl; ahead = λ t h. h })) in
       calm_then rs k wait (back_at_gate board wait who) waits stands
 
   -- ---- the rows
   deed_kept : (p : PartState) (who n : ℕ) (d : Deed) → IsFree k who → Says k.tasks who n d → KeepsDeleters (after k who d) → KeepsObjects board (deletes board k p who d).kern o
-  deed_kept p who n (Refuses e) free said deleters = objects-move k o is kept (Set who (changes.Again false)) (tt, free, tt, tt)
+  deed_kept p who n (Refuses e) free said deleters = objects-move k o is kept (Set who (settings.Again false)) (tt, free, tt, tt)
   deed_kept p who n (EndsItself count) free said deleters =
       let first : KernState = asked k who in
-      let is1 : IsKern first = move_keeps k (Set who (changes.Again false)) is tt in
+      let is1 : IsKern first = move_keeps k (Set who (settings.Again false)) is tt in
       let less : KernState = unguarded k who count in
-      objects-move less o (kern_lessen first who count is1) (objects-lessen first o is1 (objects-move k o is kept (Set who (changes.Again false)) (tt, free, tt, tt)) who count) (Remove who) (tt, deleters, tt, tt)
+      objects-move less o (kern_lessen first who count is1) (objects-lessen first o is1 (objects-move k o is kept (Set who (settings.Again false)) (tt, free, tt, tt)) who count) (Remove who) (tt, deleters, tt, tt)
   deed_kept p who n (Removes id) free said deleters =
-      objects-move (asked k who) o (move_keeps k (Set who (changes.Again false)) is tt) (objects-move k o is kept (Set who (changes.Again false)) (tt, free, tt, tt)) (Remove id) (tt, deleters, tt, tt)
+      objects-move (asked k who) o (move_keeps k (Set who (settings.Again false)) is tt) (objects-move k o is kept (Set who (settings.Again false)) (tt, free, tt, tt)) (Remove id) (tt, deleters, tt, tt)
   deed_kept p who n (Awaits id) free said deleters = by_kern k o is kept (back_at_gate board (awaiting k who id) who) (waits_back who id said.1 deleters) (mutexes_back who id said.1) (calm_back who id)
 
   -- the deletion of a task, by one that waits for nothing

@@ -3,7 +3,7 @@ use Rattle.std.proofs.Common.{ℕ, ◌+◌, ◌-◌, true, List, Option, None, S
 use Rattle.wind_base.specs.declared.board_kind.BoardKind.{BoardKind}
 use Rattle.wind_core.specs.State.{KernState, IsKern, task_named}
 use Rattle.wind_core.specs.Move.{Delay, Suspend, Resume, Set, SetSlice}
-use Rattle.wind_core.specs.declared.changes.Change.TheVariants as changes
+use Rattle.wind_core.specs.declared.settings.Setting.TheVariants as settings
 use Rattle.task_block.specs.declared.task.Task.{Task as TaskRecord}
 use Rattle.kernel_world.specs.Objects.{KeepsObjects}
 use Rattle.call_rows.specs.TaskRows.{suspend_row, resume_row, delay_row, locks_of, lock_row, unlock_row, self_row, verify_row, found_row, name_row, slice_row, tick_row, int_lock_row, int_unlock_row, int_context_row}
@@ -26,11 +26,11 @@ module _ {board : BoardKind} (k : KernState) (o : Objects) (is : IsKern k) (kept
   objects-delay_row Interrupt n = kept
 
   pub objects-lock_row : (a : Actor) → KeepsObjects board (lock_row k a).kern o
-  objects-lock_row (Task who) = objects-move k o is kept (Set who (changes.Locks (locks_of k who + 1))) (tt, tt, tt, tt)
+  objects-lock_row (Task who) = objects-move k o is kept (Set who (settings.Locks (locks_of k who + 1))) (tt, tt, tt, tt)
   objects-lock_row Interrupt = kept
 
   pub objects-unlock_row : (a : Actor) → KeepsObjects board (unlock_row k a).kern o
-  objects-unlock_row (Task who) = objects-move k o is kept (Set who (changes.Locks (locks_of k who - 1))) (tt, tt, tt, tt)
+  objects-unlock_row (Task who) = objects-move k o is kept (Set who (settings.Locks (locks_of k who - 1))) (tt, tt, tt, tt)
   objects-unlock_row Interrupt = kept
 
   pub objects-self_row : (a : Actor) → KeepsObjects board (self_row k a).kern o
@@ -56,11 +56,11 @@ module _ {board : BoardKind} (k : KernState) (o : Objects) (is : IsKern k) (kept
   objects-tick_row = kept
 
   pub objects-int_lock_row : (a : Actor) → KeepsObjects board (int_lock_row k a).kern o
-  objects-int_lock_row (Task who) = objects-move k o is kept (Set who (changes.IntLocked true)) (tt, tt, tt, tt)
+  objects-int_lock_row (Task who) = objects-move k o is kept (Set who (settings.IntLocked true)) (tt, tt, tt, tt)
   objects-int_lock_row Interrupt = kept
 
   pub objects-int_unlock_row : (a : Actor) (key : ℕ) → KeepsObjects board (int_unlock_row k a key).kern o
-  objects-int_unlock_row (Task who) key = objects-move k o is kept (Set who (changes.IntLocked _)) (tt, tt, tt, tt)
+  objects-int_unlock_row (Task who) key = objects-move k o is kept (Set who (settings.IntLocked _)) (tt, tt, tt, tt)
   objects-int_unlock_row Interrupt key = kept
 
   pub objects-int_context_row : (a : Actor) → KeepsObjects board (int_context_row k a).kern o

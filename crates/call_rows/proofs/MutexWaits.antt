@@ -12,7 +12,7 @@ use Rattle.wind_core.specs.State.{KernState, IsKern, task_of}
 use Rattle.wind_core.specs.Orders.{first_waiter}
 use Rattle.wind_core.specs.Moves.{end_wait, wake_all, change_pri, set_held, set_normal}
 use Rattle.wind_core.specs.Move.{Move, Pend, EndWait, WakeAll, ChangePri, Set, apply, IsAllowed}
-use Rattle.wind_core.specs.declared.changes.Change.TheVariants as changes
+use Rattle.wind_core.specs.declared.settings.Setting.TheVariants as settings
 use Rattle.kernel_world.specs.SemPlainState.{both as with_semaphores}
 use Rattle.kernel_world.specs.SemPlainLaws.{MayBegin}
 use Rattle.kernel_world.specs.TaskSafetySafety.{safe_of, make_safe, lessen}
@@ -59,13 +59,13 @@ module _ {board : BoardKind} (o : Objects) where
     still-change_pri who pri = still-move (ChangePri who pri) tt tt tt
 
     still-set_normal : (who pri : ℕ) → Still board (set_normal k who pri) o
-    still-set_normal who pri = still-move (Set who (changes.Normal pri)) tt tt tt
+    still-set_normal who pri = still-move (Set who (settings.Normal pri)) tt tt tt
 
     still-set_held : (who n : ℕ) → Still board (set_held k who n) o
-    still-set_held who n = still-move (Set who (changes.Held n)) tt tt tt
+    still-set_held who n = still-move (Set who (settings.Held n)) tt tt tt
 
     still-make_safe : (who : ℕ) → Still board (make_safe k who) o
-    still-make_safe who = still-move (Set who (changes.Safe (safe_of (task_of k.tasks who) + 1))) tt (λ some. omega arith) tt
+    still-make_safe who = still-move (Set who (settings.Safe (safe_of (task_of k.tasks who) + 1))) tt (λ some. omega arith) tt
 
     still-lessen : (who n : ℕ) → Still board (lessen k who n) o
     still-lessen who n = still_by (lessen k who n) (waits-lessen k o still.kern still.waits who n) (calm-lessen o.queues.queues k who n still.kern)

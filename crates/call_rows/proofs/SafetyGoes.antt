@@ -9,7 +9,7 @@ use Rattle.id_table.specs.Records.{without}
 use Rattle.wind_core.specs.State.{KernState, IsKern, task_id, task_of}
 use Rattle.wind_core.specs.Moves.{remove, set_again}
 use Rattle.wind_core.specs.Move.{Remove, Pend, Set}
-use Rattle.wind_core.specs.declared.changes.Change.TheVariants as changes
+use Rattle.wind_core.specs.declared.settings.Setting.TheVariants as settings
 use Rattle.wind_core.proofs.Ids.{ids}
 use Rattle.wind_core.proofs.Keeping.{change_task_keeps}
 use Rattle.wind_core.proofs.Moving.{move_keeps}
@@ -28,7 +28,7 @@ module _ (k : KernState) (n : ℕ) (is : IsKern k) (within : CountsWithin n k) w
       by_change k who n (at_deletion board) (change_task_keeps k who (at_deletion board) is (record { id = λ t. refl; since = λ t. refl; ahead = λ t h. h })) (λ t. refl) (λ t. refl) (λ t. refl) (λ t h. h) within
 
   pub refuses_goes : (who : ℕ) (e : Errno) → Goes k (after k who (Refuses e)) n 0
-  refuses_goes who e = goes-move k n is within (Set who (changes.Again false)) tt
+  refuses_goes who e = goes-move k n is within (Set who (settings.Again false)) tt
 
 module _ (k : KernState) (n : ℕ) (is : IsKern k) (within : CountsWithin n k) where
   -- the caller waits, and is at the gate of its call
@@ -36,7 +36,7 @@ module _ (k : KernState) (n : ℕ) (is : IsKern k) (within : CountsWithin n k) w
   awaits_goes board who id =
       let marked : KernState = set_again k who true in
       let waits : KernState = awaiting k who id in
-      let one = goes-move k n is within (Set who (changes.Again true)) tt in
+      let one = goes-move k n is within (Set who (settings.Again true)) tt in
       let two = goes-move marked n one.kern one.counts (Pend who (deletion id) false wait_forever) (omega arith) in
       goes_on k waits (back_at_gate board waits who) n n 1 0 (goes_on k marked waits n n 0 1 one two) (goes-back_at_gate waits n two.kern two.counts board who)
 
@@ -96,14 +96,14 @@ module _ (k : KernState) (n : ℕ) (is : IsKern k) (within : CountsWithin n k) w
   -- the caller ends itself
   pub itself_leaves : (who count : ℕ) → Leaves k (after k who (EndsItself count)) who n 256
   itself_leaves who count =
-      let one = goes-move k n is within (Set who (changes.Again false)) tt in
+      let one = goes-move k n is within (Set who (settings.Again false)) tt in
       let j : KernState = unguarded_caller k who count in
       goes_leaves k j who n 256 (goes_on k (asked k who) j n n 0 256 one (goes-lessen (asked k who) n one.kern one.counts who count))
 
   -- a task that is not safe is removed
   pub removed_leaves : (who id : ℕ) → Leaves k (after k who (Removes id)) id n 256
   removed_leaves who id =
-      goes_leaves k (asked k who) id n 256 (goes_further k (asked k who) n n 0 256 (omega arith) (omega arith) (goes-move k n is within (Set who (changes.Again false)) tt))
+      goes_leaves k (asked k who) id n 256 (goes_further k (asked k who) n n 0 256 (omega arith) (omega arith) (goes-move k n is within (Set who (settings.Again false)) tt))
 
   -- a task ends, whoever ends it
   pub ended_leaves : (who : ℕ) → Leaves k (remove (unguarded k who) who) who n 256

@@ -11,7 +11,7 @@ use Rattle.wind_core.specs.State.{KernState, IsKern, task_of}
 use Rattle.wind_core.specs.Orders.{first_waiter}
 use Rattle.wind_core.specs.Moves.{end_wait, wake_all, change_pri, set_held, set_normal}
 use Rattle.wind_core.specs.Move.{Pend, EndWait, WakeAll, ChangePri, Set}
-use Rattle.wind_core.specs.declared.changes.Change.TheVariants as changes
+use Rattle.wind_core.specs.declared.settings.Setting.TheVariants as settings
 use Rattle.kernel_world.specs.TaskSafetySafety.{make_safe, lessen}
 use Rattle.kernel_world.specs.SemPlainSemaphore.{Semaphore}
 use Rattle.kernel_world.specs.SemPlainState.{sem_place}
@@ -36,7 +36,7 @@ module _ (k : KernState) (n : ℕ) (is : IsKern k) (within : CountsWithin n k) w
   goes-holding : (who : ℕ) (m : Mutex) → Goes k (mutex.holding k who m) n 0
   goes-holding who m =
       elim m.inversion_safe as (λ b. Goes k (cond b (set_held k who (mutex.held_of (task_of k.tasks who) + 1)) k) n 0) [
-        | true ↦ goes-move k n is within (Set who (changes.Held (mutex.held_of (task_of k.tasks who) + 1))) tt
+        | true ↦ goes-move k n is within (Set who (settings.Held (mutex.held_of (task_of k.tasks who) + 1))) tt
         | false ↦ goes_nowhere k n is within
       ]
 
@@ -67,7 +67,7 @@ module _ (k : KernState) (n : ℕ) (is : IsKern k) (within : CountsWithin n k) w
   goes-letting_go : (p : Profile) (who : ℕ) (m : Mutex) → Goes k (mutex.letting_go p k who m) n 1
   goes-letting_go p who m =
       let less : KernState = mutex.less_held k who in
-      let one = goes-move k n is within (Set who (changes.Held (mutex.held_of (task_of k.tasks who) - 1))) tt in
+      let one = goes-move k n is within (Set who (settings.Held (mutex.held_of (task_of k.tasks who) - 1))) tt in
       elim m.inversion_safe as (λ b. Goes k (cond b (mutex.dropped p k who) k) n 1) [
         | true ↦ goes_on k less (mutex.dropped p k who) n n 0 1 one (goes-restored less n one.kern one.counts p who (task_of less.tasks who))
         | false ↦ goes_further k k n n 0 1 (omega arith) (omega arith) (goes_nowhere k n is within)
@@ -227,7 +227,7 @@ module _ (k : KernState) (o : Objects) (n : ℕ) (is : IsKern k) (within : Count
   priority_alone : (who pri : ℕ) → Goes k (mutex.priority_alone (mutexes k o) who pri).kern (n + 1) 1
   priority_alone who pri =
       let j : KernState = set_normal k who pri in
-      let one = goes-move k n is within (Set who (changes.Normal pri)) tt in
+      let one = goes-move k n is within (Set who (settings.Normal pri)) tt in
       let now : ℕ = mutex.pri_after pri (task_of k.tasks who) in
       let last : KernState = mutex.followed o.mutexes.profile j who now in
       goes_further k last n (n + 1) 1 1 (omega arith) (omega arith) (goes_on k j last n n 0 1 one (followed_goes o.mutexes.profile j who now one.kern one.counts))

@@ -5,7 +5,7 @@ use Rattle.task_block.specs.declared.task.Task.{Task as TaskRecord}
 use Rattle.wind_core.specs.State.{KernState, IsKern, task_of, task_named}
 use Rattle.wind_core.specs.Moves.{suspend, resume, set_locks, set_int_locked, delay}
 use Rattle.wind_core.specs.Move.{Delay, Suspend, Resume, Set, SetSlice}
-use Rattle.wind_core.specs.declared.changes.Change.TheVariants as changes
+use Rattle.wind_core.specs.declared.settings.Setting.TheVariants as settings
 use Rattle.wind_core.proofs.Becoming.{found_all}
 use Rattle.wind_core.proofs.Moving.{move_keeps}
 use Rattle.task_safety.specs.Safety.{make_safe, lessen, unsafe_refusal}
@@ -46,7 +46,7 @@ module _ (k : KernState) (n : ℕ) (is : IsKern k) (within : CountsWithin n k) w
 
   pub locks_goes : (who m : ℕ) → m ≤ n + 1 → Goes k (set_locks k who m) (n + 1) call_sinces
   locks_goes who m few =
-      goes_further k (set_locks k who m) (n + 1) (n + 1) 0 call_sinces (omega arith) (omega arith) (goes-move k (n + 1) is (more_counts k n (n + 1) (omega arith) within) (Set who (changes.Locks m)) few)
+      goes_further k (set_locks k who m) (n + 1) (n + 1) 0 call_sinces (omega arith) (omega arith) (goes-move k (n + 1) is (more_counts k n (n + 1) (omega arith) within) (Set who (settings.Locks m)) few)
 
   pub lock_goes : (a : Actor) → Goes k (lock_row k a).kern (n + 1) call_sinces
   lock_goes (Task who) = locks_goes who (locks_of k who + 1) (omega (arith, locks_within k who n within))
@@ -72,7 +72,7 @@ module _ (k : KernState) (n : ℕ) (is : IsKern k) (within : CountsWithin n k) w
   slice_goes m = record { kern = move_keeps k (SetSlice m) is tt; alone = refl; stacks = refl; lent = refl; last = refl; reserves = refl; counts = stays.counts; sinces = omega arith; next = omega arith; count = refl }
 
   mark_goes : (who : ℕ) (on : Bool) → Goes k (set_int_locked k who on) (n + 1) call_sinces
-  mark_goes who on = goes_further k (set_int_locked k who on) n (n + 1) 0 call_sinces (omega arith) (omega arith) (goes-move k n is within (Set who (changes.IntLocked on)) tt)
+  mark_goes who on = goes_further k (set_int_locked k who on) n (n + 1) 0 call_sinces (omega arith) (omega arith) (goes-move k n is within (Set who (settings.IntLocked on)) tt)
 
   pub int_lock_goes : (a : Actor) → Goes k (int_lock_row k a).kern (n + 1) call_sinces
   int_lock_goes (Task who) = mark_goes who true

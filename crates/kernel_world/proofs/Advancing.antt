@@ -12,7 +12,7 @@ use Rattle.module_loader.specs.declared.module.LoadedModule.{LoadedModule}
 use Rattle.mem_partition.specs.State.{PartState}
 use Rattle.wind_core.specs.State.{KernState, Lives}
 use Rattle.wind_core.specs.Move.{Set}
-use Rattle.wind_core.specs.declared.changes.Change.TheVariants as changes
+use Rattle.wind_core.specs.declared.settings.Setting.TheVariants as settings
 use Rattle.wind_core.proofs.Ids.{lives_by}
 use Rattle.msg_queue.specs.State.{Scene}
 use Rattle.dev_irq.specs.declared.line.Line.{Line}
@@ -224,5 +224,5 @@ module _ (w : WorldState) (kept : IsWorld w) where
     of_memory ram same = as_call (record w { ram = ram }) (of_parts w.part w.symbols w.modules.rows ram w.slots w.output w.int_errno kept.pool kept.stacks kept.modules kept.symbols same same_modules)
 
     pub errno_advances : (a : Actor) (e : ℕ) → Advances w (with_errno w a e) n 0 0
-    errno_advances (Task who) e = by_kern _ n 0 (goes-move w.kern n kept.kern within.0 (Set who (changes.Errno e)) tt) (objects-move w.kern w.objects kept.kern kept.objects (Set who (changes.Errno e)) (tt, tt, tt, tt)) within.1
+    errno_advances (Task who) e = by_kern _ n 0 (goes-move w.kern n kept.kern within.0 (Set who (settings.Errno e)) tt) (objects-move w.kern w.objects kept.kern kept.objects (Set who (settings.Errno e)) (tt, tt, tt, tt)) within.1
     errno_advances Interrupt e = beside w.slots w.output e

@@ -10,7 +10,7 @@ use Rattle.wind_core.specs.State.{KernState, IsKern, WakesAhead, task_id, task_o
 use Rattle.wind_core.specs.Moves.{change_pri, set_safe}
 use Rattle.wind_core.specs.Releases.{release_all}
 use Rattle.wind_core.specs.Move.{ReleaseAll, ChangePri, Set}
-use Rattle.wind_core.specs.declared.changes.Change.TheVariants as changes
+use Rattle.wind_core.specs.declared.settings.Setting.TheVariants as settings
 use Rattle.sem_mutex.specs.TaskSafetySafety.{deletion, safe_of, lessen}
 use Rattle.wind_base.specs.declared.profile.Profile.{Profile}
 use Rattle.sem_mutex.specs.InheritanceMutex.{Mutex}
@@ -36,7 +36,7 @@ module _ (rs : List (ℕ × QueueState)) where
   calm-lessen k who n is =
       let count : ℕ = safe_of (task_of k.tasks who) in
       let less : KernState = set_safe k who (count - n) in
-      let set : IsCalm rs k less = calms rs k (Set who (changes.Safe (count - n))) is tt tt in
+      let set : IsCalm rs k less = calms rs k (Set who (settings.Safe (count - n))) is tt tt in
       elim (ltb 0 count && leb count n) as (λ b. IsCalm rs k (cond b (release_all less (deletion who)) less)) [
         | true ↦ calm_then rs k less (release_all less (deletion who)) set (calms rs less (ReleaseAll (deletion who)) set.kern tt tt)
         | false ↦ set

@@ -8,10 +8,10 @@ use Rattle.task_block.specs.declared.task.Task.{Task}
 use Rattle.task_block.specs.Standing.{is_ready}
 use Rattle.wind_core.specs.State.{KernState, IsKern, task_of}
 use Rattle.wind_core.specs.Orders.{waiters}
-use Rattle.wind_core.specs.Moves.{renewed, change_task, renew_task, move_found, move_task, pended, wake_at, delayed, delay, released, release, answered, end_wait, end_waits, wake_all, unmarked, suspended, resumed, resume, is_suspended, with_pri, has_pri, change_pri, set_safe, with_change}
+use Rattle.wind_core.specs.Moves.{renewed, change_task, renew_task, move_found, move_task, pended, wake_at, delayed, delay, released, release, answered, end_wait, end_waits, wake_all, unmarked, suspended, resumed, resume, is_suspended, with_pri, has_pri, change_pri, set_safe, with_setting}
 use Rattle.wind_core.specs.Releases.{releases, release_all}
 use Rattle.wind_core.specs.Move.{Move, Spawn, Remove, Pend, Delay, Release, ReleaseAll, EndWait, WakeAll, Tick, Suspend, Resume, ChangePri, Reset, Set, SetRegs, SetLast, SetSlice, DrawIds, Lend, apply}
-use Rattle.wind_core.specs.declared.changes.Change.TheVariants as changes
+use Rattle.wind_core.specs.declared.settings.Setting.TheVariants as settings
 use Rattle.wind_core.proofs.Becoming.{found_all}
 use Rattle.wind_core.proofs.Ids.{ids, ids-change, ids-move}
 use Rattle.wind_core.proofs.Moving.{move_keeps}
@@ -219,10 +219,10 @@ KeepsWithin n k (Spawn new) = ⊥
 KeepsWithin n k (Remove who) = ⊥
 KeepsWithin n k (Pend who place fifo m) = 0 < m
 KeepsWithin n k Tick = ⊥
-KeepsWithin n k (Set who (changes.Locks m)) = m ≤ n
-KeepsWithin n k (Set who (changes.Safe m)) = m ≤ n
+KeepsWithin n k (Set who (settings.Locks m)) = m ≤ n
+KeepsWithin n k (Set who (settings.Safe m)) = m ≤ n
 KeepsWithin n k (SetRegs who regs) = ⊥
-KeepsWithin n k (Set who changes.Unreserved) = ⊥
+KeepsWithin n k (Set who settings.Unreserved) = ⊥
 KeepsWithin n k (SetLast last) = ⊥
 KeepsWithin n k (DrawIds next) = (k.next_id ≤ next) × (next ≤ 1048577)
 KeepsWithin n k (Lend on) = ⊥
@@ -276,11 +276,11 @@ module _ (k : KernState) (n : ℕ) (is : IsKern k) (within : CountsWithin n k) w
   goes-move (Resume who) may = goes-resume k n is within who
   goes-move (ChangePri who pri) may = goes-change_pri k n is within who pri
   goes-move (Reset who) may = by_renewal k who n unmarked (move_keeps k (Reset who) is tt) (λ t. refl) (λ t. refl) (λ t. refl) (λ t h. (omega arith, h.1)) within
-  goes-move (Set who (changes.Locks m)) may = by_change k who n (with_change (changes.Locks m)) (move_keeps k (Set who (changes.Locks m)) is tt) (λ t. refl) (λ t. refl) (λ t. refl) (λ t h. (may, h.1)) within
-  goes-move (Set who (changes.Safe m)) may = by_change k who n (with_change (changes.Safe m)) (move_keeps k (Set who (changes.Safe m)) is tt) (λ t. refl) (λ t. refl) (λ t. refl) (λ t h. (h.0, may)) within
+  goes-move (Set who (settings.Locks m)) may = by_change k who n (with_setting (settings.Locks m)) (move_keeps k (Set who (settings.Locks m)) is tt) (λ t. refl) (λ t. refl) (λ t. refl) (λ t h. (may, h.1)) within
+  goes-move (Set who (settings.Safe m)) may = by_change k who n (with_setting (settings.Safe m)) (move_keeps k (Set who (settings.Safe m)) is tt) (λ t. refl) (λ t. refl) (λ t. refl) (λ t h. (h.0, may)) within
   goes-move (SetRegs who regs) may = absurd may
-  goes-move (Set who changes.Unreserved) may = absurd may
-  goes-move (Set who change) may = by_change k who n (with_change change) (move_keeps k (Set who change) is tt) (λ t. refl) (λ t. refl) (λ t. refl) (λ t h. h) within
+  goes-move (Set who settings.Unreserved) may = absurd may
+  goes-move (Set who change) may = by_change k who n (with_setting change) (move_keeps k (Set who change) is tt) (λ t. refl) (λ t. refl) (λ t. refl) (λ t h. h) within
   goes-move (SetLast last) may = absurd may
   goes-move (SetSlice m) may = beside_tasks k.next_id m (move_keeps k (SetSlice m) is tt) (omega arith)
   goes-move (DrawIds next) may = beside_tasks next k.slice (move_keeps k (DrawIds next) is may) may.0
@@ -293,14 +293,14 @@ module _ (k : KernState) (n : ℕ) (is : IsKern k) (within : CountsWithin n k) w
   -- ---- safe sections
   pub goes-make_safe : (who : ℕ) → Goes k (make_safe k who) (n + 1) 0
   goes-make_safe who =
-      goes-move k (n + 1) is (more_counts k n (n + 1) (omega arith) within) (Set who (changes.Safe (safe_of (task_of k.tasks who) + 1))) (omega (arith, safe_within k who n within))
+      goes-move k (n + 1) is (more_counts k n (n + 1) (omega arith) within) (Set who (settings.Safe (safe_of (task_of k.tasks who) + 1))) (omega (arith, safe_within k who n within))
 
 module _ (k : KernState) (n : ℕ) (is : IsKern k) (within : CountsWithin n k) where
   pub goes-lessen : (who m : ℕ) → Goes k (lessen k who m) n 256
   goes-lessen who m =
       let count : ℕ = safe_of (task_of k.tasks who) in
       let less : KernState = set_safe k who (count - m) in
-      let one = goes-move k n is within (Set who (changes.Safe (count - m))) (omega (arith, safe_within k who n within)) in
+      let one = goes-move k n is within (Set who (settings.Safe (count - m))) (omega (arith, safe_within k who n within)) in
       elim (ltb 0 count && leb count m) as (λ b. Goes k (cond b (release_all less (deletion who)) less) n 256) [
         | true ↦ goes_on k less (release_all less (deletion who)) n n 0 256 one (goes-move less n one.kern one.counts (ReleaseAll (deletion who)) tt)
         | false ↦ goes_further k less n n 0 256 (omega arith) (omega arith) one

@@ -10,7 +10,7 @@ use Rattle.task_block.specs.Standing.{is_ready}
 use Rattle.wind_core.specs.State.{KernState, IsKern, Lives, task_of}
 use Rattle.wind_core.specs.Moves.{renewed, settled, pend, released, unreserved}
 use Rattle.wind_core.specs.Move.{Move, Pend, Set, apply, IsAllowed}
-use Rattle.wind_core.specs.declared.changes.Change.TheVariants as changes
+use Rattle.wind_core.specs.declared.settings.Setting.TheVariants as settings
 use Rattle.sem_plain.specs.Kept.{BeginsOnly}
 use Rattle.sem_plain.specs.Laws.{nowhere}
 use Rattle.sem_plain.proofs.Beginning.{IsOld, themselves, by_tasks}
@@ -75,7 +75,7 @@ module _ {board : BoardKind} (k : KernState) (o : Objects) (is : IsKern k) (kept
 
   -- ---- safe sections
   pub objects-make_safe : (who : ℕ) → KeepsObjects board (make_safe k who) o
-  objects-make_safe who = objects-move (Set who (changes.Safe (safe_of (task_of k.tasks who) + 1))) (tt, λ some. omega arith, tt, tt)
+  objects-make_safe who = objects-move (Set who (settings.Safe (safe_of (task_of k.tasks who) + 1))) (tt, λ some. omega arith, tt, tt)
 
   pub objects-lessen : (who n : ℕ) → KeepsObjects board (lessen k who n) o
   objects-lessen who n =

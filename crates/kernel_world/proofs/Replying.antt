@@ -7,7 +7,7 @@ use Rattle.task_block.specs.Standing.{is_ready}
 use Rattle.wind_core.specs.State.{task_of}
 use Rattle.wind_core.specs.Moves.{past_gate}
 use Rattle.wind_core.specs.Move as moves
-use Rattle.wind_core.specs.declared.changes.Change.TheVariants as changes
+use Rattle.wind_core.specs.declared.settings.Setting.TheVariants as settings
 use Rattle.wind_core.proofs.Unwritten.{task_of-change}
 use Rattle.sem_mutex.specs.TaskSafetySafety.{safe_of}
 use Rattle.kernel_world.specs.State.{WorldState}
@@ -46,11 +46,11 @@ may_left w Interrupt may = may
 
 module _ (w : WorldState) (kept : IsWorld w) (n : ℕ) (within : Within n w) where
   pub left_advances : (a : Actor) → MayCall w.kern a → Advances w (left_gate w a) n 0 0
-  left_advances (Task who) may = by_kern w kept _ n 0 (goes-move w.kern n kept.kern within.0 (moves.Set who changes.PastGate) tt) (objects-move w.kern w.objects kept.kern kept.objects (moves.Set who changes.PastGate) (tt, ready_free w.kern who may, tt, tt)) within.1
+  left_advances (Task who) may = by_kern w kept _ n 0 (goes-move w.kern n kept.kern within.0 (moves.Set who settings.PastGate) tt) (objects-move w.kern w.objects kept.kern kept.objects (moves.Set who settings.PastGate) (tt, ready_free w.kern who may, tt, tt)) within.1
   left_advances Interrupt may = at_routine w kept n within level_past
 
   answer_advances : (a : Actor) (value : ℕ) → Advances w (with_answer w a value) n 0 0
-  answer_advances (Task who) value = by_kern w kept _ n 0 (goes-move w.kern n kept.kern within.0 (moves.Set who (changes.Answer value)) tt) (objects-move w.kern w.objects kept.kern kept.objects (moves.Set who (changes.Answer value)) (tt, tt, tt, tt)) within.1
+  answer_advances (Task who) value = by_kern w kept _ n 0 (goes-move w.kern n kept.kern within.0 (moves.Set who (settings.Answer value)) tt) (objects-move w.kern w.objects kept.kern kept.objects (moves.Set who (settings.Answer value)) (tt, tt, tt, tt)) within.1
   answer_advances Interrupt value = at_routine w kept n within (in_r3 value)
 
 pub replied_advances : (w : WorldState) → IsWorld w → (n : ℕ) → Within n w → (g : Gate) (a : Actor) (r : Reply) → Advances w (replied g w a r) n 0 0

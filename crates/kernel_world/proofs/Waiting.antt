@@ -11,10 +11,10 @@ use Rattle.task_block.specs.declared.task.Task.{Task}
 use Rattle.id_table.proofs.Records.{found_in}
 use Rattle.wind_core.specs.State.{KernState, IsKern, task_id, task_of}
 use Rattle.wind_core.specs.Orders.{same_place, waiters}
-use Rattle.wind_core.specs.Moves.{renewed, change_task, renew_task, move_task, new_task, remove, wake_at, pended, pend, delayed, released, release, answered, end_wait, end_waits, suspended, resumed, is_suspended, unmarked, with_pri, has_pri, change_pri, set_safe, past_gate, with_change}
+use Rattle.wind_core.specs.Moves.{renewed, change_task, renew_task, move_task, new_task, remove, wake_at, pended, pend, delayed, released, release, answered, end_wait, end_waits, suspended, resumed, is_suspended, unmarked, with_pri, has_pri, change_pri, set_safe, past_gate, with_setting}
 use Rattle.wind_core.specs.Releases.{releases, release_all}
 use Rattle.wind_core.specs.Move.{Move, Spawn, Remove, Pend, Delay, Release, ReleaseAll, EndWait, WakeAll, Tick, Suspend, Resume, ChangePri, Reset, Set, SetRegs, SetLast, SetSlice, DrawIds, Lend, IsRising, apply}
-use Rattle.wind_core.specs.declared.changes.Change.TheVariants as changes
+use Rattle.wind_core.specs.declared.settings.Setting.TheVariants as settings
 use Rattle.wind_core.proofs.Stable.{All-change, renew_task-stable, move_task-stable, tick-stable}
 use Rattle.wind_core.proofs.Becoming.{All-change_at}
 use Rattle.wind_core.proofs.Moving.{move_keeps}
@@ -99,10 +99,10 @@ abbrev pub SparesWaits : KernState → Objects → Move → Type 0
 SparesWaits k o (Remove who) = KeepsDeleters (remove k who)
 SparesWaits k o (Pend who place fifo n) = MayWait k o who place
 SparesWaits k o (Reset who) = IsFree k who
-SparesWaits k o (Set who (changes.Safe n)) = IsSafe k who → 0 < n
-SparesWaits k o (Set who (changes.Again on)) = IsFree k who
+SparesWaits k o (Set who (settings.Safe n)) = IsSafe k who → 0 < n
+SparesWaits k o (Set who (settings.Again on)) = IsFree k who
 SparesWaits k o (SetRegs who regs) = IsFree k who
-SparesWaits k o (Set who changes.PastGate) = IsFree k who
+SparesWaits k o (Set who settings.PastGate) = IsFree k who
 SparesWaits k o (DrawIds next) = k.next_id ≤ next
 SparesWaits k o m = Unit {0}
 
@@ -172,8 +172,8 @@ module _ {board : BoardKind} (k : KernState) (o : Objects) (is : IsKern k) (kept
       ])
   waits-move (Reset who) spares = calmly (Reset who) refl tt (moves_keep k (Reset who) is kept.deleters spares) (right_renew who unmarked (same_wait unmarked (λ t. refl)))
   waits-move (SetRegs who regs) spares = calmly (SetRegs who regs) refl tt (moves_keep k (SetRegs who regs) is kept.deleters tt) (right_free who spares (λ t. record t { regs = regs }) (λ t. refl))
-  waits-move (Set who changes.PastGate) spares = calmly (Set who changes.PastGate) refl tt (moves_keep k (Set who changes.PastGate) is kept.deleters tt) (right_free who spares past_gate (λ t. refl))
-  waits-move (Set who change) spares = calmly (Set who change) refl tt (moves_keep k (Set who change) is kept.deleters spares) (right_change who (with_change change) (λ t. refl))
+  waits-move (Set who settings.PastGate) spares = calmly (Set who settings.PastGate) refl tt (moves_keep k (Set who settings.PastGate) is kept.deleters tt) (right_free who spares past_gate (λ t. refl))
+  waits-move (Set who change) spares = calmly (Set who change) refl tt (moves_keep k (Set who change) is kept.deleters spares) (right_change who (with_setting change) (λ t. refl))
   waits-move (SetLast last) spares = calmly (SetLast last) refl tt (moves_keep k (SetLast last) is kept.deleters tt) kept.right
   waits-move (SetSlice n) spares = calmly (SetSlice n) refl tt (moves_keep k (SetSlice n) is kept.deleters tt) kept.right
   waits-move (DrawIds next) spares = calmly (DrawIds next) refl spares (moves_keep k (DrawIds next) is kept.deleters tt) kept.right
@@ -195,7 +195,7 @@ module _ {board : BoardKind} (k : KernState) (o : Objects) (is : IsKern k) (kept
   waits-lessen who n =
       let count : ℕ = safe_of (task_of k.tasks who) in
       let less : KernState = set_safe k who (count - n) in
-      let set : BeginsOnly nowhere k less = moves k (Set who (changes.Safe (count - n))) tt in
+      let set : BeginsOnly nowhere k less = moves k (Set who (settings.Safe (count - n))) tt in
       let right : All (WaitsRight board) less.tasks = right_change k o is kept who (λ t. record t { safe = count - n }) (λ t. refl) in
       elim (ltb 0 count && leb count n) as (λ b. KeepsDeleters (cond b (release_all less (deletion who)) less) → KeepsWaits board (cond b (release_all less (deletion who)) less) o) [
         | true ↦ λ goes.

@@ -32,7 +32,7 @@ use Rattle.task_block.specs.declared.task.Task.{Task}
 use Rattle.wind_core.specs.State.{KernState, Lives}
 use Rattle.wind_core.specs.Moves.{answer, change_task}
 use Rattle.wind_core.specs.Move.{Set, DrawIds}
-use Rattle.wind_core.specs.declared.changes.Change.TheVariants as changes
+use Rattle.wind_core.specs.declared.settings.Setting.TheVariants as settings
 use Rattle.wind_core.proofs.Ids.{lives_by, ids-change}
 use Rattle.kernel_calls.specs.KernelWorldState.{WorldState}
 use Rattle.id_table.specs.Idents.{shell_id}
@@ -149,7 +149,7 @@ writing_advances : (w : WorldState) → IsWorld w → (n : ℕ) → Within n w �
 writing_advances w kept n within text = beside w kept n within w.slots (w.output ++ text) w.int_errno
 
 answer_advances : (w : WorldState) → IsWorld w → (n : ℕ) → Within n w → (value : ℕ) → Advances w (with_answer w shell value) n 0 0
-answer_advances w kept n within value = by_kern w kept (answer w.kern shell_id value) n 0 (goes-move w.kern n kept.kern within.0 (Set shell_id (changes.Answer value)) tt) (objects-move w.kern w.objects kept.kern kept.objects (Set shell_id (changes.Answer value)) (tt, tt, tt, tt)) within.1
+answer_advances w kept n within value = by_kern w kept (answer w.kern shell_id value) n 0 (goes-move w.kern n kept.kern within.0 (Set shell_id (settings.Answer value)) tt) (objects-move w.kern w.objects kept.kern kept.objects (Set shell_id (settings.Answer value)) (tt, tt, tt, tt)) within.1
 
 refused_advances : (w : WorldState) → IsWorld w → (n : ℕ) → Within n w → (name words : List ℕ) → Advances w (refused w name words) n 0 0
 refused_advances w kept n within name words =

@@ -9,11 +9,11 @@ use Rattle.id_table.specs.declared.ident.Place.{Place}
 use Rattle.task_block.specs.declared.task.Task.{Task}
 use Rattle.wind_core.specs.State.{KernState, IsKern, task_of}
 use Rattle.wind_core.specs.Orders.{waiters}
-use Rattle.wind_core.specs.Moves.{renewed, new_task, remove, wake_at, pended, pend, delayed, delay, released, release, answered, end_wait, end_waits, wake_all, suspended, is_suspended, resumed, resume, unmarked, reset, with_pri, has_pri, change_pri, move_task, change_task, renew_task, with_change}
+use Rattle.wind_core.specs.Moves.{renewed, new_task, remove, wake_at, pended, pend, delayed, delay, released, release, answered, end_wait, end_waits, wake_all, suspended, is_suspended, resumed, resume, unmarked, reset, with_pri, has_pri, change_pri, move_task, change_task, renew_task, with_setting}
 use Rattle.wind_core.specs.Releases.{releases}
 use Rattle.wind_core.specs.Tick.{tick}
 use Rattle.wind_core.specs.Move.{Spawn, Remove, Pend, Delay, Release, ReleaseAll, EndWait, WakeAll, Tick, Suspend, Resume, ChangePri, Reset, Set, SetRegs, SetLast, SetSlice, DrawIds, Lend, apply, after as after_moves}
-use Rattle.wind_core.proofs.Mending.{change_stays}
+use Rattle.wind_core.proofs.Mending.{setting_stays}
 use Rattle.wind_core.proofs.Stable as stable
 use Rattle.wind_core.proofs.Moving.{move_keeps}
 use Rattle.wind_core.proofs.Ticking.{tick_keeps}
@@ -157,8 +157,8 @@ calms rs k (Reset who) is may spares =
 calms rs k (Suspend who) is may spares = calm_set rs k who suspended (λ t. refl) (λ t. refl) (move_keeps k (Suspend who) is may)
 calms rs k (SetRegs who regs) is may spares = calm_set rs k who (λ t. record t { regs = regs }) (λ t. refl) (λ t. refl) (move_keeps k (SetRegs who regs) is may)
 calms rs k (Set who change) is may spares =
-    let stays = change_stays change in
-    calm_set rs k who (with_change change) (λ t. ap (λ s. s.0) (stays t)) (λ t. ap (λ s. s.3) (stays t)) (move_keeps k (Set who change) is may)
+    let stays = setting_stays change in
+    calm_set rs k who (with_setting change) (λ t. ap (λ s. s.0) (stays t)) (λ t. ap (λ s. s.3) (stays t)) (move_keeps k (Set who change) is may)
 calms rs k (SetLast last) is may spares = calm_at rs k (record k { last = last }) (move_keeps k (SetLast last) is may) refl (at_first rs k k.next_id)
 calms rs k (SetSlice n) is may spares = calm_at rs k (record k { slice = n }) (move_keeps k (SetSlice n) is may) refl (at_first rs k k.next_id)
 calms rs k (DrawIds next) is may spares = record { kern = move_keeps k (DrawIds next) is may; ids = may.0; waits = at_first rs k next }

@@ -14,7 +14,7 @@ use Rattle.wind_core.specs.State.{KernState, IsKern, task_id, task_of}
 use Rattle.wind_core.specs.Orders.{is_place}
 use Rattle.wind_core.specs.Moves.{set_normal, wake_all}
 use Rattle.wind_core.specs.Move.{WakeAll, ChangePri, Set}
-use Rattle.wind_core.specs.declared.changes.Change.TheVariants as changes
+use Rattle.wind_core.specs.declared.settings.Setting.TheVariants as settings
 use Rattle.wind_core.proofs.Moving.{move_keeps}
 use Rattle.inheritance.specs.declared.mutex.Mutex.{Mutex}
 use Rattle.inheritance.specs.Mutexes.{MutexState, is_id, holds, held_count, mutex_place}
@@ -154,7 +154,7 @@ renormed_only who p q t u d = record {
 -- what the call does to each task, before owners inherit
 repriced : (profile : Profile) (k : KernState) (who p q : ℕ) → IsKern k → All (From (Repriced profile who p q) k.tasks) (followed profile (set_normal k who p) who q).tasks
 repriced One k who p q is =
-    All-change_pri (From (Renormed who p) k.tasks) (From (Repriced One who p q) k.tasks) (set_normal k who p) who q (move_keeps k (Set who (changes.Normal p)) is tt).rising
+    All-change_pri (From (Renormed who p) k.tasks) (From (Repriced One who p q) k.tasks) (set_normal k who p) who q (move_keeps k (Set who (settings.Normal p)) is tt).rising
     (λ t at same f. (f.0, f.1, record { id = f.2.id; held = f.2.held; wait = f.2.wait; fifo = f.2.fifo; pri = inl (same, f.2.own same, λ first. refl) }))
     (λ t at other f. (f.0, f.1, record { id = f.2.id; held = f.2.held; wait = f.2.wait; fifo = f.2.fifo; pri = inr (other, f.2.other other, f.2.pri) }))
     (λ since t f. (f.0, f.1, record { id = f.2.id; held = f.2.held; wait = f.2.wait; fifo = f.2.fifo; pri = f.2.pri }))
@@ -212,7 +212,7 @@ priority_keeps s who p is kept =
     let q : ℕ = pri_after p (task_of k.tasks who) in
     let k1 : KernState = set_normal k who p in
     let k2 : KernState = followed s.profile k1 who q in
-    let is1 : IsKern k1 = move_keeps k (Set who (changes.Normal p)) is tt in
+    let is1 : IsKern k1 = move_keeps k (Set who (settings.Normal p)) is tt in
     let same = next-followed s.profile k1 who q in
     at_once_keeps s.profile k2 ms (kern_followed s.profile k1 who q is1) (record {
       tasks = subst (λ n. All (TaskKept s.profile ms count n) k2.tasks) (sym same)

@@ -19,7 +19,7 @@ use Rattle.wind_core.specs.State.{KernState, IsKern, Lives, task_id, task_of}
 use Rattle.wind_core.specs.Orders.{is_less, is_place, waits_at, waits_before, wait_pri, first_waiter}
 use Rattle.wind_core.specs.Moves.{answered, end_wait, set_held}
 use Rattle.wind_core.specs.Move.{EndWait, Set}
-use Rattle.wind_core.specs.declared.changes.Change.TheVariants as changes
+use Rattle.wind_core.specs.declared.settings.Setting.TheVariants as settings
 use Rattle.wind_core.proofs.Passes.{waits_before-order}
 use Rattle.wind_core.proofs.Moving.{move_keeps}
 use Rattle.wind_core.proofs.Ids.{ids, ids-change, ids-move, lives_by}
@@ -59,10 +59,10 @@ first_urgent k id x y e at waits fx fy =
 
 -- ---- the kernel's invariant
 pub kern_hand : (k : KernState) (who : ℕ) (m : Mutex) → IsKern k → IsKern (guarded (holding k who m) who m)
-kern_hand k who m is = guards (holding k who m) (elim m.inversion_safe as (λ b. IsKern (cond b (set_held k who (held_of (task_of k.tasks who) + 1)) k)) [ true ↦ move_keeps k (Set who (changes.Held (held_of (task_of k.tasks who) + 1))) is tt | false ↦ is ])
+kern_hand k who m is = guards (holding k who m) (elim m.inversion_safe as (λ b. IsKern (cond b (set_held k who (held_of (task_of k.tasks who) + 1)) k)) [ true ↦ move_keeps k (Set who (settings.Held (held_of (task_of k.tasks who) + 1))) is tt | false ↦ is ])
   where
     guards : (r : KernState) → IsKern r → IsKern (guarded r who m)
-    guards r q = elim m.delete_safe as (λ b. IsKern (cond b (make_safe r who) r)) [ true ↦ move_keeps r (Set who (changes.Safe (safe_of (task_of r.tasks who) + 1))) q tt | false ↦ q ]
+    guards r q = elim m.delete_safe as (λ b. IsKern (cond b (make_safe r who) r)) [ true ↦ move_keeps r (Set who (settings.Safe (safe_of (task_of r.tasks who) + 1))) q tt | false ↦ q ]
 
 pub ids_hand : (k : KernState) (who : ℕ) (m : Mutex) → ids (guarded (holding k who m) who m).tasks ≡ ids k.tasks
 ids_hand k who m = guards (holding k who m) ∙ elim m.inversion_safe as (λ b. ids (cond b (set_held k who (held_of (task_of k.tasks who) + 1)) k).tasks ≡ ids k.tasks) [ true ↦ ids-change k.tasks who (λ t. record t { held = held_of (task_of k.tasks who) + 1 }) (λ t. refl) | false ↦ refl ]

@@ -9,7 +9,7 @@ use Rattle.wind_core.specs.Orders.{first_waiter}
 use Rattle.wind_core.specs.Moves.{set_safe, change_pri}
 use Rattle.wind_core.specs.Releases.{release_all}
 use Rattle.wind_core.specs.Move.{Pend, ReleaseAll, ChangePri, Set}
-use Rattle.wind_core.specs.declared.changes.Change.TheVariants as changes
+use Rattle.wind_core.specs.declared.settings.Setting.TheVariants as settings
 use Rattle.wind_core.proofs.Moving.{move_keeps}
 use Rattle.task_safety.specs.Safety.{deletion, safe_of, make_safe, lessen}
 use Rattle.inheritance.specs.declared.mutex.Mutex.{Mutex}
@@ -27,11 +27,11 @@ pub kern_lessen : (k : KernState) (who n : ℕ) → IsKern k → IsKern (lessen 
 kern_lessen k who n is =
     let count : ℕ = safe_of (task_of k.tasks who) in
     let less : KernState = set_safe k who (count - n) in
-    let kept = move_keeps k (Set who (changes.Safe (count - n))) is tt in
+    let kept = move_keeps k (Set who (settings.Safe (count - n))) is tt in
     elim (ltb 0 count && leb count n) as (λ b. IsKern (cond b (release_all less (deletion who)) less)) [ true ↦ move_keeps less (ReleaseAll (deletion who)) kept tt | false ↦ kept ]
 
 pub kern_guarded : (k : KernState) (who : ℕ) (m : Mutex) → IsKern k → IsKern (guarded k who m)
-kern_guarded k who m is = elim m.delete_safe as (λ b. IsKern (cond b (make_safe k who) k)) [ true ↦ move_keeps k (Set who (changes.Safe (safe_of (task_of k.tasks who) + 1))) is tt | false ↦ is ]
+kern_guarded k who m is = elim m.delete_safe as (λ b. IsKern (cond b (make_safe k who) k)) [ true ↦ move_keeps k (Set who (settings.Safe (safe_of (task_of k.tasks who) + 1))) is tt | false ↦ is ]
 
 pub kern_eased : (k : KernState) (who : ℕ) (m : Mutex) (n : ℕ) → IsKern k → IsKern (eased k who m n)
 kern_eased k who m n is = elim m.delete_safe as (λ b. IsKern (cond b (lessen k who n) k)) [ true ↦ kern_lessen k who n is | false ↦ is ]
@@ -44,7 +44,7 @@ kern_restored One k who (Some t) is = elim (eqb t.held 0) as (λ b. IsKern (cond
 pub kern_letting_go : (p : Profile) (k : KernState) (who : ℕ) (m : Mutex) → IsKern k → IsKern (letting_go p k who m)
 kern_letting_go p k who m is =
     elim m.inversion_safe as (λ b. IsKern (cond b (dropped p k who) k)) [
-      | true ↦ kern_restored p (less_held k who) who (task_of (less_held k who).tasks who) (move_keeps k (Set who (changes.Held (held_of (task_of k.tasks who) - 1))) is tt)
+      | true ↦ kern_restored p (less_held k who) who (task_of (less_held k who).tasks who) (move_keeps k (Set who (settings.Held (held_of (task_of k.tasks who) - 1))) is tt)
       | false ↦ is
     ]
 

@@ -19,9 +19,9 @@ use Rattle.task_safety.specs.Safety.{deletion, safe_of, lessen}
 use Rattle.task_safety.proofs.Targets.{Says, deed_says}
 use Rattle.wind_base.specs.Limits.{wait_forever}
 use Rattle.wind_core.specs.Orders.{waits_at}
-use Rattle.wind_core.specs.Moves.{remove, set_again, with_change}
+use Rattle.wind_core.specs.Moves.{remove, set_again, with_setting}
 use Rattle.wind_core.specs.Move.{Move, Spawn, Remove, Pend, Delay, Release, ReleaseAll, EndWait, WakeAll, Tick, Suspend, Resume, ChangePri, Reset, Set, SetRegs, SetLast, SetSlice, DrawIds, Lend, apply}
-use Rattle.wind_core.specs.declared.changes.Change.TheVariants as changes
+use Rattle.wind_core.specs.declared.settings.Setting.TheVariants as settings
 use Rattle.std.specs.List.{All}
 use Rattle.sem_mutex.proofs.Handing.{lives_below}
 use Rattle.sem_mutex.proofs.Steady.{nobody_left}
@@ -41,12 +41,12 @@ follows s (Suspend who) spares = follows-suspend s.mutexes s.kern who
 follows s (Resume who) spares = follows-resume s.mutexes s.kern who
 follows s (ChangePri who pri) spares = absurd spares
 follows s (Reset who) spares = follows-reset s.mutexes s.kern who
-follows s (Set who (changes.Normal pri)) spares = absurd spares
-follows s (Set who (changes.Held n)) spares = absurd spares
+follows s (Set who (settings.Normal pri)) spares = absurd spares
+follows s (Set who (settings.Held n)) spares = absurd spares
 follows s (SetRegs who regs) spares = follows-set_regs s.mutexes s.kern who regs
 follows s (Set who change) spares =
-    by_change s.mutexes s.kern who (with_change change)
-    (λ t. alike s.mutexes s.kern t (with_change change t) refl refl refl refl refl refl)
+    by_change s.mutexes s.kern who (with_setting change)
+    (λ t. alike s.mutexes s.kern t (with_setting change t) refl refl refl refl refl refl)
 follows s (SetLast last) spares = follows-last s.mutexes s.kern last
 follows s (SetSlice n) spares = follows-slice s.mutexes s.kern n
 follows s (DrawIds next) spares = follows-ids s.mutexes s.kern next spares
@@ -57,26 +57,26 @@ beside_law s m kept spares = follows_keeps s (apply s.kern m) (follows s m spare
 
 -- the deletion of a task, even one that owns mutexes
 task_deleted : (s : MutexState) (caller n : ℕ) (d : Deed) → IsKern s.kern → Says s.kern.tasks caller n d → KeepsMutexes s → Keeps s (after s.kern caller d)
-task_deleted s caller n (Refuses e) is said kept = beside_law s (Set caller (changes.Again false)) kept tt
+task_deleted s caller n (Refuses e) is said kept = beside_law s (Set caller (settings.Again false)) kept tt
 task_deleted s caller n (EndsItself count) is said kept =
     let ms = s.mutexes in
     let k : KernState = asked s.kern caller in
     let less : KernState = unguarded s.kern caller count in
-    let one : KeepsMutexes (record s { kern = k }) = beside_law s (Set caller (changes.Again false)) kept tt in
+    let one : KeepsMutexes (record s { kern = k }) = beside_law s (Set caller (settings.Again false)) kept tt in
     let two : KeepsMutexes (record s { kern = less }) = follows_keeps (record s { kern = k }) less (follows-lessen ms k caller count) one in
     follows_keeps (record s { kern = less }) (remove less caller) (follows-remove ms less caller) two
 task_deleted s caller n (Removes who) is said kept =
     let k : KernState = asked s.kern caller in
-    let one : KeepsMutexes (record s { kern = k }) = beside_law s (Set caller (changes.Again false)) kept tt in
+    let one : KeepsMutexes (record s { kern = k }) = beside_law s (Set caller (settings.Again false)) kept tt in
     follows_keeps (record s { kern = k }) (remove k who) (follows-remove s.mutexes k who) one
 task_deleted s caller n (Awaits who) is said kept =
     let k : KernState = set_again s.kern caller true in
-    let one : KeepsMutexes (record s { kern = k }) = beside_law s (Set caller (changes.Again true)) kept tt in
+    let one : KeepsMutexes (record s { kern = k }) = beside_law s (Set caller (settings.Again true)) kept tt in
     follows_keeps (record s { kern = k }) (awaiting s.kern caller who) (follows-pend s.mutexes k caller (deletion who) false wait_forever refl (lives_below s.kern who is said.1)) one
 
 pub safety_law : SafetyLaw
 safety_law s kept = record {
-  guarding = λ who. beside_law s (Set who (changes.Safe (safe_of (task_of s.kern.tasks who) + 1))) kept tt;
+  guarding = λ who. beside_law s (Set who (settings.Safe (safe_of (task_of s.kern.tasks who) + 1))) kept tt;
   lessening = λ who n. follows_keeps s (lessen s.kern who n) (follows-lessen s.mutexes s.kern who n) kept;
   deleting = λ caller target is. task_deleted s caller target (deed_of s.kern.tasks caller target) is (deed_says s.kern.tasks caller target) kept;
 }

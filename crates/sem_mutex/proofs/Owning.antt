@@ -12,7 +12,7 @@ use Rattle.id_table.proofs.Records.{found_id, found_in}
 use Rattle.wind_core.specs.State.{KernState, IsKern, Lives, task_id, task_of}
 use Rattle.wind_core.specs.Moves.{move_found, with_pri, has_pri, change_pri, set_held}
 use Rattle.wind_core.specs.Move.{Set}
-use Rattle.wind_core.specs.declared.changes.Change.TheVariants as changes
+use Rattle.wind_core.specs.declared.settings.Setting.TheVariants as settings
 use Rattle.wind_core.proofs.Moving.{move_keeps}
 use Rattle.inheritance.specs.declared.mutex.Mutex.{Mutex}
 use Rattle.inheritance.specs.Reach.{mutex_at, owner_at}
@@ -100,7 +100,7 @@ module _ (p : Profile) (count : ℕ → ℕ) (ms : List (ℕ × Mutex)) (k : Ker
       h.tasks
 
   kept1 : IsKern k1
-  kept1 = move_keeps k (Set who (changes.Held (held_of (task_of k.tasks who) - 1))) is tt
+  kept1 = move_keeps k (Set who (settings.Held (held_of (task_of k.tasks who) - 1))) is tt
 
   stays : (q : Profile) (u : Task) → (q ≡ One → u.id ≡ who → less who count who ≡ 0 → ⊥) → From (Lowered (less who count)) k.tasks u → From (Dropped q (less who count) who) k.tasks u
   stays q u not f = (f.0, f.1, record { id = f.2.id; normal = f.2.normal; wait = f.2.wait; fifo = f.2.fifo; held = f.2.held; pri = inl (f.2.pri, not) })

@@ -7,7 +7,7 @@ use Rattle.wind_base.specs.declared.semaphore.SemOptions.{SemOptions}
 use Rattle.wind_core.specs.State.{KernState, IsKern, Lives}
 use Rattle.wind_core.specs.Orders.{waits_at}
 use Rattle.wind_core.specs.Move.{Move, Pend, ChangePri, Set, DrawIds, apply}
-use Rattle.wind_core.specs.declared.changes.Change.TheVariants as changes
+use Rattle.wind_core.specs.declared.settings.Setting.TheVariants as settings
 use Rattle.task_safety.specs.Safety.{make_safe, lessen}
 use Rattle.task_safety.specs.Deletion.{delete as delete_task}
 use Rattle.id_table.specs.Rows.{object_of}
@@ -28,8 +28,8 @@ Keeps s k = KeepsMutexes (record s { kern = k })
 abbrev pub SparesMutexes : MutexState → Move → Type 0
 SparesMutexes s (Pend who place fifo n) = (mutex_at s.mutexes (Some place) ≡ None) × (place.id < s.kern.next_id)
 SparesMutexes s (ChangePri who pri) = ⊥
-SparesMutexes s (Set who (changes.Normal pri)) = ⊥
-SparesMutexes s (Set who (changes.Held n)) = ⊥
+SparesMutexes s (Set who (settings.Normal pri)) = ⊥
+SparesMutexes s (Set who (settings.Held n)) = ⊥
 SparesMutexes s (DrawIds next) = s.kern.next_id ≤ next
 SparesMutexes s m = Unit {0}
 

@@ -8,11 +8,11 @@ use Rattle.task_block.specs.declared.task.Task.{Task}
 use Rattle.task_block.specs.declared.task.NewTask.{NewTask}
 use Rattle.wind_core.specs.State.{KernState, task_of}
 use Rattle.wind_core.specs.Orders.{same_place, waiters}
-use Rattle.wind_core.specs.Moves.{change_task, move_task, new_task, spawn, remove, wake_at, pended, pend, delayed, delay, released, release, answered, end_wait, end_waits, wake_all, suspended, resumed, is_suspended, resume, unmarked, with_pri, has_pri, change_pri, with_change}
+use Rattle.wind_core.specs.Moves.{change_task, move_task, new_task, spawn, remove, wake_at, pended, pend, delayed, delay, released, release, answered, end_wait, end_waits, wake_all, suspended, resumed, is_suspended, resume, unmarked, with_pri, has_pri, change_pri, with_setting}
 use Rattle.wind_core.specs.Releases.{releases}
 use Rattle.wind_core.specs.Tick.{tick}
 use Rattle.wind_core.specs.Move.{Spawn, Remove, Pend, Delay, Release, ReleaseAll, EndWait, WakeAll, Tick, Suspend, Resume, ChangePri, Reset, Set, SetRegs, SetLast, SetSlice, DrawIds, Lend, apply, after}
-use Rattle.wind_core.proofs.Mending.{change_stays}
+use Rattle.wind_core.proofs.Mending.{setting_stays}
 use Rattle.wind_core.proofs.Stable.{tick-stable}
 use Rattle.wind_core.proofs.NextId.{next-tick}
 use Rattle.sem_plain.specs.Kept.{IsOldOr, BeginsOnly}
@@ -100,7 +100,7 @@ moves k (ChangePri who pri) more = begins-change_pri k who pri
 moves k (Reset who) more = by_renewal nowhere k who unmarked (λ t old. old)
 moves k (Suspend who) more = writes k who suspended (λ t old. old)
 moves k (SetRegs who regs) more = writes k who (λ t. record t { regs = regs }) (λ t old. old)
-moves k (Set who change) more = writes k who (with_change change) (λ t old. subst (IsOldOr nowhere k.tasks) (sym (ap (λ s. s.3) (change_stays change t))) old)
+moves k (Set who change) more = writes k who (with_setting change) (λ t old. subst (IsOldOr nowhere k.tasks) (sym (ap (λ s. s.3) (setting_stays change t))) old)
 moves k (SetLast last) more = by_tasks nowhere k (record k { last = last }) (omega arith) (themselves nowhere k)
 moves k (SetSlice n) more = by_tasks nowhere k (record k { slice = n }) (omega arith) (themselves nowhere k)
 moves k (DrawIds next) more = by_tasks nowhere k (record k { next_id = next }) more (themselves nowhere k)

@@ -16,11 +16,11 @@ use Rattle.id_table.proofs.Records.{found_id, found_in}
 use Rattle.id_table.proofs.Passing.{none_passes}
 use Rattle.wind_core.specs.State.{KernState, IsKern, task_id, task_of}
 use Rattle.wind_core.specs.Orders.{waits_before, is_place, waits_at, waiters}
-use Rattle.wind_core.specs.Moves.{renewed, change_task, renew_task, move_task, new_task, spawn, remove, wake_at, pended, delayed, released, release, answered, end_waits, suspended, resumed, is_suspended, resume, unmarked, reset, with_pri, has_pri, change_pri, set_safe, set_again, with_change}
+use Rattle.wind_core.specs.Moves.{renewed, change_task, renew_task, move_task, new_task, spawn, remove, wake_at, pended, delayed, released, release, answered, end_waits, suspended, resumed, is_suspended, resume, unmarked, reset, with_pri, has_pri, change_pri, set_safe, set_again, with_setting}
 use Rattle.wind_core.specs.Releases.{releases, release_all}
 use Rattle.wind_core.specs.Tick.{tick}
 use Rattle.wind_core.specs.Move.{Spawn, Remove, Pend, Delay, Release, ReleaseAll, EndWait, WakeAll, Tick, Suspend, Resume, ChangePri, Reset, Set, SetRegs, SetLast, SetSlice, DrawIds, Lend}
-use Rattle.wind_core.specs.declared.changes.Change.TheVariants.{Safe, Again}
+use Rattle.wind_core.specs.declared.settings.Setting.TheVariants.{Safe, Again}
 use Rattle.wind_core.proofs.Passes.{waits_before-order}
 use Rattle.wind_core.proofs.Moving.{move_keeps}
 use Rattle.wind_core.proofs.Stable.{All-change, renew_task-stable, move_task-stable, tick-stable}
@@ -273,7 +273,7 @@ moves_keep k (Set who (Safe n)) is kept spares = writes k kept who n spares
 moves_keep k (Set who (Again on)) is kept spares = marks k kept is who spares on
 moves_keep k (Suspend who) is kept spares = changes k kept who suspended (λ t. refl) (λ t h. h)
 moves_keep k (SetRegs who regs) is kept spares = changes k kept who (λ t. record t { regs = regs }) (λ t. refl) (λ t h. h)
-moves_keep k (Set who change) is kept spares = changes k kept who (with_change change) (λ t. refl) (λ t h. h)
+moves_keep k (Set who change) is kept spares = changes k kept who (with_setting change) (λ t. refl) (λ t h. h)
 moves_keep k (SetLast last) is kept spares = kept
 moves_keep k (SetSlice n) is kept spares = kept
 moves_keep k (DrawIds next) is kept spares = kept

@@ -3,7 +3,7 @@ use Rattle.std.specs.Prelude.{◌≡◌, ℕ, ◌<◌, ◌⊎◌}
 use Rattle.id_table.specs.Sides.{deletion_side}
 use Rattle.wind_core.specs.State.{KernState, IsKern, Lives, task_of}
 use Rattle.wind_core.specs.Move.{Move, Remove, Pend, Reset, Set, apply}
-use Rattle.wind_core.specs.declared.changes.Change.TheVariants as changes
+use Rattle.wind_core.specs.declared.settings.Setting.TheVariants as settings
 use Rattle.task_safety.specs.Safety.{safe_of, make_safe, lessen}
 use Rattle.task_safety.specs.Deletion.{delete}
 use Rattle.task_safety.specs.Kept.{IsSafe, KeepsDeleters, WaitsForNothing}
@@ -30,8 +30,8 @@ abbrev pub SparesDeleters : KernState → Move → Type 0
 SparesDeleters k (Remove who) = safe_of (task_of k.tasks who) ≡ 0
 SparesDeleters k (Pend who place fifo n) = place.side ≡ deletion_side → ⊥
 SparesDeleters k (Reset who) = WaitsForNothing k who
-SparesDeleters k (Set who (changes.Safe n)) = IsSafe k who → 0 < n
-SparesDeleters k (Set who (changes.Again on)) = WaitsForNothing k who
+SparesDeleters k (Set who (settings.Safe n)) = IsSafe k who → 0 < n
+SparesDeleters k (Set who (settings.Again on)) = WaitsForNothing k who
 SparesDeleters k m = Unit {0}
 
 -- such a move keeps the invariant, whichever task it names

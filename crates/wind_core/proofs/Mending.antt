@@ -20,11 +20,11 @@ use Rattle.wind_core.specs.State.{KernState, WakesAhead, task_id}
 use Rattle.wind_core.specs.Orders.{first_waiter, sleeps}
 use Rattle.wind_core.specs.Waiting.{waiter_at, as_waiter, waits_of, task_waits, mended}
 use Rattle.wind_core.specs.Queues.{HaveRoom, as_ready, ready_of, ready_tasks, delayed_of, delayed_tasks, ready_mended, delays_mended}
-use Rattle.wind_core.specs.Moves.{renewed, settled, suspended, with_change}
+use Rattle.wind_core.specs.Moves.{renewed, settled, suspended, with_setting}
 use Rattle.wind_core.specs.Tick.{slice_counted}
 use Rattle.wind_core.specs.declared.kern.Kern.TheInside.{Inside}
-use Rattle.wind_core.specs.declared.changes.Change.{Change}
-use Rattle.wind_core.specs.declared.changes.Change.TheVariants as changes
+use Rattle.wind_core.specs.declared.settings.Setting.{Setting}
+use Rattle.wind_core.specs.declared.settings.Setting.TheVariants as settings
 use Rattle.wind_core.specs.contracts.kern.Kern.{the_view}
 use Rattle.wind_core.proofs.Waiting.{waits_same, mended_is, fewer_wait, first_waits}
 use Rattle.wind_core.proofs.Queued.{IsLast, ready_mended_is, ready_same, ready_found, fewer_ready, delays_mended_is, delayed_same, delayed_unmoved, fewer_asleep}
@@ -171,18 +171,18 @@ same_keeps k who x y kept value same =
 abbrev pub Stays : (Task → Task) → Type 0
 Stays f = (t : Task) → standing (f t) ≡ standing t
 
-pub change_stays : (change : Change) → Stays (with_change change)
-change_stays (changes.Locks n) t = refl
-change_stays (changes.Normal pri) t = refl
-change_stays (changes.Safe n) t = refl
-change_stays (changes.Held n) t = refl
-change_stays (changes.Errno n) t = refl
-change_stays (changes.IntLocked on) t = refl
-change_stays (changes.Again on) t = refl
-change_stays (changes.Answer value) t = refl
-change_stays (changes.Refusal e) t = refl
-change_stays changes.PastGate t = refl
-change_stays changes.Unreserved t = refl
+pub setting_stays : (setting : Setting) → Stays (with_setting setting)
+setting_stays (settings.Locks n) t = refl
+setting_stays (settings.Normal pri) t = refl
+setting_stays (settings.Safe n) t = refl
+setting_stays (settings.Held n) t = refl
+setting_stays (settings.Errno n) t = refl
+setting_stays (settings.IntLocked on) t = refl
+setting_stays (settings.Again on) t = refl
+setting_stays (settings.Answer value) t = refl
+setting_stays (settings.Refusal e) t = refl
+setting_stays settings.PastGate t = refl
+setting_stays settings.Unreserved t = refl
 
 -- y is f of x for such an f, so the invariant holds
 pub set_keeps : (k : Inside) (who : ℕ) (x y : Task) (f : Task → Task) → Kept k → object_of k.tasks.rows who ≡ Some x → y ≡ f x → Stays f → Kept (written k who y k.next_since)

@@ -1,13 +1,13 @@
 -- Every move of the kernel keeps its invariant, and so does every list of moves.
 use Rattle.std.proofs.Common.{List, [], ◌∷◌, refl, ap, arith}
 use Rattle.wind_core.specs.State.{KernState, IsKern}
-use Rattle.wind_core.specs.Moves.{wake_at, pended, delayed, suspended, unmarked, with_change}
+use Rattle.wind_core.specs.Moves.{wake_at, pended, delayed, suspended, unmarked, with_setting}
 use Rattle.wind_core.specs.Orders.{waiters}
 use Rattle.wind_core.specs.Move.{Move, Spawn, Remove, Pend, Delay, Release, ReleaseAll, EndWait, WakeAll, Tick, Suspend, Resume, ChangePri, Reset, Set, SetRegs, SetLast, SetSlice, DrawIds, Lend, apply, IsAllowed, after, EachMove}
 use Rattle.wind_core.specs.Laws.{KeptLaw, SeriesLaw}
 use Rattle.wind_core.proofs.Writes.{wake_ahead, delayed_id, delayed_ahead}
 use Rattle.wind_core.proofs.Comings.{without_keeps}
-use Rattle.wind_core.proofs.Mending.{change_stays}
+use Rattle.wind_core.proofs.Mending.{setting_stays}
 use Rattle.wind_core.proofs.Keeping.{renew_task_keeps, end_wait_keeps, release_keeps, end_waits_keep, resume_keeps, change_pri_keeps, spawn_keeps, writes, counters_keep}
 use Rattle.wind_core.proofs.Releasing.{releases_keep}
 use Rattle.wind_core.proofs.Ticking.{tick_keeps}
@@ -27,8 +27,8 @@ move_keeps k (Resume who) is may = resume_keeps k who is
 move_keeps k (ChangePri who pri) is may = change_pri_keeps k who pri is
 move_keeps k (Reset who) is may = renew_task_keeps k who unmarked is (λ t. refl) (λ t h. h)
 move_keeps k (Set who change) is may =
-    let stays = change_stays change in
-    writes k who (with_change change) is (λ t. ap (λ s. s.0) (stays t)) (λ t. ap (λ s. s.2) (stays t)) (λ t. ap (λ s. s.5) (stays t))
+    let stays = setting_stays change in
+    writes k who (with_setting change) is (λ t. ap (λ s. s.0) (stays t)) (λ t. ap (λ s. s.2) (stays t)) (λ t. ap (λ s. s.5) (stays t))
 move_keeps k (SetRegs who regs) is may = writes k who (λ t. record t { regs = regs }) is (λ t. refl) (λ t. refl) (λ t. refl)
 move_keeps k (SetLast last) is may = counters_keep k k.next_id k.slice k.lent last is (omega arith) is.last_id
 move_keeps k (SetSlice n) is may = counters_keep k k.next_id n k.lent k.last is (omega arith) is.last_id

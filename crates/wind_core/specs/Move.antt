@@ -7,8 +7,8 @@ use Rattle.wind_base.specs.declared.regs.Regs.{Regs}
 use Rattle.id_table.specs.declared.ident.Place.{Place}
 use Rattle.task_block.specs.declared.task.NewTask.{NewTask}
 use Rattle.wind_core.specs.State.{KernState}
-use Rattle.wind_core.specs.declared.changes.Change.{Change}
-use Rattle.wind_core.specs.Moves.{spawn, spawn_refusal, remove, pend, delay, release, end_wait, wake_all, suspend, resume, change_pri, reset, change_task, with_change, set_regs}
+use Rattle.wind_core.specs.declared.settings.Setting.{Setting}
+use Rattle.wind_core.specs.Moves.{spawn, spawn_refusal, remove, pend, delay, release, end_wait, wake_all, suspend, resume, change_pri, reset, change_task, with_setting, set_regs}
 use Rattle.wind_core.specs.Releases.{release_all}
 use Rattle.wind_core.specs.Tick.{tick}
 
@@ -41,7 +41,7 @@ pub data Move : Type 0 where
   -- a task's suspension, scheduler locks, interrupt lock and mark of a repeated call are cleared
   Reset : (who : ℕ) → Move
   -- a task is changed, and stays where it is in every queue
-  Set : (who : ℕ) → (change : Change) → Move
+  Set : (who : ℕ) → (setting : Setting) → Move
   -- a task's registers change
   SetRegs : (who : ℕ) → (regs : Regs) → Move
   -- the task that ran last is recorded
@@ -68,7 +68,7 @@ apply k (Suspend who) = suspend k who
 apply k (Resume who) = resume k who
 apply k (ChangePri who pri) = change_pri k who pri
 apply k (Reset who) = reset k who
-apply k (Set who change) = change_task k who (with_change change)
+apply k (Set who setting) = change_task k who (with_setting setting)
 apply k (SetRegs who regs) = set_regs k who regs
 apply k (SetLast last) = record k { last = last }
 apply k (SetSlice n) = record k { slice = n }

@@ -15,8 +15,8 @@ use Rattle.task_block.specs.declared.task.NewTask.{NewTask}
 use Rattle.task_block.specs.Standing.{is_ready}
 use Rattle.id_table.specs.Records.{change, without}
 use Rattle.wind_core.specs.State.{KernState, task_id, task_of}
-use Rattle.wind_core.specs.declared.changes.Change.{Change}
-use Rattle.wind_core.specs.declared.changes.Change.TheVariants as changes
+use Rattle.wind_core.specs.declared.settings.Setting.{Setting}
+use Rattle.wind_core.specs.declared.settings.Setting.TheVariants as settings
 use Rattle.wind_core.specs.Orders.{waiters}
 
 -- ---- one task is changed
@@ -266,18 +266,18 @@ abbrev pub refuse : KernState → ℕ → Errno → KernState
 refuse s who e = change_task s who (with_refusal e)
 
 -- the task after a change that leaves it where it is in every queue
-abbrev pub with_change : Change → Task → Task
-with_change (changes.Locks n) t = record t { locks = n }
-with_change (changes.Normal pri) t = record t { normal = pri }
-with_change (changes.Safe n) t = record t { safe = n }
-with_change (changes.Held n) t = record t { held = n }
-with_change (changes.Errno n) t = record t { errno = n }
-with_change (changes.IntLocked on) t = record t { int_locked = on }
-with_change (changes.Again on) t = record t { again = on }
-with_change (changes.Answer value) t = with_answer value t
-with_change (changes.Refusal e) t = with_refusal e t
-with_change changes.PastGate t = past_gate t
-with_change changes.Unreserved t = unreserved t
+abbrev pub with_setting : Setting → Task → Task
+with_setting (settings.Locks n) t = record t { locks = n }
+with_setting (settings.Normal pri) t = record t { normal = pri }
+with_setting (settings.Safe n) t = record t { safe = n }
+with_setting (settings.Held n) t = record t { held = n }
+with_setting (settings.Errno n) t = record t { errno = n }
+with_setting (settings.IntLocked on) t = record t { int_locked = on }
+with_setting (settings.Again on) t = record t { again = on }
+with_setting (settings.Answer value) t = with_answer value t
+with_setting (settings.Refusal e) t = with_refusal e t
+with_setting settings.PastGate t = past_gate t
+with_setting settings.Unreserved t = unreserved t
 
 -- the id with this number, if its task is live; no task has id 0
 abbrev pub live_id : List Task → ℕ → Option ℕ

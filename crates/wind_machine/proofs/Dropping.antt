@@ -8,7 +8,7 @@ use Rattle.task_block.specs.declared.task.Task.{Task}
 use Rattle.wind_core.specs.State.{KernState, task_id}
 use Rattle.wind_core.specs.Moves.{unreserved, unreserve}
 use Rattle.wind_core.specs.Move.{Set}
-use Rattle.wind_core.specs.declared.changes.Change.TheVariants as changes
+use Rattle.wind_core.specs.declared.settings.Setting.TheVariants as settings
 use Rattle.wind_core.proofs.Ids.{lives_by}
 use Rattle.live_loading.specs.KernelWorldState.{WorldState}
 use Rattle.live_loading.specs.KernelWorldKept.{Stack, stack_of, routine_stack, AreStacks, IsWorld, HasCounts, Within, ReservedBy}
@@ -112,7 +112,7 @@ other_drops who = by_test (unless_own who) (λ t. elim (eqb t.id who) as (λ c. 
 
 module _ (w : WorldState) (n : ℕ) (kept : IsWorld w) (within : Within n w) where
   pub unreserve_advances : (who : ℕ) → Advances w (with_kern w (unreserve w.kern who)) n 0 0
-  unreserve_advances who = drop_advances (of_own who) (own_drops who) w n kept within (objects-move w.kern w.objects kept.kern kept.objects (Set who changes.Unreserved) (tt, tt, tt, tt))
+  unreserve_advances who = drop_advances (of_own who) (own_drops who) w n kept within (objects-move w.kern w.objects kept.kern kept.objects (Set who settings.Unreserved) (tt, tt, tt, tt))
 
   pub others_advance : (who : ℕ) → Advances w (with_kern w (drop_others w.kern who)) n 0 0
   others_advance who = drop_advances (unless_own who) (other_drops who) w n kept within (objects-drop w.kern w.objects kept.objects (λ t. eqb t.id who))

@@ -8,7 +8,7 @@ use Rattle.tick_file.specs.declared.event.Event.TheVariants.{Tick, Rx, Irq}
 use Rattle.wind_core.specs.State.{KernState}
 use Rattle.wind_core.specs.Moves.{release}
 use Rattle.wind_core.specs.Move.{Set}
-use Rattle.wind_core.specs.declared.changes.Change.TheVariants as changes
+use Rattle.wind_core.specs.declared.settings.Setting.TheVariants as settings
 use Rattle.con_line.specs.Keys.{byte_done}
 use Rattle.con_line.specs.Lines.{has_line, first_line}
 use Rattle.con_line.specs.declared.console.ByteDone.{ByteDone}
@@ -93,7 +93,7 @@ module _ (s : State) (g : Good s) where
   scene_kept who =
       let w : WorldState = step_start_world s (by_task who) in
       let kept = (step_start_advances s g.kept who).kept in
-      let calm = calms w.objects.queues.queues w.kern (Set who changes.PastGate) kept.kern tt tt in
+      let calm = calms w.objects.queues.queues w.kern (Set who settings.PastGate) kept.kern tt tt in
       queues-calm w.board w.kern (left_gate w (by_task who)).kern w.objects calm kept.objects.queues w.ram kept.ram
 
   -- the call at its gate

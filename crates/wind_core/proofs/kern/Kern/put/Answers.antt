@@ -1,6 +1,6 @@
-use Rattle.wind_core.specs.Moves.{with_change}
+use Rattle.wind_core.specs.Moves.{with_setting}
 use Rattle.wind_core.proofs.Writes.{object_lives, sets}
-use Rattle.wind_core.proofs.Mending.{set_keeps, change_stays}
+use Rattle.wind_core.proofs.Mending.{set_keeps, setting_stays}
 use Rattle.wind_core.proofs.kern.Kern.put.Goals as goal
 
 pub object_mut-requires : goal.object_mut-requires
@@ -8,10 +8,10 @@ object_mut-requires c = object_lives c.self.inside c.args.self.now c.args.who c.
 
 pub invariant_of-self : goal.invariant_of-self
 invariant_of-self c =
-    set_keeps c.self.inside c.args.who c.object_mut.result.now c.put_change.new.task (with_change c.args.change) c.self.invariant c.object_mut.ensures.value c.put_change.ensures
-    (change_stays c.args.change)
+    set_keeps c.self.inside c.args.who c.object_mut.result.now c.put_setting.new.task (with_setting c.args.change) c.self.invariant c.object_mut.ensures.value c.put_setting.ensures
+    (setting_stays c.args.change)
 
 pub returns : goal.returns
 returns c =
-    sets c.self.inside c.args.self.now c.args.who c.object_mut.result.now c.put_change.new.task (with_change c.args.change) c.self.invariant c.self.view_is c.object_mut.ensures.value
-    c.put_change.ensures
+    sets c.self.inside c.args.self.now c.args.who c.object_mut.result.now c.put_setting.new.task (with_setting c.args.change) c.self.invariant c.self.view_is c.object_mut.ensures.value
+    c.put_setting.ensures

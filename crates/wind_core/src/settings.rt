@@ -1,8 +1,8 @@
-//! Changes of one task that leave it where it is in every queue.
+//! Settings of one task, which leave it where it is in every queue.
 
 ghost use Rattle.std.specs.Prelude.{◌≡◌};
 ghost use Rattle.wind_core.specs.State.{Lives};
-ghost use Rattle.wind_core.specs.Moves.{change_task, past_gate, with_answer, with_refusal, with_change, leave_gate, answer, refuse, unreserve, set_regs, set_locks, set_normal, set_safe, set_held, set_errno, set_int_locked, set_again};
+ghost use Rattle.wind_core.specs.Moves.{change_task, past_gate, with_answer, with_refusal, with_setting, leave_gate, answer, refuse, unreserve, set_regs, set_locks, set_normal, set_safe, set_held, set_errno, set_int_locked, set_again};
 
 use crate::kern::Kern;
 use id_table::Ident;
@@ -10,8 +10,8 @@ use task_block::Task;
 use wind_base::words::ERROR;
 use wind_base::{Errno, Pri, Regs};
 
-/// A change of one task that leaves it where it is in every queue.
-pub enum Change {
+/// A field of one task that is set, and leaves the task where it is in every queue.
+pub enum Setting {
     /// The number of the task's scheduler locks.
     Locks(u64),
     /// The task's normal priority.
@@ -59,34 +59,34 @@ fn put_refusal(task: &mut Task, errno: Errno)
     task.errno = errno.number();
 }
 
-// Makes a change of the task.
+// Sets a field of the task.
 #[inline(always)]
-fn put_change(task: &mut Task, change: Change)
-    ensures { task.new ≡ with_change change task.old }
+fn put_setting(task: &mut Task, setting: Setting)
+    ensures { task.new ≡ with_setting setting task.old }
 {
-    match change {
-        Change::Locks(n) => task.locks = n,
-        Change::Normal(pri) => task.normal = pri,
-        Change::Safe(n) => task.safe = n,
-        Change::Held(n) => task.held = n,
-        Change::Errno(n) => task.errno = n,
-        Change::IntLocked(on) => task.int_locked = on,
-        Change::Again(on) => task.again = on,
-        Change::Answer(value) => put_answer(task, value),
-        Change::Refusal(errno) => put_refusal(task, errno),
-        Change::PastGate => pass_gate(task),
-        Change::Unreserved => task.regs.reserve = None,
+    match setting {
+        Setting::Locks(n) => task.locks = n,
+        Setting::Normal(pri) => task.normal = pri,
+        Setting::Safe(n) => task.safe = n,
+        Setting::Held(n) => task.held = n,
+        Setting::Errno(n) => task.errno = n,
+        Setting::IntLocked(on) => task.int_locked = on,
+        Setting::Again(on) => task.again = on,
+        Setting::Answer(value) => put_answer(task, value),
+        Setting::Refusal(errno) => put_refusal(task, errno),
+        Setting::PastGate => pass_gate(task),
+        Setting::Unreserved => task.regs.reserve = None,
     }
 }
 
 impl Kern {
-    // Makes a change of the task that leaves it where it is in every queue.
+    // Sets a field of the task, which leaves it where it is in every queue.
     #[inline(always)]
-    fn put(&mut self, who: Ident, change: Change)
+    fn put(&mut self, who: Ident, setting: Setting)
         requires { Lives self.old who }
-        ensures { self.new ≡ change_task self.old who (with_change change) }
+        ensures { self.new ≡ change_task self.old who (with_setting setting) }
     {
-        put_change(self.tasks.object_mut(who), change);
+        put_setting(self.tasks.object_mut(who), setting);
     }
 
     /// Returns the task from its call: the program counter becomes the link register.
@@ -94,7 +94,7 @@ impl Kern {
         requires { Lives self.old who }
         ensures { self.new ≡ leave_gate self.old who }
     {
-        self.put(who, Change::PastGate);
+        self.put(who, Setting::PastGate);
     }
 
     /// Sets the result of the task's call, in r3.
@@ -102,7 +102,7 @@ impl Kern {
         requires { Lives self.old who }
         ensures { self.new ≡ answer self.old who value }
     {
-        self.put(who, Change::Answer(value));
+        self.put(who, Setting::Answer(value));
     }
 
     /// Refuses the task's call: its result is ERROR, and the task's error number is set.
@@ -110,7 +110,7 @@ impl Kern {
         requires { Lives self.old who }
         ensures { self.new ≡ refuse self.old who errno }
     {
-        self.put(who, Change::Refusal(errno));
+        self.put(who, Setting::Refusal(errno));
     }
 
     /// Drops the task's reservation.
@@ -118,7 +118,7 @@ impl Kern {
         requires { Lives self.old who }
         ensures { self.new ≡ unreserve self.old who }
     {
-        self.put(who, Change::Unreserved);
+        self.put(who, Setting::Unreserved);
     }
 
     /// Sets the task's registers.
@@ -134,7 +134,7 @@ impl Kern {
         requires { Lives self.old who }
         ensures { self.new ≡ set_locks self.old who n }
     {
-        self.put(who, Change::Locks(n));
+        self.put(who, Setting::Locks(n));
     }
 
     /// Sets the task's normal priority, without inheritance.
@@ -142,7 +142,7 @@ impl Kern {
         requires { Lives self.old who }
         ensures { self.new ≡ set_normal self.old who pri }
     {
-        self.put(who, Change::Normal(pri));
+        self.put(who, Setting::Normal(pri));
     }
 
     /// Sets the number of safe sections that the task is in.
@@ -150,7 +150,7 @@ impl Kern {
         requires { Lives self.old who }
         ensures { self.new ≡ set_safe self.old who n }
     {
-        self.put(who, Change::Safe(n));
+        self.put(who, Setting::Safe(n));
     }
 
     /// Sets the number of inversion-safe mutexes that the task owns.
@@ -158,7 +158,7 @@ impl Kern {
         requires { Lives self.old who }
         ensures { self.new ≡ set_held self.old who n }
     {
-        self.put(who, Change::Held(n));
+        self.put(who, Setting::Held(n));
     }
 
     /// Sets the task's last error number.
@@ -166,7 +166,7 @@ impl Kern {
         requires { Lives self.old who }
         ensures { self.new ≡ set_errno self.old who n }
     {
-        self.put(who, Change::Errno(n));
+        self.put(who, Setting::Errno(n));
     }
 
     /// Sets whether the task has locked out interrupts.
@@ -174,7 +174,7 @@ impl Kern {
         requires { Lives self.old who }
         ensures { self.new ≡ set_int_locked self.old who on }
     {
-        self.put(who, Change::IntLocked(on));
+        self.put(who, Setting::IntLocked(on));
     }
 
     /// Sets whether the task's next call is a repetition of a call that pended.
@@ -182,6 +182,6 @@ impl Kern {
         requires { Lives self.old who }
         ensures { self.new ≡ set_again self.old who on }
     {
-        self.put(who, Change::Again(on));
+        self.put(who, Setting::Again(on));
     }
 }
