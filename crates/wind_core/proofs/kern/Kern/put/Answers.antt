@@ -8,10 +8,10 @@ object_mut-requires c = object_lives c.self.inside c.args.self.now c.args.who c.
 
 pub invariant_of-self : goal.invariant_of-self
 invariant_of-self c =
-    set_keeps c.self.inside c.args.who c.object_mut.result.now c.put_setting.new.task (with_setting c.args.change) c.self.invariant c.object_mut.ensures.value c.put_setting.ensures
-    (setting_stays c.args.change)
+    set_keeps c.self.inside c.args.who c.object_mut.result.now c.put_setting.new.task (with_setting c.args.setting) c.self.invariant c.object_mut.ensures.value c.put_setting.ensures
+    (setting_stays c.args.setting)
 
 pub returns : goal.returns
 returns c =
-    sets c.self.inside c.args.self.now c.args.who c.object_mut.result.now c.put_setting.new.task (with_setting c.args.change) c.self.invariant c.self.view_is c.object_mut.ensures.value
+    sets c.self.inside c.args.self.now c.args.who c.object_mut.result.now c.put_setting.new.task (with_setting c.args.setting) c.self.invariant c.self.view_is c.object_mut.ensures.value
     c.put_setting.ensures
