@@ -1,10 +1,13 @@
 //! Changes of one task that leave it where it is in every queue.
 
 ghost use Rattle.std.specs.Prelude.{◌≡◌};
+ghost use Rattle.task_block.specs.declared.task.Task.{Task as Task_lem};
 ghost use Rattle.wind_core.specs.State.{Lives};
+ghost use Rattle.wind_core.specs.Notes.{marks};
 ghost use Rattle.wind_core.specs.Moves.{change_task, past_gate, with_answer, with_refusal, with_change, leave_gate, answer, refuse, unreserve, set_regs, set_locks, set_normal, set_safe, set_held, set_errno, set_int_locked, set_again};
 
 use crate::kern::Kern;
+use crate::notes::{holds_none_too, normal_too};
 use id_table::Ident;
 use task_block::Task;
 use wind_base::words::ERROR;
@@ -80,13 +83,26 @@ fn put_change(task: &mut Task, change: Change)
 }
 
 impl Kern {
-    // Makes a change of the task that leaves it where it is in every queue.
+    // Makes a change of the task that leaves it where it is in every queue, and what is noted of all
+    // tasks as it is.
     #[inline(always)]
     fn put(&mut self, who: Ident, change: Change)
-        requires { Lives self.old who }
+        requires live { Lives self.old who }
+        requires marks { (t : Task_lem) → marks (with_change change t) ≡ marks t }
         ensures { self.new ≡ change_task self.old who (with_change change) }
     {
         put_change(self.tasks.object_mut(who), change);
+    }
+
+    // The same for any change. What is noted of all tasks is tested at this one.
+    fn put_noted(&mut self, who: Ident, change: Change)
+        requires { Lives self.old who }
+        ensures { self.new ≡ change_task self.old who (with_change change) }
+    {
+        let task = self.tasks.object_mut(who);
+        put_change(task, change);
+        self.all_normal = normal_too(self.all_normal, task);
+        self.none_holds = holds_none_too(self.none_holds, task);
     }
 
     /// Returns the task from its call: the program counter becomes the link register.
@@ -142,7 +158,7 @@ impl Kern {
         requires { Lives self.old who }
         ensures { self.new ≡ set_normal self.old who pri }
     {
-        self.put(who, Change::Normal(pri));
+        self.put_noted(who, Change::Normal(pri));
     }
 
     /// Sets the number of safe sections that the task is in.
@@ -158,7 +174,7 @@ impl Kern {
         requires { Lives self.old who }
         ensures { self.new ≡ set_held self.old who n }
     {
-        self.put(who, Change::Held(n));
+        self.put_noted(who, Change::Held(n));
     }
 
     /// Sets the task's last error number.
