@@ -1,7 +1,7 @@
 -- Gaps between tasks: what a contract sees of them, as one is added and one removed.
-use Rattle.std.proofs.Common.{◌≡◌, ℕ, suc, ◌+◌, ◌-◌, ◌<◌, ◌≤◌, ◌^◌, true, false, cond, not, eqb, leb, List, [], ◌∷◌, ◌++◌, length, Option, None, Some, is_some, refl, sym, ap, ◌∙◌, subst, arith, append_assoc}
+use Rattle.std.proofs.Common.{◌≡◌, ℕ, suc, ◌+◌, ◌-◌, ◌<◌, ◌≤◌, ◌^◌, max, Bool, true, false, cond, not, eqb, leb, List, [], ◌∷◌, ◌++◌, length, Option, None, Some, is_some, refl, sym, ap, ◌∙◌, subst, arith, append_assoc}
 use Rattle.std.specs.Prelude.{IsSome, IsSomeAnd}
-use Rattle.std.specs.Option.{option_map}
+use Rattle.std.specs.Option.{is_none, option_map}
 use Rattle.std.specs.List.{All}
 use Rattle.std.proofs.lemmas.Bool.{eq-eqb, le-leb, lt-leb}
 use Rattle.std.proofs.lemmas.List.{append-nil, length-append}
@@ -13,7 +13,7 @@ use Rattle.linked_lists.specs.Chains.{Chains, cell_key, all_cells, chain_at, fir
 use Rattle.linked_lists.proofs.Links.{Absent, absent_cons, absent_append, apart_middle, apart_back, apart_insert, apart_remove, without_middle}
 use Rattle.linked_lists.proofs.Keeping.{found_list, value_there}
 use Rattle.delay_queue.specs.Wakes.{Order, task_id, task_wake, wake_of, put_in, taken_out, due_at}
-use Rattle.delay_queue.specs.Inside.{wakes_from, total, IsTimed, IsPosition, gap_put, with_gap}
+use Rattle.delay_queue.specs.Inside.{wakes_from, total, last_left, IsTimed, IsPosition, gap_put, with_gap}
 
 abbrev Cells : Type 0
 Cells = List (ℕ × ℕ)
@@ -105,11 +105,23 @@ came b who left wake (x ∷ xs) ys e later =
     ap (λ zs. (x.0, b + x.1) ∷ zs) (came (b + x.1) who left wake xs ys (omega (arith, e)) later)
     ∙ sym (ap (λ t. cond t ((x.0, b + x.1) ∷ put_in (wakes_from (b + x.1) (xs ++ ys)) (who, wake)) ((who, wake) ∷ (x.0, b + x.1) ∷ wakes_from (b + x.1) (xs ++ ys))) (le-leb (b + x.1) wake (omega (arith, e))))
 
+total-append : (xs ys : Cells) → total (xs ++ ys) ≡ total xs + total ys
+total-append [] ys = omega arith
+total-append (x ∷ xs) ys = omega (arith, total-append xs ys)
+
+last_came : (who left wake : ℕ) (xs ys : Cells) → total xs + left ≡ wake → ((gap : ℕ) → first_value ys ≡ Some gap → left < gap)
+    → total (xs ++ (who, left) ∷ less_first left ys) ≡ max (total (xs ++ ys)) wake
+last_came who left wake xs [] e later = omega (arith, e, total-append xs ((who, left) ∷ []), total-append xs [])
+last_came who left wake xs (y ∷ ys) e later =
+    let less : left < y.1 = later y.1 refl in
+    omega (arith, e, less, total-append xs ((who, left) ∷ (y.0, y.1 - left) ∷ ys), total-append xs (y ∷ ys))
+
 -- the list after a task is added, and what a contract sees of it
 pub record Came (t : Chains ℕ) (who wake : ℕ) (next : Option ℕ) (left : ℕ) : Type 0 where
   pub list : Cells
   pub chains : with_gap (with_cell t 0 next (who, left)) next (λ gap. gap - left) ≡ record { chains = list ∷ []; room = t.room }
   pub wakes : wakes_from 0 list ≡ put_in (wakes_from 0 (chain_at t.chains 0)) (who, wake)
+  pub last : total list ≡ max (total (chain_at t.chains 0)) wake
 
 pub shift_first : (f : ℕ → ℕ) (room : ℕ) (xs : Cells) (y : ℕ × ℕ) (ys : Cells) → Apart (xs ++ y ∷ ys)
     → with_gap (record { chains = (xs ++ y ∷ ys) ∷ []; room = room }) (Some y.0) f ≡ record { chains = (xs ++ (y.0, f y.1) ∷ ys) ∷ []; room = room }
@@ -132,6 +144,7 @@ task_came c room who wake next left a none place =
       list = xs ++ (who, left) ∷ less_first left place.back;
       chains = (λ i. with_gap (put i) (place.next_is i) (λ gap. gap - left)) ∙ shifted place.back more;
       wakes = came 0 who left wake xs place.back (omega (arith, place.sum)) place.later ∙ ap (λ zs. put_in (wakes_from 0 zs) (who, wake)) (sym place.whole);
+      last = last_came who left wake xs place.back place.sum place.later ∙ ap (λ zs. max (total zs) wake) (sym place.whole);
     }
   where
     shifted : (ys : Cells) → Apart (place.prefix ++ (who, left) ∷ ys)
@@ -157,10 +170,16 @@ went b who gap (x ∷ xs) ys prefix back =
     ap (λ zs. (x.0, b + x.1) ∷ zs) (went (b + x.1) who gap xs ys here.1 back)
     ∙ sym (ap (λ t. cond (not t) ((x.0, b + x.1) ∷ taken_out (wakes_from (b + x.1) (xs ++ (who, gap) ∷ ys)) who) (taken_out (wakes_from (b + x.1) (xs ++ (who, gap) ∷ ys)) who)) here.0)
 
+last_went : (who gap : ℕ) (xs ys : Cells) → total (xs ++ more_first gap ys) ≡ last_left (total (xs ++ (who, gap) ∷ ys)) (is_none (first_key ys)) gap
+last_went who gap xs [] = omega (arith, total-append xs [], total-append xs ((who, gap) ∷ []))
+last_went who gap xs (y ∷ ys) = omega (arith, total-append xs ((y.0, y.1 + gap) ∷ ys), total-append xs ((who, gap) ∷ y ∷ ys))
+
 pub record Went (t : Chains ℕ) (who : ℕ) (next : Option ℕ) (gap : ℕ) : Type 0 where
   pub list : Cells
   pub chains : with_gap (without_cell t who) next (λ g. g + gap) ≡ record { chains = list ∷ []; room = t.room }
   pub wakes : wakes_from 0 list ≡ taken_out (wakes_from 0 (chain_at t.chains 0)) who
+  pub last : total list ≡ last_left (total (chain_at t.chains 0)) (is_none next) gap
+  pub within : is_none next ≡ true → gap ≤ total (chain_at t.chains 0)
 
 pub task_went : (c : Cells) (room who gap : ℕ) (next : Option ℕ) (xs ys : Cells) → Apart c → c ≡ xs ++ (who, gap) ∷ ys → next ≡ first_key ys → Went (record { chains = c ∷ []; room = room }) who next gap
 task_went c room who gap next xs ys a whole next_is =
@@ -174,6 +193,8 @@ task_went c room who gap next xs ys a whole next_is =
       list = xs ++ more_first gap ys;
       chains = (λ i. with_gap (gone i) (next_is i) (λ g. g + gap)) ∙ shifted ys (apart_remove xs (who, gap) ys a');
       wakes = went 0 who gap xs ys prefix back ∙ ap (λ zs. taken_out (wakes_from 0 zs) who) (sym whole);
+      last = last_went who gap xs ys ∙ (λ i. last_left (total (sym whole i)) (is_none (sym next_is i)) gap);
+      within = λ e. subst (λ zs. gap ≤ total zs) (sym whole) (omega (arith, total-append xs ((who, gap) ∷ ys)));
     }
   where
     shifted : (zs : Cells) → Apart (xs ++ zs) → with_gap (record { chains = (xs ++ zs) ∷ []; room = room }) (first_key zs) (λ g. g + gap) ≡ record { chains = (xs ++ more_first gap zs) ∷ []; room = room }
@@ -281,6 +302,11 @@ going t who gap next is a value after =
     subst (λ u. Going u who next gap) (sym (is_single t is.one))
     (going_single (chain_at t.chains 0) t.room who gap next found.spot.prefix found.spot.back a whole (after 0 found.spot.prefix found.spot.back gap whole) is.wakes)
 
+-- the answer of `is_none`, from its contract
+pub none_is : (r : Bool) (o : Option ℕ) → is_some o ≡ not r → r ≡ is_none o
+none_is true o e = sym (ap not e)
+none_is false o e = sym (ap not e)
+
 -- removing a task that isn't there changes nothing
 pub none_goes : (t : Chains ℕ) (who : ℕ) → length t.chains ≡ 1 → value_of t.chains who ≡ None → without_cell t who ≡ t
 none_goes t who one none =
@@ -377,6 +403,17 @@ placed cs wake next left passed id gap one a p e value less =
       later = λ g q. let same = same_Some gap g (sym (ap first_value f.back_is) ∙ q) in omega (arith, less, same);
     }
 
+-- a wake that isn't before the last one goes to the end
+pub placed_last : (c : Cells) (wake last : ℕ) → last ≡ total c → last ≤ wake → IsPosition c wake None (wake - last)
+placed_last c wake last is after = record {
+  prefix = c;
+  back = [];
+  whole = sym (append-nil c);
+  next_is = refl;
+  sum = omega (arith, is, after);
+  later = λ gap e. absurd (cc);
+}
+
 -- a task is inserted at its position, before the gap after it is lessened
 module _ (t : Chains ℕ) (who wake : ℕ) (next after : Option ℕ) (left : ℕ) (inserted : Chains ℕ) (one : length t.chains ≡ 1) (apart : Apart (chain_at t.chains 0))
     (absent : wake_of (wakes_from 0 (chain_at t.chains 0)) who ≡ None) (place : IsPosition (chain_at t.chains 0) wake next left)
@@ -397,6 +434,9 @@ module _ (t : Chains ℕ) (who wake : ℕ) (next after : Option ℕ) (left : ℕ
   put_timed new e fits all =
       timed_single new comes.came.list t.room (lessened new e)
       (subst (All (λ d. d.1 < 2 ^ 64)) (sym comes.came.wakes) (all_put (λ d. d.1 < 2 ^ 64) (who, wake) (wakes_from 0 (chain_at t.chains 0)) fits all))
+
+  pub put_last : (new : Chains ℕ) (last : ℕ) → new ≡ with_gap inserted after (λ gap. gap - left) → last ≡ total (chain_at t.chains 0) → max last wake ≡ total (chain_at new.chains 0)
+  put_last new last e last_is = ap (λ n. max n wake) last_is ∙ sym comes.came.last ∙ ap (λ u. total (chain_at u.chains 0)) (sym (lessened new e))
 
   pub put_order : (new : Chains ℕ) → new ≡ with_gap inserted after (λ gap. gap - left)
       → ◌≡◌ {A = Order} (record { tasks = wakes_from 0 (chain_at new.chains 0); room = new.room }) (record { tasks = put_in (wakes_from 0 (chain_at t.chains 0)) (who, wake); room = t.room })

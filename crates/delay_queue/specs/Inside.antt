@@ -1,5 +1,5 @@
 -- What is inside the queue: one list, in which each task stores the gap to the task before it, in ticks.
-use Rattle.std.specs.Prelude.{◌≡◌, ℕ, ◌+◌, ◌<◌, ◌^◌, List, [], ◌∷◌, ◌++◌, length, Option, None, Some}
+use Rattle.std.specs.Prelude.{◌≡◌, ℕ, ◌+◌, ◌-◌, ◌<◌, ◌^◌, Bool, if◌then◌else◌, List, [], ◌∷◌, ◌++◌, length, Option, None, Some}
 use Rattle.std.specs.List.{All}
 use Rattle.linked_lists.specs.Chains.{Chains, chain_at, first_key, first_value, value_of, with_value}
 
@@ -12,6 +12,10 @@ wakes_from tick (c ∷ cs) = (c.0, tick + c.1) ∷ wakes_from (tick + c.1) cs
 abbrev pub total : List (ℕ × ℕ) → ℕ
 total [] = 0
 total (c ∷ cs) = c.1 + total cs
+
+-- the last wake after a task with this gap, the last task or another, was removed
+abbrev pub last_left : ℕ → Bool → ℕ → ℕ
+last_left last was_last gap = if was_last then last - gap else last
 
 -- there is one list, and each wake is a number of 64 bits
 pub record IsTimed (cs : List (List (ℕ × ℕ))) : Type 0 where

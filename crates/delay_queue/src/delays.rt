@@ -3,7 +3,7 @@
 ghost use Rattle.std.specs.Prelude.{◌≡◌, ◌<◌, [], None, length, IfOk, is_some};
 ghost use Rattle.delay_queue.specs.Wakes.{Order, wake_of, with_task, without_task, due_at, without_due};
 
-use crate::gaps::{LIST, Position, lengthen, lessen, position_of};
+use crate::gaps::{LIST, Position, last_without, lengthen, lessen, position_of};
 use linked_lists::{IdLists, Ident, NoMemory};
 use std::alloc::Global;
 use std::marker::Model;
@@ -13,6 +13,8 @@ use std::marker::Model;
 #[derive(Drop)]
 pub struct Delays {
     tasks: IdLists<u64>,
+    // the wake of the last task; 0 if no task waits
+    last: u64,
 }
 
 impl Model for Delays {
@@ -21,11 +23,12 @@ impl Model for Delays {
 
     ghost Value = { Order };
 
-    ghost use Rattle.delay_queue.specs.Inside.{wakes_from, IsTimed};
+    ghost use Rattle.std.specs.Prelude.{◌≡◌};
+    ghost use Rattle.delay_queue.specs.Inside.{wakes_from, total, IsTimed};
 
     ghost view = { λ d. record { tasks = wakes_from 0 (chain_at d.tasks.chains 0); room = d.tasks.room } };
 
-    ghost invariant = { λ d. IsTimed d.tasks.chains };
+    ghost invariant = { λ d. IsTimed d.tasks.chains × (d.last ≡ total (chain_at d.tasks.chains 0)) };
 }
 
 impl Delays {
@@ -34,7 +37,7 @@ impl Delays {
         ensures { IfOk result (λ d. d ≡ record { tasks = []; room = n }) }
     {
         let tasks = IdLists::reserved(alloc, 1, n)?;
-        Ok(Delays { tasks })
+        Ok(Delays { tasks, last: 0 })
     }
 
     /// The number of tasks that wait.
@@ -59,10 +62,11 @@ impl Delays {
         ensures { self.new ≡ with_task self.old (who, wake) }
     {
         self.tasks.facts();
-        let Position { next, left } = position_of(&self.tasks, wake);
+        let Position { next, left } = position_of(&self.tasks, self.last, wake);
         self.tasks.insert_before(LIST, next, who, left);
         let next = self.tasks.next(who);
         lessen(&mut self.tasks, next, left);
+        self.last = self.last.max(wake);
     }
 
     /// Removes a task. `false` if it isn't in the queue; then nothing changes.
@@ -75,6 +79,7 @@ impl Delays {
         let Some(gap) = self.tasks.remove(who) else {
             return false;
         };
+        self.last = last_without(self.last, next.is_none(), gap);
         lengthen(&mut self.tasks, next, gap);
         true
     }

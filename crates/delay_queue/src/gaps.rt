@@ -1,9 +1,9 @@
 //! Gaps: the ticks between the wakes of neighbouring tasks.
 
-ghost use Rattle.std.specs.Prelude.{◌≡◌, ◌+◌, ◌-◌, ◌<◌, ◌≤◌, ◌^◌, length, IsSomeAnd};
+ghost use Rattle.std.specs.Prelude.{◌≡◌, ◌+◌, ◌-◌, ◌<◌, ◌≤◌, ◌^◌, true, length, IsSomeAnd};
 ghost use Rattle.std.specs.Option.{ForSome};
 ghost use Rattle.linked_lists.specs.Chains.{chain_at, value_of};
-ghost use Rattle.delay_queue.specs.Inside.{IsPosition, with_gap};
+ghost use Rattle.delay_queue.specs.Inside.{IsPosition, last_left, total, with_gap};
 
 use linked_lists::{IdLists, Ident};
 
@@ -19,7 +19,7 @@ pub(crate) struct Position {
 
 // The first task with a wake after this one, and the ticks from the wake of the task before it to
 // this one.
-pub(crate) fn position_of(tasks: &IdLists<u64>, wake: u64) -> Position
+fn search(tasks: &IdLists<u64>, wake: u64) -> Position
     requires { length tasks.now.chains ≡ 1 }
     ensures { IsPosition (chain_at tasks.now.chains 0) wake result.next result.left }
 {
@@ -38,6 +38,30 @@ pub(crate) fn position_of(tasks: &IdLists<u64>, wake: u64) -> Position
         next = tasks.next(id);
     }
     Position { next, left }
+}
+
+// The same. `last` is the wake of the last task, or 0: a wake that isn't before it goes to the end.
+pub(crate) fn position_of(tasks: &IdLists<u64>, last: u64, wake: u64) -> Position
+    requires one { length tasks.now.chains ≡ 1 }
+    requires last { last ≡ total (chain_at tasks.now.chains 0) }
+    ensures { IsPosition (chain_at tasks.now.chains 0) wake result.next result.left }
+{
+    if wake >= last {
+        return Position {
+            next: None,
+            left: wake - last,
+        };
+    }
+    search(tasks, wake)
+}
+
+// The wake of the last task after a task with this gap was removed: `was_last` says that it was the
+// last.
+pub(crate) fn last_without(last: u64, was_last: bool, gap: u64) -> u64
+    requires { was_last ≡ true → gap ≤ last }
+    ensures { result ≡ last_left last was_last gap }
+{
+    if was_last { last - gap } else { last }
 }
 
 // Shortens the gap before a task, if there is a task.

@@ -10,7 +10,7 @@ use Rattle.id_table.proofs.Records.{found_in}
 use Rattle.wind_core.specs.State.{KernState, IsKern, task_id, task_of}
 use Rattle.wind_core.proofs.Ids.{ids, lives_by}
 use Rattle.inheritance.specs.declared.mutex.Mutex.{Mutex}
-use Rattle.inheritance.specs.Reach.{boss, wait_of, owner_at, pri_of, normal_of, normal_in, is_on, path, reaches, urgency, lifted, raised_kern, raised}
+use Rattle.inheritance.specs.Reach.{boss, wait_of, owner_at, pri_of, normal_of, normal_in, is_on, path, reaches, urgency, lifted, raised_kern}
 use Rattle.inheritance.specs.Laws.{ExactLaw, ExactNormalLaw}
 use Rattle.inheritance.proofs.Lookups.{each_lives, on_ids}
 use Rattle.inheritance.proofs.Walk.{path_cases, most_own, most_least}
@@ -58,7 +58,7 @@ pub exact_law : ExactLaw
 exact_law s is = exact_by s.profile s.kern s.mutexes is
 
 -- ---- under profile 2
-normal_is : (ts : List Task) (x : Task) → Rising task_id ts → Contains ts x → normal_of ts x.id ≡ x.normal
+pub normal_is : (ts : List Task) (x : Task) → Rising task_id ts → Contains ts x → normal_of ts x.id ≡ x.normal
 normal_is ts x up at = ap normal_in (found_in task_id ts x up at)
 
 pub exact_normal : ExactNormalLaw

@@ -11,3 +11,4 @@ pub mod Exact
 pub mod Places
 pub mod Lending
 pub mod Iteration
+pub mod Nobody

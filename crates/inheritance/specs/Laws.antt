@@ -1,5 +1,5 @@
 -- The walk from owner to owner, and the priorities after raising.
-use Rattle.std.specs.Prelude.{◌≡◌, ℕ, ◌≤◌, cond, nat_lt, true, length, map, List, Option, Some}
+use Rattle.std.specs.Prelude.{◌≡◌, ℕ, ◌≤◌, cond, nat_lt, true, length, map, List, Option, None, Some}
 use Rattle.wind_base.specs.declared.profile.Profile.TheVariants.{One, Two}
 use Rattle.id_table.specs.declared.ident.Place.{Place}
 use Rattle.std.specs.List.{All, Contains}
@@ -39,6 +39,10 @@ OwnersUrgentBut w ms ts = All (λ y. (y.id ≡ w → ⊥) → All (λ x. owner_a
 -- a task whose count of owned mutexes is 0 owns no inversion-safe mutex that a task can wait for
 abbrev pub OwnersHold : List (ℕ × Mutex) → List Task → Type 0
 OwnersHold ms ts = All (λ t. t.held ≡ 0 → (w : Option Place) → owner_at ms w ≡ Some t.id → ⊥) ts
+
+-- no task waits for a live owner of an inversion-safe mutex, whichever mutexes there are
+abbrev pub NobodyWaits : List Task → Type 0
+NobodyWaits ts = (ms : List (ℕ × Mutex)) → OwnersHold ms ts → (y : ℕ) → boss ts ms y ≡ None
 
 -- after raising, each live owner is at least as urgent as its waiters
 abbrev pub RaisedLaw : Type 0

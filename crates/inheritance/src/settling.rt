@@ -1,10 +1,10 @@
 //! Under profile 2 a task's priority follows from normal priorities alone.
 
-ghost use Rattle.std.specs.Prelude.{◌≡◌, ◌<◌, ◌≤◌, ◌+◌, ◌^◌, ℕ, cond, nat_lt, length, slice_index_or};
+ghost use Rattle.std.specs.Prelude.{◌≡◌, ◌<◌, ◌≤◌, ◌+◌, ◌^◌, ℕ, true, cond, nat_lt, length, slice_index_or};
 ghost use Rattle.wind_base.specs.declared.profile.Profile.TheVariants.{Two};
 ghost use Rattle.task_block.specs.declared.task.Task.{Task as Task_lem};
 ghost use Rattle.inheritance.specs.Reach.{boss as boss_lem, path, lifted, repried, raised_kern};
-ghost use Rattle.inheritance.specs.Laws.{OwnersHold};
+ghost use Rattle.inheritance.specs.Laws.{NobodyWaits, OwnersHold};
 ghost use Rattle.inheritance.specs.Goals.{AreGoals, AreLent, owner_ids};
 
 use crate::chain::boss;
@@ -94,9 +94,8 @@ fn take_goals(k: &mut Kern, goals: &[Pri])
     }
 }
 
-/// Gives each task the most urgent normal priority of itself and of the tasks that wait for it,
-/// along owners. A ready task whose priority changes goes after its new equals, in order of id.
-pub fn settle(k: &mut Kern, mutexes: &Table<Mutex>)
+// Gives each task the most urgent normal priority of itself and of the tasks that wait for it.
+fn settle_all(k: &mut Kern, mutexes: &Table<Mutex>)
     requires owners { OwnersHold mutexes.now.rows k.old.tasks }
     requires since { k.old.next_since < 2 ^ 63 }
     ensures { k.new ≡ raised_kern Two k.old mutexes.now.rows }
@@ -108,4 +107,58 @@ pub fn settle(k: &mut Kern, mutexes: &Table<Mutex>)
     let mut goals = [k.task_at(0).normal; TASKS as usize];
     put_goals(k, mutexes, &mut goals);
     take_goals(k, &goals);
+}
+
+// `true` guarantees that no task waits for an owner. `false` guarantees nothing.
+fn surely_nobody_waits(k: &Kern) -> bool
+    ensures { result ≡ true → NobodyWaits k.now.tasks }
+{
+    if k.surely_none_holds() {
+        return true;
+    }
+    k.waits().len() == 0
+}
+
+// The same. Tasks wait for no owner if there is none, which is then noted.
+fn nobody_waits(k: &mut Kern) -> bool
+    ensures kern { k.new ≡ k.old }
+    ensures nobody { result ≡ true → NobodyWaits k.old.tasks }
+{
+    if surely_nobody_waits(k) {
+        return true;
+    }
+    if owners(k) > 0 {
+        return false;
+    }
+    k.note_none_holds();
+    true
+}
+
+// Gives each task its normal priority. Nobody may wait for an owner.
+fn settle_alone(k: &mut Kern, mutexes: &Table<Mutex>)
+    requires owners { OwnersHold mutexes.now.rows k.old.tasks }
+    requires nobody { NobodyWaits k.old.tasks }
+    requires since { k.old.next_since < 2 ^ 63 }
+    ensures { k.new ≡ raised_kern Two k.old mutexes.now.rows }
+{
+    k.facts();
+    if k.surely_all_normal() {
+        return;
+    }
+    settle_all(k, mutexes);
+    k.note_all_normal();
+}
+
+/// Gives each task the most urgent normal priority of itself and of the tasks that wait for it,
+/// along owners. A ready task whose priority changes goes after its new equals, in order of id.
+pub fn settle(k: &mut Kern, mutexes: &Table<Mutex>)
+    requires owners { OwnersHold mutexes.now.rows k.old.tasks }
+    requires since { k.old.next_since < 2 ^ 63 }
+    ensures { k.new ≡ raised_kern Two k.old mutexes.now.rows }
+{
+    if nobody_waits(k) {
+        settle_alone(k, mutexes);
+    } else {
+        settle_all(k, mutexes);
+    }
 }

@@ -1,23 +1,25 @@
 -- The watchdogs that are due stop and are listed one after the other.
-use Rattle.std.proofs.Common.{◌≡◌, ℕ, ◌+◌, ◌≤◌, true, false, cond, eqb, List, [], ◌∷◌, map, length, Option, None, Some, IsSome, refl, sym, ap, ◌∙◌, subst, arith}
-use Rattle.std.specs.List.{All}
-use Rattle.std.specs.Option.{option_map}
+use Rattle.std.proofs.Common.{◌≡◌, ℕ, ◌+◌, ◌<◌, ◌≤◌, Bool, true, false, cond, eqb, List, [], ◌∷◌, map, length, Option, None, Some, IsSome, refl, sym, ap, ◌∙◌, subst, arith}
+use Rattle.std.specs.List.{All, filter}
+use Rattle.std.specs.Option.{IfSome, option_map}
 use Rattle.std.specs.Cmp.{IsStrictWeakOrder}
-use Rattle.std.proofs.lemmas.Bool.{eqb-true}
-use Rattle.std.proofs.lemmas.List.Elements.{All-head, All-tail}
+use Rattle.std.proofs.lemmas.Bool.{eqb-true, lt-leb}
+use Rattle.std.proofs.lemmas.List.Elements.{All-head, All-tail, All-weaker}
 use Rattle.std.proofs.lemmas.List.MinMax.{IsStrictWeakOrder-by_number}
 use Rattle.std.proofs.lemmas.Option.{same_Some}
 use Rattle.id_table.specs.Rows.{Rows, row_id, object_of, objects, rewritten}
 use Rattle.id_table.proofs.Owning.{object-record, objects-replace}
 use Rattle.id_table.specs.Records.{of_id, change, replace, Rising}
 use Rattle.id_table.proofs.Records.{one_of_id, replace-change}
+use Rattle.id_table.specs.Sorting.{sorted}
 use Rattle.id_table.proofs.Sorting.{first_is}
 use Rattle.id_table.proofs.Passing.{in_line-change, front_found, front_passes, none_passes, length-in_line}
 use Rattle.isr_watch.specs.declared.watchdog.Watchdog.{Watchdog}
+use Rattle.isr_watch.specs.declared.watchdog.Timer.{Timer}
 use Rattle.isr_watch.specs.declared.watchdog.Alarm.{Alarm}
-use Rattle.isr_watch.specs.State.{watchdog_id, watchdog_routine, start_of, starts_before, is_due, due_watchdogs, first_due}
+use Rattle.isr_watch.specs.State.{watchdog_id, watchdog_routine, start_of, starts_before, has_come, is_due, due_watchdogs, first_due}
 use Rattle.isr_watch.specs.Calls.{stopped, stop_due}
-use Rattle.isr_watch.specs.Inside.{SameIds, alarm_of}
+use Rattle.isr_watch.specs.Inside.{DueFrom, NoneBefore, SameIds, alarm_of}
 use Rattle.isr_watch.proofs.Writes.{rising_of, write_own}
 
 pub starts_before-order : IsStrictWeakOrder starts_before
@@ -95,3 +97,25 @@ iteration t tick f v own up e value =
 -- the end of the loop
 pub done_stop : (ws : List Watchdog) (tick : ℕ) → None ≡ option_map alarm_of (first_due ws tick) → stop_due tick ws ≡ ws
 done_stop ws tick e = none_due tick ws (none_passes watchdog_id starts_before starts_before-order (is_due tick) ws (no_alarm (first_due ws tick) e))
+
+-- ---- a tick before which no watchdog is due
+not_due : (soonest tick : ℕ) (ws : List Watchdog) → tick < soonest → NoneBefore soonest ws → All (λ w. is_due tick w ≡ false) ws
+not_due soonest tick ws before early = All-weaker (DueFrom soonest) (λ w. is_due tick w ≡ false) (λ w. waits w.timer) ws early
+  where
+    waits : (o : Option Timer) → IfSome o (λ t. soonest ≤ t.due) → has_come tick o ≡ false
+    waits None from = refl
+    waits (Some t) from = lt-leb t.due tick (omega (arith, from))
+
+none_pass : (p : Watchdog → Bool) (ws : List Watchdog) → All (λ w. p w ≡ false) ws → filter p ws ≡ []
+none_pass p [] all = refl
+none_pass p (w ∷ ws) all =
+    ap (λ b. cond b (w ∷ filter p ws) (filter p ws)) (All-head (λ (v : Watchdog). p v ≡ false) w ws all)
+    ∙ none_pass p ws (All-tail (λ (v : Watchdog). p v ≡ false) w ws all)
+
+-- before that tick none stops
+pub none_stops : (soonest tick : ℕ) (ws : List Watchdog) → tick < soonest → NoneBefore soonest ws → stop_due tick ws ≡ ws
+none_stops soonest tick ws before early = none_due tick ws (not_due soonest tick ws before early)
+
+-- before that tick none is listed
+pub none_listed : (soonest tick : ℕ) (ws : List Watchdog) → tick < soonest → NoneBefore soonest ws → due_watchdogs ws tick ≡ []
+none_listed soonest tick ws before early = ap (sorted starts_before) (none_pass (is_due tick) ws (not_due soonest tick ws before early))

@@ -1,8 +1,9 @@
 -- The table of watchdogs after one is overwritten, added or removed.
-use Rattle.std.proofs.Common.{◌≡◌, ℕ, ◌+◌, ◌<◌, List, length, Option, None, Some, IsSome, Result, Ok, Err, IfOk, IfErr, refl, sym, ap, ◌∙◌, subst, arith}
+use Rattle.std.proofs.Common.{◌≡◌, ℕ, ◌+◌, ◌<◌, ◌≤◌, min, ◌∷◌, [], List, length, Option, None, Some, IsSome, Result, Ok, Err, IfOk, IfErr, refl, sym, ap, ◌∙◌, subst, arith, rules}
 use Rattle.std.specs.List.{All}
-use Rattle.std.proofs.lemmas.List.{length-map, get_or-map}
-use Rattle.std.proofs.lemmas.List.Elements.{All-push}
+use Rattle.std.proofs.lemmas.List.{length-map, get_or-map, map-append}
+use Rattle.std.proofs.lemmas.List.Elements.{All-push, All-weaker}
+use Rattle.std.proofs.lemmas.Option.{IfSome_then}
 use Rattle.wind_base.specs.declared.errno.Errno.{Errno}
 use Rattle.wind_base.specs.declared.regs.Regs.{Regs}
 use Rattle.id_table.specs.Rows.{Rows, IdsBelow, row_id, row_object, object_of, objects, with_object, added}
@@ -10,12 +11,12 @@ use Rattle.id_table.specs.Rows as table
 use Rattle.id_table.specs.Source.{Ids, one_given}
 use Rattle.id_table.proofs.Owning.{object-record, objects-replace, objects-without, OwnIds-write}
 use Rattle.id_table.specs.Records.{of_id, change, Rising}
-use Rattle.id_table.proofs.Records.{found_id, replace-change}
+use Rattle.id_table.proofs.Records.{found_id, replace-change, All-replace}
 use Rattle.isr_watch.specs.declared.watchdog.Watchdog.{Watchdog}
 use Rattle.isr_watch.specs.declared.watchdog.Routine.{Routine}
 use Rattle.isr_watch.specs.State.{WatchState, watchdog_id, watchdog_of}
 use Rattle.isr_watch.specs.Calls.{create_refusal, new_watchdog, started, start_found, start, stopped, cancel_found, cancel, deleted, delete}
-use Rattle.isr_watch.specs.Inside.{SameIds, IsLevel, watch_state}
+use Rattle.isr_watch.specs.Inside.{DueFrom, NoneBefore, SameIds, IsLevel, watch_state}
 
 -- the ids rise along the records too
 pub rising_of : (rs : List (ℕ × Watchdog)) → SameIds rs → Rising row_id rs → Rising watchdog_id (objects rs)
@@ -57,18 +58,47 @@ lives_in rs n own lives = some_of (object_of rs n) (live_object rs (objects rs) 
     some_of (Some v) h = (v, refl)
 
 -- the invariant after one is overwritten
-pub write_level : (t : Rows Watchdog) (level : Option Regs) (listed : List Routine) (n : ℕ) (v y : Watchdog) → IsLevel t level listed → object_of t.rows n ≡ Some v → y.id ≡ v.id
-    → IsLevel (table.rewritten t n y) level listed
-write_level t level listed n v y is value id = record { own = write_own t.rows n v y is.own value id; room = is.room; idle = is.idle }
+pub write_level : (t : Rows Watchdog) (level : Option Regs) (listed : List Routine) (soonest n : ℕ) (v y : Watchdog) → IsLevel t level listed soonest → object_of t.rows n ≡ Some v → y.id ≡ v.id
+    → DueFrom soonest y → IsLevel (table.rewritten t n y) level listed soonest
+write_level t level listed soonest n v y is value id early = record {
+  own = write_own t.rows n v y is.own value id;
+  room = is.room;
+  early = subst (NoneBefore soonest) (sym (objects-replace watchdog_id t.rows n y is.own)) (All-replace watchdog_id (DueFrom soonest) (objects t.rows) n y is.early early);
+  idle = is.idle;
+}
+
+-- a watchdog that isn't due before a tick isn't due before an earlier one
+due_sooner : (m n : ℕ) (w : Watchdog) → m ≤ n → DueFrom n w → DueFrom m w
+due_sooner m n w less from = IfSome_then w.timer from (λ t h. omega arith)
+
+-- the same invariant for an earlier tick
+pub sooner : (t : Rows Watchdog) (level : Option Regs) (listed : List Routine) (m n : ℕ) → m ≤ n → IsLevel t level listed n → IsLevel t level listed m
+sooner t level listed m n less is = record {
+  own = is.own;
+  room = is.room;
+  early = All-weaker (DueFrom n) (DueFrom m) (λ w. due_sooner m n w less) (objects t.rows) is.early;
+  idle = is.idle;
+}
+
+-- the invariant after one is started
+pub start_level : (t : Rows Watchdog) (level : Option Regs) (listed : List Routine) (soonest due n : ℕ) (v y : Watchdog) → IsLevel t level listed soonest → object_of t.rows n ≡ Some v → y.id ≡ v.id
+    → DueFrom due y → IsLevel (table.rewritten t n y) level listed (min soonest due)
+start_level t level listed soonest due n v y is value id early =
+    write_level t level listed (min soonest due) n v y (sooner t level listed (min soonest due) soonest (omega arith) is) value id (due_sooner (min soonest due) due y (omega arith) early)
 
 -- ---- the calls
 -- a watchdog is added, or nothing changes
-pub made_own : (t u : Rows Watchdog) (i j : Ids) (r : Result ℕ Errno) → SameIds t.rows
+pub made_own : (t u : Rows Watchdog) (soonest : ℕ) (i j : Ids) (r : Result ℕ Errno) → SameIds t.rows → NoneBefore soonest (objects t.rows)
     → IfOk r (λ id. (create_refusal (length t.rows) i.next ≡ None) × (id ≡ i.next) × (j ≡ one_given i) × (u ≡ added t i.next (new_watchdog i.next)))
-    → IfErr r (λ e. (create_refusal (length t.rows) i.next ≡ Some e) × (j ≡ i) × (u ≡ t)) → SameIds u.rows × (u.room ≡ t.room)
-made_own t u i j (Ok id) own ok err =
-    subst (λ (v : Rows Watchdog). SameIds v.rows × (v.room ≡ t.room)) (sym ok.3) (All-push (λ (r : ℕ × Watchdog). r.1.id ≡ r.0) t.rows (i.next, new_watchdog i.next) own refl, refl)
-made_own t u i j (Err e) own ok err = subst (λ (v : Rows Watchdog). SameIds v.rows × (v.room ≡ t.room)) (sym err.2) (own, refl)
+    → IfErr r (λ e. (create_refusal (length t.rows) i.next ≡ Some e) × (j ≡ i) × (u ≡ t)) → SameIds u.rows × NoneBefore soonest (objects u.rows) × (u.room ≡ t.room)
+made_own t u soonest i j (Ok id) own early ok err =
+    let new = new_watchdog i.next in
+    subst (λ (v : Rows Watchdog). SameIds v.rows × NoneBefore soonest (objects v.rows) × (v.room ≡ t.room)) (sym ok.3) (
+      All-push (λ (r : ℕ × Watchdog). r.1.id ≡ r.0) t.rows (i.next, new) own refl,
+      subst (NoneBefore soonest) (sym (map-append row_object t.rows ((i.next, new) ∷ []))) (All-push (DueFrom soonest) (objects t.rows) new early (search rules)),
+      refl,
+    )
+made_own t u soonest i j (Err e) own early ok err = subst (λ (v : Rows Watchdog). SameIds v.rows × NoneBefore soonest (objects v.rows) × (v.room ≡ t.room)) (sym err.2) (own, early, refl)
 
 module _ (rs : List (ℕ × Watchdog)) (level : Option Regs) (listed : List Routine) (next link n id : ℕ) (v : Watchdog) (own : SameIds rs) (value : object_of rs n ≡ Some v) (same : n ≡ id) where
   pub cancelled_is : Rising row_id rs → watch_state (with_object rs n (stopped v)) level listed next link ≡ cancel (watch_state rs level listed next link) id

@@ -1,6 +1,7 @@
 -- What is inside the watchdogs: a table of records by id, where each record also has its id.
-use Rattle.std.specs.Prelude.{◌≡◌, ℕ, List, [], Option, None}
+use Rattle.std.specs.Prelude.{◌≡◌, ℕ, ◌≤◌, List, [], Option, None}
 use Rattle.std.specs.List.{All}
+use Rattle.std.specs.Option.{IfSome}
 use Rattle.wind_base.specs.Limits.{most_watchdogs}
 use Rattle.wind_base.specs.declared.regs.Regs.{Regs}
 use Rattle.id_table.specs.Rows.{Rows, objects}
@@ -24,10 +25,19 @@ watch_state rs level listed next_start link = record {
   link = link;
 }
 
--- the rest of the invariant: no routine is listed unless one is active
-pub record IsLevel (t : Rows Watchdog) (level : Option Regs) (listed : List Routine) : Type 0 where
+-- a watchdog isn't due before this tick
+abbrev pub DueFrom : ℕ → Watchdog → Type 0
+DueFrom soonest w = IfSome w.timer (λ t. soonest ≤ t.due)
+
+-- no watchdog is due before this tick
+abbrev pub NoneBefore : ℕ → List Watchdog → Type 0
+NoneBefore soonest ws = All (DueFrom soonest) ws
+
+-- the rest of the invariant: no watchdog is due before `soonest`, and no routine is listed unless one is active
+pub record IsLevel (t : Rows Watchdog) (level : Option Regs) (listed : List Routine) (soonest : ℕ) : Type 0 where
   pub own : SameIds t.rows
   pub room : t.room ≡ most_watchdogs
+  pub early : NoneBefore soonest (objects t.rows)
   pub idle : level ≡ None → listed ≡ []
 
 -- a watchdog that is due, as the code copies it from the table

@@ -7,9 +7,9 @@ ghost use Rattle.wind_base.specs.Limits.{frame_bytes};
 ghost use Rattle.id_table.specs.Rows.{objects, IsTable};
 ghost use Rattle.isr_watch.specs.State.{first_due as first_due_lem, due_watchdogs, watchdog_routine};
 ghost use Rattle.isr_watch.specs.Calls.{stop_due, level_of, rest_of};
-ghost use Rattle.isr_watch.specs.Inside.{SameIds, alarm_of as alarm_of_lem};
+ghost use Rattle.isr_watch.specs.Inside.{NoneBefore, SameIds, alarm_of as alarm_of_lem};
 
-use crate::watchdog::{Alarm, Routine, Watchdog, alarm_of, better_due, routine_regs};
+use crate::watchdog::{Alarm, Routine, Watchdog, alarm_of, better_due, due_of, routine_regs};
 use id_table::Table;
 use std::collections::VecDeque;
 use wind_base::Regs;
@@ -35,7 +35,7 @@ fn front_due(watchdogs: &Table<Watchdog>, tick: u64) -> Option<Alarm>
 }
 
 // Stops all watchdogs that are due, and lists their routines in order of start.
-pub(crate) fn list_due(watchdogs: &mut Table<Watchdog>, listed: &mut VecDeque<Routine>, tick: u64)
+fn list_due(watchdogs: &mut Table<Watchdog>, listed: &mut VecDeque<Routine>, tick: u64)
     requires own { SameIds watchdogs.old.rows }
     requires room { deque_len listed.old + length watchdogs.old.rows ≤ deque_capacity listed.old }
     ensures watchdogs { objects watchdogs.new.rows ≡ stop_due tick (objects watchdogs.old.rows) }
@@ -49,6 +49,44 @@ pub(crate) fn list_due(watchdogs: &mut Table<Watchdog>, listed: &mut VecDeque<Ro
         watchdogs.object_mut(next.id).timer = None;
         listed.push_back_reserved(next.routine);
     }
+}
+
+// A tick before which no watchdog is due: the least at which one is. The greatest number if none
+// is running.
+fn soonest_of(watchdogs: &Table<Watchdog>) -> u64
+    ensures { NoneBefore result (objects watchdogs.now.rows) }
+{
+    let mut soonest = u64::MAX;
+    for index in 0..watchdogs.len() {
+        soonest = soonest.min(due_of(watchdogs.value_at(index)));
+    }
+    soonest
+}
+
+// Does what `list_due` does, if no watchdog is due before `soonest`. Returns such a tick for the
+// watchdogs that are left.
+pub(crate) fn list_since(
+    watchdogs: &mut Table<Watchdog>,
+    listed: &mut VecDeque<Routine>,
+    soonest: u64,
+    tick: u64,
+) -> u64
+    requires own { SameIds watchdogs.old.rows }
+    requires early { NoneBefore soonest (objects watchdogs.old.rows) }
+    requires room { deque_len listed.old + length watchdogs.old.rows ≤ deque_capacity listed.old }
+    ensures early { NoneBefore result (objects watchdogs.new.rows) }
+    ensures watchdogs { objects watchdogs.new.rows ≡ stop_due tick (objects watchdogs.old.rows) }
+    ensures own { SameIds watchdogs.new.rows }
+    ensures room { watchdogs.new.room ≡ watchdogs.old.room }
+    ensures listed { listed.new.items
+        ≡ listed.old.items ++ map watchdog_routine (due_watchdogs (objects watchdogs.old.rows) tick) }
+    ensures capacity { deque_capacity listed.new ≡ deque_capacity listed.old }
+{
+    if tick < soonest {
+        return soonest;
+    }
+    list_due(watchdogs, listed, tick);
+    soonest_of(watchdogs)
 }
 
 // Lists these routines, in this order, after those that are listed.

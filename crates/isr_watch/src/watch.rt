@@ -12,7 +12,7 @@ ghost use Rattle.id_table.specs.Source.{one_given};
 ghost use Rattle.isr_watch.specs.State.{IsWatch, no_watch, watchdog_of};
 ghost use Rattle.isr_watch.specs.Calls.{new_watchdog as new_watchdog_lem, create_refusal, created, delete, start, cancel, due, begun, finish, routine_return, with_link};
 
-use crate::listing::{list_due, list_routines, next_level};
+use crate::listing::{list_routines, list_since, next_level};
 use crate::watchdog::{Routine, Watchdog, begin, new_watchdog, stop};
 use id_table::{IdSource, Ident, Table};
 use std::alloc::Global;
@@ -27,6 +27,8 @@ use wind_core::Kern;
 #[derive(Drop)]
 pub struct Watch {
     watchdogs: Table<Watchdog>,
+    // no watchdog is due before this tick
+    soonest: u64,
     level: Option<Regs>,
     listed: VecDeque<Routine>,
     next_start: u64,
@@ -44,7 +46,7 @@ impl Model for Watch {
 
     ghost view = { λ w. watch_state w.watchdogs.rows w.level w.listed.items w.next_start w.link };
 
-    ghost invariant = { λ w. IsLevel w.watchdogs w.level w.listed.items × (most_watchdogs ≤ deque_capacity w.listed) };
+    ghost invariant = { λ w. IsLevel w.watchdogs w.level w.listed.items w.soonest × (most_watchdogs ≤ deque_capacity w.listed) };
 }
 
 // Adds a watchdog under the next id.
@@ -78,6 +80,7 @@ impl Watch {
         let listed = VecDeque::with_capacity(alloc, WATCHDOGS as usize)?;
         Ok(Watch {
             watchdogs,
+            soonest: u64::MAX,
             level: None,
             listed,
             next_start: 0,
@@ -160,13 +163,14 @@ impl Watch {
             return Err(Errno::ObjIdError);
         };
         self.watchdogs.facts();
-        begin(
+        let due = begin(
             self.watchdogs.object_mut(at),
             tick,
             delay,
             routine,
             self.next_start,
         );
+        self.soonest = self.soonest.min(due);
         self.next_start += 1;
         Ok(())
     }
@@ -255,7 +259,7 @@ impl Watch {
         ensures { self.new ≡ due self.old tick top }
     {
         self.watchdogs.facts();
-        list_due(&mut self.watchdogs, &mut self.listed, tick);
+        self.soonest = list_since(&mut self.watchdogs, &mut self.listed, self.soonest, tick);
         self.level = next_level(&mut self.listed, top, self.link);
     }
 

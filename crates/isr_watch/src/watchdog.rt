@@ -5,7 +5,7 @@ ghost use Rattle.wind_base.specs.Limits.{frame_bytes};
 ghost use Rattle.id_table.specs.Sorting.{pick};
 ghost use Rattle.isr_watch.specs.State.{is_due as is_due_lem, starts_before, start_of as start_of_lem};
 ghost use Rattle.isr_watch.specs.Calls.{new_watchdog, routine_regs, started, stopped};
-ghost use Rattle.isr_watch.specs.Inside.{alarm_of as alarm_of_lem};
+ghost use Rattle.isr_watch.specs.Inside.{DueFrom, alarm_of as alarm_of_lem};
 
 use id_table::Ident;
 use wind_base::Regs;
@@ -68,6 +68,16 @@ fn is_due(watchdog: &Watchdog, tick: u64) -> bool
     }
 }
 
+// The tick at which a watchdog is due. The greatest number if it isn't running.
+pub(crate) fn due_of(watchdog: &Watchdog) -> u64
+    ensures { DueFrom result watchdog.now }
+{
+    match watchdog.timer {
+        Some(timer) => timer.due,
+        None => u64::MAX,
+    }
+}
+
 fn start_of(watchdog: &Watchdog) -> u64
     ensures { result ≡ start_of_lem watchdog.now.timer }
 {
@@ -121,16 +131,23 @@ pub(crate) fn routine_regs(top: u32, link: u32, routine: Routine) -> Regs
     }
 }
 
-// Starts it at this tick, for `delay` ticks, or for one if `delay` is 0.
-pub(crate) fn begin(watchdog: &mut Watchdog, tick: u64, delay: u32, routine: Routine, start: u64)
+// Starts it at this tick, for `delay` ticks, or for one if `delay` is 0. Returns the tick at which
+// it is due.
+pub(crate) fn begin(
+    watchdog: &mut Watchdog,
+    tick: u64,
+    delay: u32,
+    routine: Routine,
+    start: u64,
+) -> u64
     requires { tick < 2 ^ 63 }
-    ensures { watchdog.new ≡ started tick delay routine start watchdog.old }
+    ensures started { watchdog.new ≡ started tick delay routine start watchdog.old }
+    ensures due { DueFrom result watchdog.new }
 {
+    let due = tick + u64::from(delay.max(1));
     watchdog.routine = routine;
-    watchdog.timer = Some(Timer {
-        due: tick + u64::from(delay.max(1)),
-        start,
-    });
+    watchdog.timer = Some(Timer { due, start });
+    due
 }
 
 // Stops it.

@@ -3,6 +3,7 @@ pub mod Lines
 pub mod Queued
 pub mod Writes
 pub mod Mending
+pub mod Noting
 pub mod Due
 pub mod Passes
 pub mod Comings

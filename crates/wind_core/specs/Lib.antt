@@ -9,3 +9,4 @@ pub mod Releases
 pub mod Move
 pub mod Waiting
 pub mod Queues
+pub mod Notes

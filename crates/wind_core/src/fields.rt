@@ -5,6 +5,7 @@ ghost use Rattle.wind_core.specs.State.{Lives, task_of};
 ghost use Rattle.wind_core.specs.Moves.{suspend, resume, reset, change_pri, is_suspended as is_suspended_lem, has_pri as has_pri_lem};
 
 use crate::kern::Kern;
+use crate::notes::normal_too;
 use crate::queues::{mend, mend_ready, mend_waits};
 use crate::tasks::{renew, set_pri, settle, suspend_task, take_marks, take_suspension};
 use id_table::Ident;
@@ -83,6 +84,7 @@ impl Kern {
         let task = self.tasks.object_mut(who);
         set_pri(task, pri);
         settle(task, &mut self.next_since);
+        self.all_normal = normal_too(self.all_normal, task);
         mend_waits(&mut self.waits, task);
         mend_ready(&mut self.ready, task);
     }

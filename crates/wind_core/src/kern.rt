@@ -36,6 +36,10 @@ pub struct Kern {
     pub(crate) tick: u64,
     pub(crate) slice: u32,
     pub(crate) last: Option<Ident>,
+    // `true`: each task has its normal priority
+    pub(crate) all_normal: bool,
+    // `true`: no task owns an inversion-safe mutex
+    pub(crate) none_holds: bool,
 }
 
 impl Model for Kern {
@@ -44,15 +48,17 @@ impl Model for Kern {
     ghost use Rattle.wind_core.specs.State.{KernState, IsKern};
     ghost use Rattle.wind_core.specs.Inside.{kern_state, SameIds};
     ghost use Rattle.wind_core.specs.Queues.{AreQueued};
+    ghost use Rattle.wind_core.specs.Notes.{AreNoted};
     ghost use Rattle.id_table.specs.Rows.{objects};
 
     ghost Value = { KernState };
 
     ghost view = { λ k. kern_state k.tasks.rows k.ids k.next_since k.tick k.slice k.last };
 
-    ghost invariant = { λ k. (k.tasks.room ≡ most_tasks) × SameIds k.tasks.rows
+    ghost invariant = { λ k. ((k.tasks.room ≡ most_tasks) × SameIds k.tasks.rows
         × IsKern (kern_state k.tasks.rows k.ids k.next_since k.tick k.slice k.last)
-        × AreQueued k.waits k.ready k.delays (objects k.tasks.rows) };
+        × AreQueued k.waits k.ready k.delays (objects k.tasks.rows))
+        × AreNoted k.all_normal k.none_holds (objects k.tasks.rows) };
 }
 
 impl Kern {
@@ -72,6 +78,8 @@ impl Kern {
             tick: 0,
             slice: 0,
             last: None,
+            all_normal: true,
+            none_holds: true,
         })
     }
 

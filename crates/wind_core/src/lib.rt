@@ -5,6 +5,7 @@ mod clock;
 mod fields;
 mod kern;
 mod laws;
+mod notes;
 mod queries;
 mod queues;
 mod settings;

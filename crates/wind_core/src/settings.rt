@@ -1,10 +1,13 @@
 //! Settings of one task, which leave it where it is in every queue.
 
 ghost use Rattle.std.specs.Prelude.{◌≡◌};
+ghost use Rattle.task_block.specs.declared.task.Task.{Task as Task_lem};
 ghost use Rattle.wind_core.specs.State.{Lives};
+ghost use Rattle.wind_core.specs.Notes.{marks};
 ghost use Rattle.wind_core.specs.Moves.{change_task, past_gate, with_answer, with_refusal, with_setting, leave_gate, answer, refuse, unreserve, set_regs, set_locks, set_normal, set_safe, set_held, set_errno, set_int_locked, set_again};
 
 use crate::kern::Kern;
+use crate::notes::{holds_none_too, normal_too};
 use id_table::Ident;
 use task_block::Task;
 use wind_base::words::ERROR;
@@ -80,13 +83,26 @@ fn put_setting(task: &mut Task, setting: Setting)
 }
 
 impl Kern {
-    // Sets a field of the task, which leaves it where it is in every queue.
+    // Sets a field of the task, which leaves it where it is in every queue, and what is noted of all
+    // tasks as it is.
     #[inline(always)]
     fn put(&mut self, who: Ident, setting: Setting)
-        requires { Lives self.old who }
+        requires live { Lives self.old who }
+        requires marks { (t : Task_lem) → marks (with_setting setting t) ≡ marks t }
         ensures { self.new ≡ change_task self.old who (with_setting setting) }
     {
         put_setting(self.tasks.object_mut(who), setting);
+    }
+
+    // The same for any field. What is noted of all tasks is tested at this one.
+    fn put_noted(&mut self, who: Ident, setting: Setting)
+        requires { Lives self.old who }
+        ensures { self.new ≡ change_task self.old who (with_setting setting) }
+    {
+        let task = self.tasks.object_mut(who);
+        put_setting(task, setting);
+        self.all_normal = normal_too(self.all_normal, task);
+        self.none_holds = holds_none_too(self.none_holds, task);
     }
 
     /// Returns the task from its call: the program counter becomes the link register.
@@ -142,7 +158,7 @@ impl Kern {
         requires { Lives self.old who }
         ensures { self.new ≡ set_normal self.old who pri }
     {
-        self.put(who, Setting::Normal(pri));
+        self.put_noted(who, Setting::Normal(pri));
     }
 
     /// Sets the number of safe sections that the task is in.
@@ -158,7 +174,7 @@ impl Kern {
         requires { Lives self.old who }
         ensures { self.new ≡ set_held self.old who n }
     {
-        self.put(who, Setting::Held(n));
+        self.put_noted(who, Setting::Held(n));
     }
 
     /// Sets the task's last error number.

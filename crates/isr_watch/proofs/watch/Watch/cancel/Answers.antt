@@ -1,9 +1,9 @@
-use Rattle.std.proofs.Common.{ap, ◌∙◌}
+use Rattle.std.proofs.Common.{ap, ◌∙◌, sym, subst, rules}
 use Rattle.id_table.specs.Rows.{with_object}
 use Rattle.isr_watch.specs.declared.watchdog.Watchdog.{Watchdog}
 use Rattle.isr_watch.specs.State.{WatchState}
 use Rattle.isr_watch.specs.Calls.{cancel}
-use Rattle.isr_watch.specs.Inside.{watch_state}
+use Rattle.isr_watch.specs.Inside.{DueFrom, watch_state}
 use Rattle.isr_watch.proofs.Writes.{live_object, write_level, cancelled_is}
 use Rattle.isr_watch.proofs.watch.Watch.cancel.Goals as goal
 
@@ -14,7 +14,7 @@ object_mut-requires c =
 pub invariant_of-self : goal.invariant_of-self
 invariant_of-self c =
     let k = c.self.inside in
-    (write_level k.watchdogs k.level k.listed.items c.in-Some.at c.object_mut.result.now c.stop.new.watchdog c.self.invariant.0 c.object_mut.ensures.value (ap (λ (w : Watchdog). w.id) c.stop.ensures), c.self.invariant.1)
+    (write_level k.watchdogs k.level k.listed.items k.soonest c.in-Some.at c.object_mut.result.now c.stop.new.watchdog c.self.invariant.0 c.object_mut.ensures.value (ap (λ (w : Watchdog). w.id) c.stop.ensures) (subst (DueFrom k.soonest) (sym c.stop.ensures) (search rules)), c.self.invariant.1)
 
 pub returns-clause-state : goal.returns-clause-state
 returns-clause-state c =

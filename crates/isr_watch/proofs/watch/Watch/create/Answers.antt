@@ -18,5 +18,5 @@ pub invariant_of-self : goal.invariant_of-self
 invariant_of-self c =
     let is = c.self.invariant.0 in
     let made = c.add_watchdog-made in
-    let stays = made_own c.self.inside.watchdogs made.new.watchdogs c.lend_ids-ids.result made.new.ids made.result is.own made.ensures.ok made.ensures.err in
-    (record { own = stays.0; room = stays.1 ∙ is.room; idle = is.idle }, c.self.invariant.1)
+    let stays = made_own c.self.inside.watchdogs made.new.watchdogs c.self.inside.soonest c.lend_ids-ids.result made.new.ids made.result is.own is.early made.ensures.ok made.ensures.err in
+    (record { own = stays.0; room = stays.2 ∙ is.room; early = stays.1; idle = is.idle }, c.self.invariant.1)

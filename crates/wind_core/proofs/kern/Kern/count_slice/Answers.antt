@@ -8,12 +8,12 @@ use Rattle.wind_core.proofs.Ticks.{runs, runner_ready}
 use Rattle.wind_core.proofs.kern.Kern.count_slice.Goals as goal
 
 pub count_task_slice-requires-clause-ready : goal.count_task_slice-requires-clause-ready
-count_task_slice-requires-clause-ready c = runner_ready c.args.self.now c.in-Some.who (subst (λ s. Rising task_id s.tasks) c.self.view_is c.self.invariant.2.rising) c.in-Some.ensures
+count_task_slice-requires-clause-ready c = runner_ready c.args.self.now c.in-Some.who (subst (λ s. Rising task_id s.tasks) c.self.view_is c.self.invariant.0.2.rising) c.in-Some.ensures
 
 pub returns : goal.returns
 returns c =
     let s = c.args.self.now in
-    let up = subst (λ s. Rising task_id s.tasks) c.self.view_is c.self.invariant.2.rising in
+    let up = subst (λ s. Rising task_id s.tasks) c.self.view_is c.self.invariant.0.2.rising in
     let tick_counted = ne_eqb s.slice 0 (λ e. c.if-self-eq0.false (ap (λ s. s.slice) c.self.view_is ∙ e)) in
     record {
       slice = c.count_task_slice.ensures

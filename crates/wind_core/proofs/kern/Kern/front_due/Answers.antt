@@ -10,11 +10,11 @@ use Rattle.wind_core.proofs.kern.Kern.front_due.Goals as goal
 pub returns-in-Some-clause-first : goal.returns-in-Some-clause-first
 returns-in-Some-clause-first c =
     let s = c.args.self.now in
-    let up = subst (λ s. Rising task_id s.tasks) c.self.view_is c.self.invariant.2.rising in
+    let up = subst (λ s. Rising task_id s.tasks) c.self.view_is c.self.invariant.0.2.rising in
     c.late.ensures
-    ∙ ap (option_map late_of) (sym (due_read s c.args.tick c.in-Some.who up (c.in-Some.ensures ∙ due_kept c.self.inside s c.args.tick c.self.invariant c.self.view_is c.requires)))
+    ∙ ap (option_map late_of) (sym (due_read s c.args.tick c.in-Some.who up (c.in-Some.ensures ∙ due_kept c.self.inside s c.args.tick c.self.invariant.0 c.self.view_is c.requires)))
 
 pub returns-in-None-clause-first : goal.returns-in-None-clause-first
 returns-in-None-clause-first c =
     let s = c.args.self.now in
-    sym (ap (option_map late_of) (none_named (first_due s.tasks c.args.tick) (c.in-None.ensures ∙ due_kept c.self.inside s c.args.tick c.self.invariant c.self.view_is c.requires)))
+    sym (ap (option_map late_of) (none_named (first_due s.tasks c.args.tick) (c.in-None.ensures ∙ due_kept c.self.inside s c.args.tick c.self.invariant.0 c.self.view_is c.requires)))

@@ -8,7 +8,7 @@ release-requires c =
     let freed = freed_first c.loop-who.self c.args.place c.in-Some.who c.in-Some.ensures.sound.rising c.in-Some.ensures.first in
     record {
       live = freed.lives;
-      since = omega (arith, length-waiters c.args.self.now.tasks c.args.place, c.self.invariant.2.few, ap (λ s. length s.tasks) c.self.view_is, c.loop-who.invariant.room, c.requires);
+      since = omega (arith, length-waiters c.args.self.now.tasks c.args.place, c.self.invariant.0.2.few, ap (λ s. length s.tasks) c.self.view_is, c.loop-who.invariant.room, c.requires);
     }
 
 pub loop-who-smaller : goal.loop-who-smaller

@@ -7,7 +7,7 @@ use Rattle.wind_core.proofs.kern.Kern.tick.Goals as goal
 pub invariant_of-self : goal.invariant_of-self
 invariant_of-self c =
     let n = c.self.inside.tick + 1 in
-    counted_keeps c.self-2.inside n c.self-2.invariant (ap (λ s. first_due s.tasks n) c.self-2.view_is ∙ c.wake_due.ensures.done)
+    (counted_keeps c.self-2.inside n c.self-2.invariant.0 (ap (λ s. first_due s.tasks n) c.self-2.view_is ∙ c.wake_due.ensures.done), c.self-2.invariant.1)
 
 pub returns : goal.returns
 returns c =

@@ -7,7 +7,7 @@ end_wait-requires c =
     let woken = woken_first c.loop-who.self c.args.place c.args.answer c.args.errno c.in-Some.who c.in-Some.ensures.sound.rising c.in-Some.ensures.first in
     record {
       live = woken.lives;
-      since = omega (arith, length-waiters c.args.self.now.tasks c.args.place, c.self.invariant.2.few, ap (λ s. length s.tasks) c.self.view_is, c.loop-who.invariant.room, c.requires);
+      since = omega (arith, length-waiters c.args.self.now.tasks c.args.place, c.self.invariant.0.2.few, ap (λ s. length s.tasks) c.self.view_is, c.loop-who.invariant.room, c.requires);
     }
 
 pub loop-who-smaller : goal.loop-who-smaller

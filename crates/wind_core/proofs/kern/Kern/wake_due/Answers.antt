@@ -8,7 +8,7 @@ time_out-requires-clause-live c = (late_woken c.loop-late.self c.args.tick c.in-
 
 pub time_out-requires-clause-since : goal.time_out-requires-clause-since
 time_out-requires-clause-since c =
-    omega (arith, length-due c.args.self.now.tasks c.args.tick, c.self.invariant.2.few, ap (λ s. length s.tasks) c.self.view_is, c.loop-late.invariant.room, c.requires.since)
+    omega (arith, length-due c.args.self.now.tasks c.args.tick, c.self.invariant.0.2.few, ap (λ s. length s.tasks) c.self.view_is, c.loop-late.invariant.room, c.requires.since)
 
 pub loop-late-smaller : goal.loop-late-smaller
 loop-late-smaller c =

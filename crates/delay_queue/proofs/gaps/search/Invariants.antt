@@ -1,6 +1,6 @@
 use Rattle.linked_lists.specs.Chains.{chain_at}
 use Rattle.delay_queue.proofs.Waiting.{Passed}
-use Rattle.delay_queue.proofs.gaps.position_of.Given as goal
+use Rattle.delay_queue.proofs.gaps.search.Given as goal
 
 -- the given number was passed, and their wakes are at most this one
 abbrev pub invariant-loop-passed : goal.invariant-loop-passed
