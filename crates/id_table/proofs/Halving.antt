@@ -1,8 +1,9 @@
 -- A search that halves a list of records whose ids rise.
-use Rattle.std.proofs.Common.{◌≡◌, ℕ, suc, ◌<◌, ◌≤◌, true, false, cond, List, [], ◌∷◌, length, get_or, None, Some, refl, sym, ap, ◌∙◌, subst, arith, ⊎_elim}
+use Rattle.std.proofs.Common.{◌≡◌, ℕ, zero, suc, ◌+◌, ◌<◌, ◌≤◌, true, false, cond, ltb, leb, map, List, [], ◌∷◌, length, get_or, None, Some, refl, sym, ap, ◌∙◌, subst, arith, ⊎_elim}
 use Rattle.std.specs.Prelude.{nat_lt}
 use Rattle.std.specs.List.Sorted.{IsPartitionPoint, IsNonDecreasingBy}
-use Rattle.std.proofs.lemmas.Bool.{cases_eq, cases_lt, ne_eqb, ltb-true, ltb-false}
+use Rattle.std.specs.List.{find}
+use Rattle.std.proofs.lemmas.Bool.{cases_eq, cases_lt, ne_eqb, ltb-true, ltb-false, leb-true, leb-false, lt-ltb, le-ltb}
 use Rattle.id_table.specs.Records.{of_id, Rising}
 
 -- the first i records have an id below this one, and the others don't
@@ -41,3 +42,28 @@ none_of id (x ∷ xs) n none =
 
 pub rank_none : {X : Type 0} (id : X → ℕ) (xs : List X) (n i : ℕ) → Rising id xs → IsRank id xs n i → ((d : X) → i < length xs → id (get_or xs i d) ≡ n → ⊥) → of_id id xs n ≡ None
 rank_none id xs n i up rank other = none_of id xs n (rank_absent id xs n i up rank other)
+
+-- ---- the first id above a number
+
+-- the first k records have an id up to n, and the others don't
+abbrev pub IsRankAbove : {X : Type 0} → (X → ℕ) → List X → ℕ → ℕ → Type 0
+IsRankAbove id xs n k = IsPartitionPoint (λ x. leb (id x) n ≡ true) (λ x. leb (id x) n ≡ false) xs k
+
+rank_after : {X : Type 0} (id : X → ℕ) (x : X) (xs : List X) (n k : ℕ) → IsRankAbove id (x ∷ xs) n (suc k) → IsRankAbove id xs n k
+rank_after id x xs n k rank = (λ j d h less. rank.0 (suc j) d (omega arith) (omega arith), λ j d from h. rank.1 (suc j) d (omega arith) (omega arith))
+
+passed : {X : Type 0} (id : X → ℕ) (x : X) (xs : List X) (n k : ℕ) → IsRankAbove id (x ∷ xs) n (suc k)
+    → find (λ i. ltb n i) (map id (x ∷ xs)) ≡ find (λ i. ltb n i) (map id xs)
+passed id x xs n k rank =
+    ap (λ b. cond b (Some (id x)) (find (λ i. ltb n i) (map id xs))) (le-ltb n (id x) (leb-true (id x) n (rank.0 0 x (omega arith) (omega arith))))
+
+pub none_above : {X : Type 0} (id : X → ℕ) (xs : List X) (n k : ℕ) → IsRankAbove id xs n k → k ≡ length xs → find (λ i. ltb n i) (map id xs) ≡ None
+none_above id [] n k rank all = refl
+none_above id (x ∷ xs) n zero rank all = absurd (omega arith)
+none_above id (x ∷ xs) n (suc k) rank all = passed id x xs n k rank ∙ none_above id xs n k (rank_after id x xs n k rank) (omega arith)
+
+pub first_above : {X : Type 0} (id : X → ℕ) (xs : List X) (n k : ℕ) (d : X) → IsRankAbove id xs n k → k < length xs → find (λ i. ltb n i) (map id xs) ≡ Some (id (get_or xs k d))
+first_above id [] n k d rank less = absurd (omega arith)
+first_above id (x ∷ xs) n zero d rank less =
+    ap (λ b. cond b (Some (id x)) (find (λ i. ltb n i) (map id xs))) (lt-ltb n (id x) (leb-false (id x) n (rank.1 0 x (omega arith) (omega arith))))
+first_above id (x ∷ xs) n (suc k) d rank less = passed id x xs n k rank ∙ first_above id xs n k d (rank_after id x xs n k rank) (omega arith)

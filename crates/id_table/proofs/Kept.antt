@@ -109,7 +109,7 @@ module _ {T : Type 0} where
       ∙ object_none es slots id (rest_present slots e es h) rest.1
 
   -- the live ids are those of the entries
-  ids_rows : (order : List Entry) (slots : Slab T) → Present order slots → ids (rows_in order slots) ≡ map (λ e. e.id) order
+  pub ids_rows : (order : List Entry) (slots : Slab T) → Present order slots → ids (rows_in order slots) ≡ map (λ e. e.id) order
   ids_rows [] slots h = refl
   ids_rows (e ∷ es) slots h =
       let row = row_is slots e es (h 0 e (omega arith)) in

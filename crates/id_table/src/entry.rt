@@ -58,7 +58,13 @@ pub(crate) fn position_near(order: &[Entry], id: Ident, near: usize) -> Option<u
 
 // The first id above `n`.
 pub(crate) fn id_above(order: &[Entry], n: u32) -> Option<Ident>
+    requires { Rising entry_id order.now }
     ensures { result ≡ find (λ id. nat_lt n id) (map entry_id order.now) }
 {
-    order.iter().map(|entry| entry.id).find(|id| id.get() > n)
+    let above = order.partition_point(|entry| entry.id.get() <= n);
+    if above == order.len() {
+        None
+    } else {
+        Some(order[above].id)
+    }
 }

@@ -4,7 +4,7 @@ ghost use Rattle.std.specs.Prelude.{◌≡◌, ◌<◌, ◌≤◌, [], false, le
 ghost use Rattle.std.specs.Option.{option_copied_mut};
 ghost use Rattle.std.specs.Borrow.{sem};
 ghost use Rattle.wind_base.specs.Limits.{greatest_id};
-ghost use Rattle.id_table.specs.Rows.{object_of, objects, add_refusal, added, removed, IdsBelow, IsTable, Rises, next_above};
+ghost use Rattle.id_table.specs.Rows.{object_of, ids, objects, add_refusal, added, removed, IdsBelow, IsTable, Rises, next_above};
 ghost use Rattle.id_table.specs.Source.{one_given};
 
 use crate::entry::{Entry, id_above, position_near};
@@ -72,6 +72,14 @@ impl<T> Table<T> {
         ensures { result ≡ length self.now.rows }
     {
         self.order.len()
+    }
+
+    /// The id at this position; positions count from 0 by rising id.
+    pub fn id_at(&self, position: usize) -> Ident
+        requires { position < length self.now.rows }
+        ensures { result ≡ slice_index_or (ids self.now.rows) position result }
+    {
+        self.order[position].id
     }
 
     /// The object at this position; positions count from 0 by rising id.

@@ -36,7 +36,7 @@ first_above (b ∷ bs) at k h split =
     (λ less. lt-ltb at (get_or (b ∷ bs) k b).addr (leb-false (get_or (b ∷ bs) k b).addr at (split.1 k b (omega arith) less)))
 
 -- blocks in order rise in address
-laid_above : (lo hi : ℕ) (bs : List Block) → Laid lo hi bs → (k : ℕ) (d : Block) → k < length bs → lo ≤ (get_or bs k d).addr
+pub laid_above : (lo hi : ℕ) (bs : List Block) → Laid lo hi bs → (k : ℕ) (d : Block) → k < length bs → lo ≤ (get_or bs k d).addr
 laid_above lo hi [] laid k d h = absurd (omega arith)
 laid_above lo hi (b ∷ bs) (low, some, high, rest) zero d h = low
 laid_above lo hi (b ∷ bs) (low, some, high, rest) (suc k) d h = let more = laid_above (b.addr + b.size) hi bs rest k d (omega arith) in omega (arith, more, low)
@@ -114,12 +114,7 @@ place_after lo hi (b ∷ bs) zero d (low, some, high, laid) h = low
 place_after lo hi (b ∷ bs) (suc k) d (low, some, high, laid) h =
     let rest = place_after (b.addr + b.size) hi bs k d laid (omega arith) in omega arith
 
--- it isn't empty, and ends in the pool
-pub place_full : (lo hi : ℕ) (bs : List Block) (k : ℕ) (d : Block) → Laid lo hi bs → k < length bs → 0 < (get_or bs k d).size
-place_full lo hi [] k d laid h = absurd (omega arith)
-place_full lo hi (b ∷ bs) zero d (low, some, high, laid) h = some
-place_full lo hi (b ∷ bs) (suc k) d (low, some, high, laid) h = place_full (b.addr + b.size) hi bs k d laid (omega arith)
-
+-- it ends in the pool
 pub place_inside : (lo hi : ℕ) (bs : List Block) (k : ℕ) (d : Block) → Laid lo hi bs → k < length bs → (get_or bs k d).addr + (get_or bs k d).size ≤ hi
 place_inside lo hi [] k d laid h = absurd (omega arith)
 place_inside lo hi (b ∷ bs) zero d (low, some, high, laid) h = high

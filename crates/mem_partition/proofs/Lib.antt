@@ -8,3 +8,4 @@ mod Splitting
 mod Merging
 mod Rising
 mod Steps
+mod Seeking

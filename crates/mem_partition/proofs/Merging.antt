@@ -1,169 +1,96 @@
 -- Freed addresses merge with the holes on both sides; and how many holes there are.
-use Rattle.std.proofs.Common.{◌≡◌, ℕ, zero, suc, ◌+◌, ◌<◌, ◌≤◌, true, false, cond, ltb, eqb, not, ◌||◌, List, [], ◌∷◌, ◌++◌, length, get_or, Option, Some, None, refl, sym, ap, ◌∙◌, subst, arith, length-append}
-use Rattle.std.specs.List.{find}
-use Rattle.std.proofs.lemmas.Bool.{lt-ltb, le-ltb, ltb-true, ltb-false, eq-eqb, ne_eqb}
+use Rattle.std.proofs.Common.{◌≡◌, ℕ, zero, suc, ◌+◌, ◌<◌, ◌≤◌, true, false, cond, leb, ltb, eqb, not, List, [], ◌∷◌, ◌++◌, length, get_or, set, take, drop, refl, sym, ap, ◌∙◌, subst, arith, length-append}
+use Rattle.std.specs.Bool.{⊤}
+use Rattle.std.specs.List.{insert, remove, position_or_len}
+use Rattle.std.proofs.lemmas.Bool.{lt-ltb, ltb-true, ltb-false, le-leb, lt-leb, eq-eqb, ne_eqb}
 use Rattle.mem_partition.specs.declared.block.Block.{Block}
 use Rattle.mem_partition.specs.declared.hole.Hole.{Hole}
 use Rattle.mem_partition.specs.State.{Laid, without_block}
-use Rattle.mem_partition.specs.Holes.{gap, holes_of, put_gap, reach_down, reach_up, touches, apart_from, rank, merged}
-use Rattle.mem_partition.proofs.Keeping.{none_after, place_after, place_full}
+use Rattle.mem_partition.specs.Holes.{gap, holes_of, joined, merged}
+use Rattle.mem_partition.proofs.Keeping.{none_after, place_after}
 use Rattle.mem_partition.proofs.Places.{nothing_more}
-use Rattle.mem_partition.proofs.Splitting.{put_first, put_after}
 
-abbrev hole : ℕ → ℕ → Hole
+abbrev pub hole : ℕ → ℕ → Hole
 hole lo hi = record { start = lo; end = hi }
 
-abbrev ending : ℕ → List Hole → Option Hole
-ending at hs = find (λ h. eqb h.end at) hs
+-- the first hole, if there is one, begins after an address and isn't empty
+abbrev Above : ℕ → List Hole → Type 0
+Above at [] = ⊤
+Above at (h ∷ hs) = (at < h.start) × (h.start < h.end)
 
-abbrev beginning : ℕ → List Hole → Option Hole
-beginning at hs = find (λ h. eqb h.start at) hs
+above_gap : (at x y : ℕ) (hs : List Hole) → at < x → Above at hs → Above at (gap x y ++ hs)
+above_gap at x y hs less rest =
+    elim (ltb x y) as (λ t. ltb x y ≡ t → Above at (cond t (hole x y ∷ []) [] ++ hs)) [ true ↦ λ q. (less, ltb-true x y q) | false ↦ λ q. rest ] refl
 
--- the holes are after what ends at an address, and don't touch it
-record Far (lo hi from : ℕ) (hs : List Hole) : Type 0 where
-  pub ends : ending lo hs ≡ None
-  pub begins : beginning hi hs ≡ None
-  pub kept : apart_from lo hi hs ≡ hs
-  pub first : rank from hs ≡ 0
-
-far_gap : (lo hi from x y : ℕ) (hs : List Hole) → lo < hi → hi < x → from ≤ hi → Far lo hi from hs → Far lo hi from (gap x y ++ hs)
-far_gap lo hi from x y hs some after below far =
-    elim (ltb x y) as (λ t. ltb x y ≡ t → Far lo hi from (cond t (record { start = x; end = y } ∷ []) [] ++ hs)) [
-      | false ↦ λ q. far
-      | true ↦ λ q.
-          let less = ltb-true x y q in
-          let end : eqb y lo ≡ false = ne_eqb y lo (λ e. omega arith) in
-          let start : eqb x hi ≡ false = ne_eqb x hi (λ e. omega arith) in
-          record {
-            ends = ap (λ t. cond t (Some (hole x y)) (ending lo hs)) end ∙ far.ends;
-            begins = ap (λ t. cond t (Some (hole x y)) (beginning hi hs)) start ∙ far.begins;
-            kept = ap (λ t. cond (not (t || eqb x hi)) (hole x y ∷ apart_from lo hi hs) (apart_from lo hi hs)) end
-                ∙ ap (λ t. cond (not t) (hole x y ∷ apart_from lo hi hs) (apart_from lo hi hs)) start
-                ∙ ap (λ xs. hole x y ∷ xs) far.kept;
-            first = ap (λ t. cond (not t) (1 + rank from hs) 0) (lt-ltb from x (omega arith));
-          }
-    ] refl
-
-far_none : (lo hi from : ℕ) → Far lo hi from []
-far_none lo hi from = record { ends = refl; begins = refl; kept = refl; first = refl }
-
-far_holes : (lo hi from x y : ℕ) (bs : List Block) → lo < hi → hi < x → from ≤ hi → Laid x y bs → Far lo hi from (holes_of x y bs)
-far_holes lo hi from x y [] some after below laid =
-    subst (λ hs. Far lo hi from hs) (nothing_more (gap x y)) (far_gap lo hi from x y [] some after below (far_none lo hi from))
-far_holes lo hi from x y (b ∷ bs) some after below (low, full, high, laid) =
-    far_gap lo hi from x b.addr (holes_of (b.addr + b.size) y bs) some after below
-    (far_holes lo hi from (b.addr + b.size) y bs some (omega arith) below laid)
+above_holes : (at x y : ℕ) (bs : List Block) → at < x → Laid x y bs → Above at (holes_of x y bs)
+above_holes at x y [] less laid = subst (Above at) (nothing_more (gap x y)) (above_gap at x y [] less tt)
+above_holes at x y (b ∷ bs) less (low, full, high, laid) =
+    above_gap at x b.addr (holes_of (b.addr + b.size) y bs) less (above_holes at (b.addr + b.size) y bs (omega arith) laid)
 
 -- ---- addresses between the gaps on their sides
 
--- looking up a gap finds its hole, or, if the gap is empty, the hole after it
-at_gap : {A : Type 0} (f : List Hole → A) (found : A) (lo hi : ℕ) (hs : List Hole) → f (hole lo hi ∷ hs) ≡ found → (hi ≤ lo → f hs ≡ found) → f (gap lo hi ++ hs) ≡ found
-at_gap f found lo hi hs full empty =
-    elim (ltb lo hi) as (λ t. ltb lo hi ≡ t → f (cond t (hole lo hi ∷ []) [] ++ hs) ≡ found) [
-      | true ↦ λ q. full
-      | false ↦ λ q. empty (ltb-false lo hi q)
+joined_apart : (lo hi : ℕ) (hs : List Hole) → Above hi hs → joined lo hi hs ≡ hole lo hi ∷ hs
+joined_apart lo hi [] above = refl
+joined_apart lo hi (h ∷ hs) (after, full) = ap (λ t. cond t (hole lo h.end ∷ hs) (hole lo hi ∷ h ∷ hs)) (ne_eqb h.start hi (λ e. omega arith))
+
+-- a hole that ends where a gap begins ends with the gap
+joined_gap : (lo at hi : ℕ) (hs : List Hole) → lo < at → at ≤ hi → Above hi hs → joined lo at (gap at hi ++ hs) ≡ gap lo hi ++ hs
+joined_gap lo at hi hs some up above =
+    elim (ltb at hi) as (λ t. ltb at hi ≡ t → joined lo at (cond t (hole at hi ∷ []) [] ++ hs) ≡ hole lo hi ∷ hs) [
+      | true ↦ λ q. ap (λ t. cond t (hole lo hi ∷ hs) (hole lo at ∷ hole at hi ∷ hs)) (eq-eqb at at refl)
+      | false ↦ λ q.
+          let least = ltb-false at hi q in
+          let same : at ≡ hi = omega arith in
+          subst (λ n. joined lo n hs ≡ hole lo hi ∷ hs) (sym same) (joined_apart lo hi hs above)
     ] refl
+    ∙ sym (ap (λ t. cond t (hole lo hi ∷ []) [] ++ hs) (lt-ltb lo hi (omega arith)))
 
--- what passes over a gap's hole passes over the gap
-gap_passed : {A : Type 0} (f : List Hole → A) (lo hi : ℕ) (hs : List Hole) → f (hole lo hi ∷ hs) ≡ f hs → f (gap lo hi ++ hs) ≡ f hs
-gap_passed f lo hi hs passed = at_gap f (f hs) lo hi hs passed (λ empty. refl)
+merged_above : (lo hi : ℕ) (hs : List Hole) → Above lo hs → merged lo hi hs ≡ joined lo hi hs
+merged_above lo hi [] above = refl
+merged_above lo hi (h ∷ hs) (after, full) =
+    ap (λ t. cond t (cond (eqb h.end lo) (joined h.start hi hs) (joined lo hi (h ∷ hs))) (h ∷ merged lo hi hs)) (le-leb lo h.end (omega arith))
+    ∙ ap (λ t. cond t (joined h.start hi hs) (joined lo hi (h ∷ hs))) (ne_eqb h.end lo (λ e. omega arith))
 
-left_reach : (lo at : ℕ) (hs : List Hole) → lo ≤ at → ending at hs ≡ None → reach_down at (ending at (gap lo at ++ hs)) ≡ lo
-left_reach lo at hs low none =
-    at_gap (λ xs. reach_down at (ending at xs)) lo lo at hs
-    (ap (λ t. reach_down at (cond t (Some (hole lo at)) (ending at hs))) (eq-eqb at at refl))
-    (λ empty. ap (reach_down at) none ∙ omega arith)
-
-left_begins : (lo at end : ℕ) (hs : List Hole) → lo ≤ at → at < end → beginning end (gap lo at ++ hs) ≡ beginning end hs
-left_begins lo at end hs low some =
-    gap_passed (beginning end) lo at hs (ap (λ t. cond t (Some (hole lo at)) (beginning end hs)) (ne_eqb lo end (λ e. omega arith)))
-
-left_kept : (lo at end : ℕ) (hs : List Hole) → apart_from at end (gap lo at ++ hs) ≡ apart_from at end hs
-left_kept lo at end hs =
-    gap_passed (apart_from at end) lo at hs
-    (ap (λ t. cond (not (t || eqb lo end)) (hole lo at ∷ apart_from at end hs) (apart_from at end hs)) (eq-eqb at at refl))
-
-right_ends : (at end hi : ℕ) (hs : List Hole) → at < end → end ≤ hi → ending at (gap end hi ++ hs) ≡ ending at hs
-right_ends at end hi hs some high =
-    gap_passed (ending at) end hi hs (ap (λ t. cond t (Some (hole end hi)) (ending at hs)) (ne_eqb hi at (λ e. omega arith)))
-
-right_reach : (end hi : ℕ) (hs : List Hole) → end ≤ hi → beginning end hs ≡ None → reach_up end (beginning end (gap end hi ++ hs)) ≡ hi
-right_reach end hi hs high none =
-    at_gap (λ xs. reach_up end (beginning end xs)) hi end hi hs
-    (ap (λ t. reach_up end (cond t (Some (hole end hi)) (beginning end hs))) (eq-eqb end end refl))
-    (λ empty. ap (reach_up end) none ∙ omega arith)
-
-right_kept : (at end hi : ℕ) (hs : List Hole) → at < end → end ≤ hi → apart_from at end (gap end hi ++ hs) ≡ apart_from at end hs
-right_kept at end hi hs some high =
-    gap_passed (apart_from at end) end hi hs
-    (ap (λ t. cond (not (t || eqb end end)) (hole end hi ∷ apart_from at end hs) (apart_from at end hs)) (ne_eqb hi at (λ e. omega arith))
-    ∙ ap (λ t. cond (not t) (hole end hi ∷ apart_from at end hs) (apart_from at end hs)) (eq-eqb end end refl))
-
--- a hole inserted at its place
-abbrev put_over : ℕ → ℕ → List Hole → List Hole
-put_over from to hs = put_gap (rank from hs) from to hs
-
-merged_here : (lo at end hi : ℕ) (hs : List Hole) → lo ≤ at → at < end → end ≤ hi → Far at end lo hs → merged at end (gap lo at ++ (gap end hi ++ hs)) ≡ gap lo hi ++ hs
-merged_here lo at end hi hs low some high far =
+merged_here : (lo at end hi : ℕ) (hs : List Hole) → lo ≤ at → at < end → end ≤ hi → Above hi hs → merged at end (gap lo at ++ (gap end hi ++ hs)) ≡ gap lo hi ++ hs
+merged_here lo at end hi hs low some high above =
     let xs = gap end hi ++ hs in
-    let from : reach_down at (ending at (gap lo at ++ xs)) ≡ lo = left_reach lo at xs low (right_ends at end hi hs some high ∙ far.ends) in
-    let to : reach_up end (beginning end (gap lo at ++ xs)) ≡ hi = ap (reach_up end) (left_begins lo at end xs low some) ∙ right_reach end hi hs high far.begins in
-    let rest : apart_from at end (gap lo at ++ xs) ≡ hs = left_kept lo at end xs ∙ right_kept at end hi hs some high ∙ far.kept in
-    ap (λ f. put_over f (reach_up end (beginning end (gap lo at ++ xs))) (apart_from at end (gap lo at ++ xs))) from
-    ∙ ap (λ t. put_over lo t (apart_from at end (gap lo at ++ xs))) to
-    ∙ ap (λ ys. put_over lo hi ys) rest
-    ∙ ap (λ k. put_gap k lo hi hs) far.first
-    ∙ put_first lo hi hs
+    elim (ltb lo at) as (λ t. ltb lo at ≡ t → merged at end (cond t (hole lo at ∷ []) [] ++ xs) ≡ gap lo hi ++ hs) [
+      | true ↦ λ q.
+          let less = ltb-true lo at q in
+          ap (λ t. cond t (cond (eqb at at) (joined lo end xs) (joined at end (hole lo at ∷ xs))) (hole lo at ∷ merged at end xs)) (le-leb at at (omega arith))
+          ∙ ap (λ t. cond t (joined lo end xs) (joined at end (hole lo at ∷ xs))) (eq-eqb at at refl)
+          ∙ joined_gap lo end hi hs (omega arith) high above
+      | false ↦ λ q.
+          let least = ltb-false lo at q in
+          let same : lo ≡ at = omega arith in
+          merged_above at end xs (above_gap at end hi hs some (lower at hi hs (omega arith) above))
+          ∙ joined_gap at end hi hs some high above
+          ∙ ap (λ n. gap n hi ++ hs) (sym same)
+    ] refl
+  where
+    lower : (at hi : ℕ) (hs : List Hole) → at < hi → Above hi hs → Above at hs
+    lower at hi [] less above = tt
+    lower at hi (h ∷ hs) less (after, full) = (omega arith, full)
 
 -- ---- addresses after a gap
 
-merged_after : (x y at end : ℕ) (hs : List Hole) → y < at → at < end → x ≤ reach_down at (ending at hs) → merged at end (gap x y ++ hs) ≡ gap x y ++ merged at end hs
-merged_after x y at end hs after some reach =
-    elim (ltb x y) as (λ t. ltb x y ≡ t → merged at end (cond t (hole x y ∷ []) [] ++ hs) ≡ cond t (hole x y ∷ []) [] ++ merged at end hs) [
-      | false ↦ λ q. refl
-      | true ↦ λ q.
-          let less = ltb-true x y q in
-          let rest = apart_from at end hs in
-          let from = reach_down at (ending at hs) in
-          let to = reach_up end (beginning end hs) in
-          let one : eqb y at ≡ false = ne_eqb y at (λ e. omega arith) in
-          let two : eqb x end ≡ false = ne_eqb x end (λ e. omega arith) in
-          let ends : ending at (hole x y ∷ hs) ≡ ending at hs = ap (λ t. cond t (Some (hole x y)) (ending at hs)) one in
-          let begins : beginning end (hole x y ∷ hs) ≡ beginning end hs = ap (λ t. cond t (Some (hole x y)) (beginning end hs)) two in
-          let kept : apart_from at end (hole x y ∷ hs) ≡ hole x y ∷ rest =
-          ap (λ t. cond (not (t || eqb x end)) (hole x y ∷ rest) rest) one ∙ ap (λ t. cond (not t) (hole x y ∷ rest) rest) two in
-          let place : rank from (hole x y ∷ rest) ≡ suc (rank from rest) = ap (λ t. cond (not t) (1 + rank from rest) 0) (le-ltb from x reach) ∙ omega arith in
-          ap (λ o. put_over (reach_down at o) (reach_up end (beginning end (hole x y ∷ hs))) (apart_from at end (hole x y ∷ hs))) ends
-          ∙ ap (λ o. put_over from (reach_up end o) (apart_from at end (hole x y ∷ hs))) begins
-          ∙ ap (λ ys. put_over from to ys) kept
-          ∙ ap (λ k. put_gap k from to (hole x y ∷ rest)) place
-          ∙ put_after (rank from rest) from to (hole x y) rest
-    ] refl
-
--- a hole begins no lower than the first hole
-reach_gap : (lo x y at : ℕ) (hs : List Hole) → lo ≤ x → lo ≤ reach_down at (ending at hs) → lo ≤ reach_down at (ending at (gap x y ++ hs))
-reach_gap lo x y at hs low rest =
-    elim (ltb x y) as (λ t. lo ≤ reach_down at (ending at (cond t (hole x y ∷ []) [] ++ hs))) [
-      | false ↦ rest
-      | true ↦ elim (eqb y at) as (λ t. lo ≤ reach_down at (cond t (Some (hole x y)) (ending at hs))) [ true ↦ low | false ↦ rest ]
+merged_after : (x y at end : ℕ) (hs : List Hole) → y < at → merged at end (gap x y ++ hs) ≡ gap x y ++ merged at end hs
+merged_after x y at end hs after =
+    elim (ltb x y) as (λ t. merged at end (cond t (hole x y ∷ []) [] ++ hs) ≡ cond t (hole x y ∷ []) [] ++ merged at end hs) [
+      | true ↦ ap (λ t. cond t (cond (eqb y at) (joined x end hs) (joined at end (hole x y ∷ hs))) (hole x y ∷ merged at end hs)) (lt-leb at y after)
+      | false ↦ refl
     ]
-
-reach_above : (lo x hi at : ℕ) (bs : List Block) → lo ≤ x → lo ≤ at → Laid x hi bs → lo ≤ reach_down at (ending at (holes_of x hi bs))
-reach_above lo x hi at [] low up laid =
-    subst (λ hs. lo ≤ reach_down at (ending at hs)) (nothing_more (gap x hi)) (reach_gap lo x hi at [] low up)
-reach_above lo x hi at (b ∷ bs) low up (b_low, full, high, laid) =
-    reach_gap lo x b.addr at (holes_of (b.addr + b.size) hi bs) low (reach_above lo (b.addr + b.size) hi at bs (omega arith) up laid)
 
 -- ---- a block that is taken out
 
 head_merged : (lo hi : ℕ) (b : Block) (bs : List Block) → Laid lo hi (b ∷ bs) → merged b.addr (b.addr + b.size) (holes_of lo hi (b ∷ bs)) ≡ holes_of lo hi bs
 head_merged lo hi b [] (low, full, high, laid) =
     ap (λ hs. merged b.addr (b.addr + b.size) (gap lo b.addr ++ hs)) (sym (nothing_more (gap (b.addr + b.size) hi)))
-    ∙ merged_here lo b.addr (b.addr + b.size) hi [] low (omega arith) high (far_none b.addr (b.addr + b.size) lo)
+    ∙ merged_here lo b.addr (b.addr + b.size) hi [] low (omega arith) high tt
     ∙ nothing_more (gap lo hi)
 head_merged lo hi b (c ∷ cs) (low, full, high, (c_low, c_full, c_high, laid)) =
     merged_here lo b.addr (b.addr + b.size) c.addr (holes_of (c.addr + c.size) hi cs) low (omega arith) c_low
-    (far_holes b.addr (b.addr + b.size) lo (c.addr + c.size) hi cs (omega arith) (omega arith) (omega arith) laid)
+    (above_holes c.addr (c.addr + c.size) hi cs (omega arith) laid)
 
 pub taken_out : (lo hi : ℕ) (bs : List Block) (k : ℕ) (d : Block) → Laid lo hi bs → k < length bs
     → merged (get_or bs k d).addr ((get_or bs k d).addr + (get_or bs k d).size) (holes_of lo hi bs) ≡ holes_of lo hi (without_block (get_or bs k d).addr bs)
@@ -175,9 +102,7 @@ taken_out lo hi (b ∷ bs) zero d (low, full, high, laid) less =
 taken_out lo hi (b ∷ bs) (suc k) d (low, full, high, laid) less =
     let c = get_or bs k d in
     let after : b.addr + b.size ≤ c.addr = place_after (b.addr + b.size) hi bs k d laid (omega arith) in
-    let some : 0 < c.size = place_full (b.addr + b.size) hi bs k d laid (omega arith) in
-    let reach : lo ≤ reach_down c.addr (ending c.addr (holes_of (b.addr + b.size) hi bs)) = reach_above lo (b.addr + b.size) hi c.addr bs (omega arith) (omega arith) laid in
-    merged_after lo b.addr c.addr (c.addr + c.size) (holes_of (b.addr + b.size) hi bs) (omega arith) (omega arith) reach
+    merged_after lo b.addr c.addr (c.addr + c.size) (holes_of (b.addr + b.size) hi bs) (omega arith)
     ∙ ap (λ hs. gap lo b.addr ++ hs) (taken_out (b.addr + b.size) hi bs k d laid (omega arith))
     ∙ sym (ap (holes_of lo hi) (ap (λ t. cond (not t) (b ∷ without_block c.addr bs) (without_block c.addr bs)) (ne_eqb b.addr c.addr (λ e. omega arith))))
 
@@ -194,29 +119,86 @@ length-holes lo hi (b ∷ bs) =
     let both : length (gap lo b.addr ++ holes_of (b.addr + b.size) hi bs) ≡ length (gap lo b.addr) + length (holes_of (b.addr + b.size) hi bs) = length-append (gap lo b.addr) (holes_of (b.addr + b.size) hi bs) in
     omega arith
 
-length-apart : (at end : ℕ) (hs : List Hole) → length (apart_from at end hs) ≤ length hs
-length-apart at end [] = omega arith
-length-apart at end (h ∷ hs) =
-    let rest = length-apart at end hs in
-    elim (touches at end h) as (λ t. length (cond (not t) (h ∷ apart_from at end hs) (apart_from at end hs)) ≤ length (h ∷ hs)) [ true ↦ omega arith | false ↦ omega arith ]
+-- ---- as the code merges
 
-length-apart_append : (at end : ℕ) (xs hs : List Hole) → length (apart_from at end (xs ++ hs)) ≤ length xs + length (apart_from at end hs)
-length-apart_append at end [] hs = omega arith
-length-apart_append at end (x ∷ xs) hs =
-    let rest = length-apart_append at end xs hs in
-    elim (touches at end x) as (λ t. length (cond (not t) (x ∷ apart_from at end (xs ++ hs)) (apart_from at end (xs ++ hs))) ≤ suc (length xs) + length (apart_from at end hs)) [ true ↦ omega arith | false ↦ omega arith ]
+-- the number of holes that end before an address
+abbrev pub ending_before : ℕ → List Hole → ℕ
+ending_before at hs = position_or_len (λ h. leb at h.end) hs
 
--- without the holes that touch a block, there are no more holes than blocks
-pub length-apart_holes : (lo hi end : ℕ) (bs : List Block) (k : ℕ) (d : Block) → k < length bs → length (apart_from (get_or bs k d).addr end (holes_of lo hi bs)) ≤ length bs
-length-apart_holes lo hi end [] k d less = absurd (omega arith)
-length-apart_holes lo hi end (b ∷ bs) zero d less =
-    let hs = holes_of (b.addr + b.size) hi bs in
-    let kept : length (apart_from b.addr end (gap lo b.addr ++ hs)) ≡ length (apart_from b.addr end hs) = ap (λ (xs : List Hole). length xs) (left_kept lo b.addr end hs) in
-    let few = length-apart b.addr end hs in
-    let many = length-holes (b.addr + b.size) hi bs in
-    omega arith
-length-apart_holes lo hi end (b ∷ bs) (suc k) d less =
-    let rest = length-apart_holes (b.addr + b.size) hi end bs k d (omega arith) in
-    let one = length-gap lo b.addr in
-    let more = length-apart_append (get_or bs k d).addr end (gap lo b.addr) (holes_of (b.addr + b.size) hi bs) in
-    omega arith
+touching : (lo hi : ℕ) (hs : List Hole) (d : Hole) → ending_before lo hs < length hs → (get_or hs (ending_before lo hs) d).end ≡ lo
+    → take (ending_before lo hs) hs ++ joined (get_or hs (ending_before lo hs) d).start hi (drop (suc (ending_before lo hs)) hs) ≡ merged lo hi hs
+touching lo hi [] d less touches = absurd (omega arith)
+touching lo hi (h ∷ hs) d less touches =
+    elim (leb lo h.end) as (λ t. cond (not t) (1 + ending_before lo hs) 0 < length (h ∷ hs) → (get_or (h ∷ hs) (cond (not t) (1 + ending_before lo hs) 0) d).end ≡ lo
+    → take (cond (not t) (1 + ending_before lo hs) 0) (h ∷ hs) ++ joined (get_or (h ∷ hs) (cond (not t) (1 + ending_before lo hs) 0) d).start hi (drop (suc (cond (not t) (1 + ending_before lo hs) 0)) (h ∷ hs))
+    ≡ cond t (cond (eqb h.end lo) (joined h.start hi hs) (joined lo hi (h ∷ hs))) (h ∷ merged lo hi hs)) [
+      | true ↦ λ q e. sym (ap (λ t. cond t (joined h.start hi hs) (joined lo hi (h ∷ hs))) (eq-eqb h.end lo e))
+      | false ↦ λ q e.
+          let j = ending_before lo hs in
+          let next : 1 + j ≡ suc j = omega arith in
+          ap (λ i. take i (h ∷ hs) ++ joined (get_or (h ∷ hs) i d).start hi (drop (suc i) (h ∷ hs))) next
+          ∙ ap (λ x. h ∷ x) (touching lo hi hs d (omega (arith, q)) (sym (ap (λ i. (get_or (h ∷ hs) i d).end) next) ∙ e))
+    ] less touches
+
+apart : (lo hi : ℕ) (hs : List Hole) (d : Hole) → (ending_before lo hs < length hs → (get_or hs (ending_before lo hs) d).end ≡ lo → ⊥)
+    → take (ending_before lo hs) hs ++ joined lo hi (drop (ending_before lo hs) hs) ≡ merged lo hi hs
+apart lo hi [] d other = refl
+apart lo hi (h ∷ hs) d other =
+    elim (leb lo h.end) as (λ t. (cond (not t) (1 + ending_before lo hs) 0 < length (h ∷ hs) → (get_or (h ∷ hs) (cond (not t) (1 + ending_before lo hs) 0) d).end ≡ lo → ⊥)
+    → take (cond (not t) (1 + ending_before lo hs) 0) (h ∷ hs) ++ joined lo hi (drop (cond (not t) (1 + ending_before lo hs) 0) (h ∷ hs))
+    ≡ cond t (cond (eqb h.end lo) (joined h.start hi hs) (joined lo hi (h ∷ hs))) (h ∷ merged lo hi hs)) [
+      | true ↦ λ differ. sym (ap (λ t. cond t (joined h.start hi hs) (joined lo hi (h ∷ hs))) (ne_eqb h.end lo (differ (omega arith))))
+      | false ↦ λ differ.
+          let j = ending_before lo hs in
+          let next : 1 + j ≡ suc j = omega arith in
+          ap (λ i. take i (h ∷ hs) ++ joined lo hi (drop i (h ∷ hs))) next
+          ∙ ap (λ x. h ∷ x) (apart lo hi hs d (λ less e. differ (omega (arith, less)) (ap (λ i. (get_or (h ∷ hs) i d).end) next ∙ e)))
+    ] other
+
+pub merged_touching : (lo hi : ℕ) (hs : List Hole) (k : ℕ) (d : Hole) → k ≡ ending_before lo hs → k < length hs → (get_or hs k d).end ≡ lo
+    → take k hs ++ joined (get_or hs k d).start hi (drop (suc k) hs) ≡ merged lo hi hs
+merged_touching lo hi hs k d is =
+    subst (λ i. i < length hs → (get_or hs i d).end ≡ lo → take i hs ++ joined (get_or hs i d).start hi (drop (suc i) hs) ≡ merged lo hi hs) (sym is) (touching lo hi hs d)
+
+pub merged_apart : (lo hi : ℕ) (hs : List Hole) (k : ℕ) (d : Hole) → k ≡ ending_before lo hs → (k < length hs → (get_or hs k d).end ≡ lo → ⊥)
+    → take k hs ++ joined lo hi (drop k hs) ≡ merged lo hi hs
+merged_apart lo hi hs k d is = subst (λ i. (i < length hs → (get_or hs i d).end ≡ lo → ⊥) → take i hs ++ joined lo hi (drop i hs) ≡ merged lo hi hs) (sym is) (apart lo hi hs d)
+
+-- a hole that begins where another ends is extended down
+pub extended_down : (lo hi : ℕ) (hs : List Hole) (k : ℕ) (d : Hole) → k < length hs → (get_or hs k d).start ≡ hi
+    → set hs k (hole lo (get_or hs k d).end) ≡ take k hs ++ joined lo hi (drop k hs)
+extended_down lo hi [] k d less e = absurd (omega arith)
+extended_down lo hi (h ∷ hs) zero d less e = sym (ap (λ t. cond t (hole lo h.end ∷ hs) (hole lo hi ∷ h ∷ hs)) (eq-eqb h.start hi e))
+extended_down lo hi (h ∷ hs) (suc k) d less e = ap (λ x. h ∷ x) (extended_down lo hi hs k d (omega arith) e)
+
+pub inserted_joined : (lo hi : ℕ) (hs : List Hole) (k : ℕ) (d : Hole) → k ≤ length hs → (k < length hs → (get_or hs k d).start ≡ hi → ⊥)
+    → insert hs k (hole lo hi) ≡ take k hs ++ joined lo hi (drop k hs)
+inserted_joined lo hi [] zero d le apart = refl
+inserted_joined lo hi [] (suc k) d le apart = absurd (omega arith)
+inserted_joined lo hi (h ∷ hs) zero d le apart = sym (ap (λ t. cond t (hole lo h.end ∷ hs) (hole lo hi ∷ h ∷ hs)) (ne_eqb h.start hi (apart (omega arith))))
+inserted_joined lo hi (h ∷ hs) (suc k) d le apart = ap (λ x. h ∷ x) (inserted_joined lo hi hs k d (omega arith) (λ less. apart (omega (arith, less))))
+
+-- a hole is extended up to an address, or through the hole that begins there
+extended_through : (lo hi : ℕ) (hs : List Hole) (k : ℕ) (d : Hole) → suc k < length hs → (get_or hs (suc k) d).start ≡ hi
+    → set (remove hs (suc k)) k (hole lo (get_or hs (suc k) d).end) ≡ take k hs ++ joined lo hi (drop (suc k) hs)
+extended_through lo hi [] k d less e = absurd (omega arith)
+extended_through lo hi (h ∷ []) zero d less e = absurd (omega arith)
+extended_through lo hi (h ∷ g ∷ hs) zero d less e = sym (ap (λ t. cond t (hole lo g.end ∷ hs) (hole lo hi ∷ g ∷ hs)) (eq-eqb g.start hi e))
+extended_through lo hi (h ∷ hs) (suc k) d less e = ap (λ x. h ∷ x) (extended_through lo hi hs k d (omega arith) e)
+
+extended_alone : (lo hi : ℕ) (hs : List Hole) (k : ℕ) (d : Hole) → k < length hs → (suc k < length hs → (get_or hs (suc k) d).start ≡ hi → ⊥)
+    → set hs k (hole lo hi) ≡ take k hs ++ joined lo hi (drop (suc k) hs)
+extended_alone lo hi [] k d less apart = absurd (omega arith)
+extended_alone lo hi (h ∷ []) zero d less apart = refl
+extended_alone lo hi (h ∷ g ∷ hs) zero d less apart = sym (ap (λ t. cond t (hole lo g.end ∷ hs) (hole lo hi ∷ g ∷ hs)) (ne_eqb g.start hi (apart (omega arith))))
+extended_alone lo hi (h ∷ hs) (suc k) d less apart = ap (λ x. h ∷ x) (extended_alone lo hi hs k d (omega arith) (λ more. apart (omega (arith, more))))
+
+pub up_through : (lo hi : ℕ) (hs : List Hole) (k next : ℕ) (d : Hole) → next ≡ suc k → next < length hs → (get_or hs next d).start ≡ hi
+    → set (remove hs next) k (hole lo (get_or hs next d).end) ≡ take k hs ++ joined lo hi (drop next hs)
+up_through lo hi hs k next d is =
+    subst (λ n. n < length hs → (get_or hs n d).start ≡ hi → set (remove hs n) k (hole lo (get_or hs n d).end) ≡ take k hs ++ joined lo hi (drop n hs)) (sym is) (extended_through lo hi hs k d)
+
+pub up_alone : (lo hi : ℕ) (hs : List Hole) (k next : ℕ) (d : Hole) → next ≡ suc k → k < length hs → (next < length hs → (get_or hs next d).start ≡ hi → ⊥)
+    → set hs k (hole lo hi) ≡ take k hs ++ joined lo hi (drop next hs)
+up_alone lo hi hs k next d is less =
+    subst (λ n. (n < length hs → (get_or hs n d).start ≡ hi → ⊥) → set hs k (hole lo hi) ≡ take k hs ++ joined lo hi (drop n hs)) (sym is) (extended_alone lo hi hs k d less)

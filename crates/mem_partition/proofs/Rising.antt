@@ -1,6 +1,7 @@
 -- The holes between blocks in order: they rise in address, no two touch, and they are where no block is.
-use Rattle.std.proofs.Common.{◌≡◌, ℕ, ◌+◌, ◌<◌, ◌≤◌, true, false, cond, leb, ltb, ◌&&◌, ◌||◌, List, [], ◌∷◌, ◌++◌, refl, sym, ap, ◌∙◌, subst, inl, inr, arith}
+use Rattle.std.proofs.Common.{◌≡◌, ℕ, zero, suc, ◌+◌, ◌<◌, ◌≤◌, true, false, cond, leb, ltb, ◌&&◌, ◌||◌, List, [], ◌∷◌, ◌++◌, length, get_or, refl, sym, ap, ◌∙◌, subst, inl, inr, arith}
 use Rattle.std.specs.List.{All}
+use Rattle.std.specs.List.Sorted.{IsNonDecreasingBy}
 use Rattle.std.proofs.lemmas.Bool.{le-leb, lt-leb, lt-ltb, le-ltb, ltb-true, cases_lt}
 use Rattle.std.proofs.lemmas.List.Elements.{All-cons}
 use Rattle.mem_partition.specs.declared.block.Block.{Block}
@@ -99,3 +100,22 @@ law_inside s k = subst (Within s.part.start s.part.end) (sym k.exact) (within s.
 
 pub law_exact : (s : HolesState) (at : ℕ) → AreHoles s → s.part.start ≤ at → at < s.part.end → is_in_hole s.holes at ≡ is_free s.part.blocks at
 law_exact s at k low less = ap (λ hs. is_in_hole hs at) k.exact ∙ in_hole s.part.start s.part.end at s.part.blocks k.part.laid low less
+
+-- ---- holes in order rise in their ends
+
+full : (hs : List Hole) (k : ℕ) (d : Hole) → Rise hs → k < length hs → (get_or hs k d).start < (get_or hs k d).end
+full [] k d rise h = absurd (omega arith)
+full (h ∷ hs) zero d (some, after, rise) less = some
+full (h ∷ hs) (suc k) d (some, after, rise) less = full hs k d rise (omega arith)
+
+pub ends_rise : (hs : List Hole) → Rise hs → IsNonDecreasingBy (λ h. h.end) hs
+ends_rise [] rise i j d hij less = absurd (omega arith)
+ends_rise (h ∷ hs) rise zero zero d hij less = omega arith
+ends_rise (h ∷ hs) (some, after, rise) zero (suc j) d hij less =
+    let begins = after j d (omega arith) in let ends = full hs j d rise (omega arith) in omega arith
+ends_rise (h ∷ hs) rise (suc i) zero d hij less = absurd (omega (arith, hij))
+ends_rise (h ∷ hs) (some, after, rise) (suc i) (suc j) d hij less = ends_rise hs rise i j d (omega (arith, hij)) (omega arith)
+
+-- the holes of a partition do
+pub holes_rise : (s : HolesState) → AreHoles s → IsNonDecreasingBy (λ h. h.end) s.holes
+holes_rise s k = ends_rise s.holes (law_rise s k)

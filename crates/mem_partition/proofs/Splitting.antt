@@ -1,6 +1,6 @@
 -- A block that is cut out of a hole.
-use Rattle.std.proofs.Common.{◌≡◌, ℕ, suc, ◌+◌, ◌<◌, ◌≤◌, true, false, cond, leb, ltb, not, List, [], ◌∷◌, ◌++◌, length, get_or, Some, None, refl, sym, ap, ◌∙◌, inl, inr, arith}
-use Rattle.std.specs.List.{insert, remove, position, position_or_len}
+use Rattle.std.proofs.Common.{◌≡◌, ℕ, suc, ◌+◌, ◌<◌, ◌≤◌, true, false, cond, leb, ltb, not, List, [], ◌∷◌, ◌++◌, length, get_or, refl, sym, ap, ◌∙◌, inl, inr, arith}
+use Rattle.std.specs.List.{insert, remove, position_or_len}
 use Rattle.std.proofs.lemmas.Bool.{le-leb, lt-leb, lt-ltb, ltb-true, ltb-false, and_parts}
 use Rattle.mem_partition.specs.declared.block.Block.{Block}
 use Rattle.mem_partition.specs.declared.hole.Hole.{Hole}
@@ -56,14 +56,14 @@ put_after k lo hi h hs =
     elim (ltb lo hi) as (λ t. cond t (insert (h ∷ hs) (suc k) (record { start = lo; end = hi })) (h ∷ hs) ≡ h ∷ cond t (insert hs k (record { start = lo; end = hi })) hs) [ true ↦ refl | false ↦ refl ]
 
 -- the hole at a place left out, and what remains of it on both sides put in
-abbrev cut_at : ℕ → ℕ → ℕ → Hole → List Hole → List Hole
+abbrev pub cut_at : ℕ → ℕ → ℕ → Hole → List Hole → List Hole
 cut_at k lo hi h hs = put_gap k h.start lo (put_gap k hi h.end (remove hs k))
 
 -- the place of the first hole that ends at or after an address
-abbrev reaching : ℕ → List Hole → ℕ
+abbrev pub reaching : ℕ → List Hole → ℕ
 reaching hi hs = position_or_len (λ h. leb hi h.end) hs
 
-cut_there : (lo hi : ℕ) (hs : List Hole) (d : Hole) → reaching hi hs < length hs → cut_at (reaching hi hs) lo hi (get_or hs (reaching hi hs) d) hs ≡ cut_out lo hi hs
+pub cut_there : (lo hi : ℕ) (hs : List Hole) (d : Hole) → reaching hi hs < length hs → cut_at (reaching hi hs) lo hi (get_or hs (reaching hi hs) d) hs ≡ cut_out lo hi hs
 cut_there lo hi [] d less = absurd (omega arith)
 cut_there lo hi (h ∷ hs) d less =
     elim (leb hi h.end) as (λ t. cond (not t) (1 + reaching hi hs) 0 < length (h ∷ hs) → cut_at (cond (not t) (1 + reaching hi hs) 0) lo hi (get_or (h ∷ hs) (cond (not t) (1 + reaching hi hs) 0) d) (h ∷ hs) ≡ cond t (gap h.start lo ++ (gap hi h.end ++ hs)) (h ∷ cut_out lo hi hs)) [
@@ -80,34 +80,11 @@ cut_there lo hi (h ∷ hs) d less =
           ∙ ap (λ x. h ∷ x) (cut_there lo hi hs d (omega (arith, q)))
     ] less
 
--- a position that is found
-pub record Found (k : ℕ) (hi : ℕ) (hs : List Hole) : Type 0 where
-  pub is : k ≡ reaching hi hs
-  pub within : reaching hi hs < length hs
-
-found_at : (hi k : ℕ) (hs : List Hole) → Some k ≡ position (λ h. leb hi h.end) hs → Found k hi hs
-found_at hi k hs e =
-    elim (ltb (reaching hi hs) (length hs)) as (λ t. ltb (reaching hi hs) (length hs) ≡ t → Some k ≡ cond t (Some (reaching hi hs)) None → Found k hi hs) [
-      | true ↦ λ q w. record { is = cc; within = ltb-true (reaching hi hs) (length hs) q }
-      | false ↦ λ q w. absurd (cc)
-    ] refl e
-
-pub cut_found : (lo hi k : ℕ) (hs : List Hole) (d : Hole) → Some k ≡ position (λ h. leb hi h.end) hs → put_gap k (get_or hs k d).start lo (put_gap k hi (get_or hs k d).end (remove hs k)) ≡ cut_out lo hi hs
-cut_found lo hi k hs d e =
-    let f = found_at hi k hs e in
-    ap (λ j. cut_at j lo hi (get_or hs j d) hs) f.is ∙ cut_there lo hi hs d f.within
-
-none_reach : (lo hi : ℕ) (hs : List Hole) → length hs ≤ reaching hi hs → cut_out lo hi hs ≡ hs
+-- if no hole ends at or after an address, nothing is cut out
+pub none_reach : (lo hi : ℕ) (hs : List Hole) → length hs ≤ reaching hi hs → cut_out lo hi hs ≡ hs
 none_reach lo hi [] h = refl
 none_reach lo hi (h ∷ hs) more =
     elim (leb hi h.end) as (λ t. length (h ∷ hs) ≤ cond (not t) (1 + reaching hi hs) 0 → cond t (gap h.start lo ++ (gap hi h.end ++ hs)) (h ∷ cut_out lo hi hs) ≡ h ∷ hs) [
       | true ↦ λ q. absurd (omega (arith, q))
       | false ↦ λ q. ap (λ x. h ∷ x) (none_reach lo hi hs (omega (arith, q)))
     ] more
-
-pub cut_missed : (lo hi : ℕ) (hs : List Hole) → None ≡ position (λ h. leb hi h.end) hs → cut_out lo hi hs ≡ hs
-cut_missed lo hi hs e =
-    elim (ltb (reaching hi hs) (length hs)) as (λ t. ltb (reaching hi hs) (length hs) ≡ t → None ≡ cond t (Some (reaching hi hs)) None → cut_out lo hi hs ≡ hs) [
-      | true ↦ λ q w. absurd (cc)
-      | false ↦ λ q w. none_reach lo hi hs (ltb-false (reaching hi hs) (length hs) q)
-    ] refl e

@@ -1,5 +1,5 @@
 -- A partition with its holes, after a block is added and after one is removed.
-use Rattle.std.proofs.Common.{◌≡◌, ℕ, ◌+◌, ◌<◌, ◌≤◌, List, length, get_or, sym, ap, ◌∙◌, subst}
+use Rattle.std.proofs.Common.{◌≡◌, ℕ, ◌+◌, ◌<◌, ◌≤◌, List, length, get_or, sym, ap, ◌∙◌, subst, arith}
 use Rattle.std.specs.List.{remove}
 use Rattle.mem_partition.specs.declared.block.Block.{Block}
 use Rattle.mem_partition.specs.declared.block.Class.{Class}
@@ -7,10 +7,10 @@ use Rattle.mem_partition.specs.declared.hole.Hole.{Hole}
 use Rattle.mem_partition.specs.Place.{Lies}
 use Rattle.mem_partition.specs.State.{PartState, IsPart, with_block, without_block, after_free}
 use Rattle.mem_partition.specs.Own.{IsOwn}
-use Rattle.mem_partition.specs.Holes.{HolesState, AreHoles, holes_of, with_holes, cut_out, apart_from, merged}
-use Rattle.mem_partition.proofs.Keeping.{part_with, part_without, own_removed, freed_is}
+use Rattle.mem_partition.specs.Holes.{HolesState, AreHoles, holes_of, with_holes, cut_out, merged}
+use Rattle.mem_partition.proofs.Keeping.{length-without, part_with, part_without, own_removed, freed_is}
 use Rattle.mem_partition.proofs.Splitting.{split}
-use Rattle.mem_partition.proofs.Merging.{taken_out, length-holes, length-apart_holes}
+use Rattle.mem_partition.proofs.Merging.{taken_out, length-holes}
 
 -- the partition with these blocks and holes
 abbrev pub holding : PartState → List Block → List Hole → HolesState
@@ -68,8 +68,15 @@ free_is_whole s at class k b bs hs are own is blocks holes =
     whole_is (holding s.part bs hs) (free_holes s at class k b bs hs are own is blocks holes)
     ∙ ap with_holes (freed_is s.part at class k bs are.part own blocks)
 
-pub apart_few : (s : HolesState) (end k : ℕ) (b : Block) → AreHoles s → k < length s.part.blocks → b ≡ get_or s.part.blocks k b → length (apart_from b.addr end s.holes) ≤ length s.part.blocks
-apart_few s end k b are less is =
-    subst (λ (hs : List Hole). length (apart_from b.addr end hs) ≤ length s.part.blocks) (sym are.exact)
-    (subst (λ (x : Block). length (apart_from x.addr end (holes_of s.part.start s.part.end s.part.blocks)) ≤ length s.part.blocks) (sym is)
-    (length-apart_holes s.part.start s.part.end end s.part.blocks k b less))
+-- there is room for the holes after a block is removed
+pub merged_few : (s : HolesState) (k : ℕ) (b : Block) → AreHoles s → k < length s.part.blocks → b ≡ get_or s.part.blocks k b → length (merged b.addr (b.addr + b.size) s.holes) ≤ s.part.room + 1
+merged_few s k b are less is =
+    let bs = s.part.blocks in
+    let whole : merged b.addr (b.addr + b.size) s.holes ≡ holes_of s.part.start s.part.end (without_block b.addr bs) =
+    ap (merged b.addr (b.addr + b.size)) are.exact
+    ∙ subst (λ (x : Block). merged x.addr (x.addr + x.size) (holes_of s.part.start s.part.end bs) ≡ holes_of s.part.start s.part.end (without_block x.addr bs)) (sym is) (taken_out s.part.start s.part.end bs k b are.part.laid less) in
+    let same = ap (λ (hs : List Hole). length hs) whole in
+    let holes = length-holes s.part.start s.part.end (without_block b.addr bs) in
+    let fewer = length-without b.addr bs in
+    let few = are.part.few in
+    omega arith

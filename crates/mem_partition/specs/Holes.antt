@@ -1,6 +1,6 @@
 -- The holes of a pool: what its blocks leave free, in order of address.
-use Rattle.std.specs.Prelude.{◌≡◌, ℕ, ◌+◌, ◌-◌, ◌*◌, ◌/◌, ◌≤◌, ◌<◌, nat_le, nat_lt, ◌==◌, ◌&&◌, ◌||◌, Bool, not, if◌then◌else◌, List, [], ◌∷◌, ◌++◌, Option, Some, None}
-use Rattle.std.specs.List.{All, list_any, find, filter, insert, position_or_len}
+use Rattle.std.specs.Prelude.{◌≡◌, ℕ, ◌+◌, ◌-◌, ◌*◌, ◌/◌, ◌≤◌, ◌<◌, nat_le, nat_lt, ◌==◌, ◌&&◌, Bool, if◌then◌else◌, List, [], ◌∷◌, ◌++◌, Option, Some, None}
+use Rattle.std.specs.List.{All, list_any, insert}
 use Rattle.std.specs.Option.{option_or}
 use Rattle.wind_base.specs.declared.board_kind.Side.{Side}
 use Rattle.wind_base.specs.declared.board_kind.Side.TheVariants.{Low, High}
@@ -85,31 +85,15 @@ cut_out lo hi [] = []
 cut_out lo hi (h ∷ hs) =
     if nat_le hi h.end then gap h.start lo ++ (gap hi h.end ++ hs) else h ∷ cut_out lo hi hs
 
--- where the hole that ends at lo begins, or lo if there is none
-abbrev pub reach_down : ℕ → Option Hole → ℕ
-reach_down lo None = lo
-reach_down lo (Some h) = h.start
-
--- where the hole that begins at hi ends, or hi if there is none
-abbrev pub reach_up : ℕ → Option Hole → ℕ
-reach_up hi None = hi
-reach_up hi (Some h) = h.end
-
--- the hole ends at lo, or begins at hi
-abbrev pub touches : ℕ → ℕ → Hole → Bool
-touches lo hi h = h.end == lo || h.start == hi
-
--- the holes that don't touch lo to hi
-abbrev pub apart_from : ℕ → ℕ → List Hole → List Hole
-apart_from lo hi hs = filter (λ h. not (touches lo hi h)) hs
-
--- how many holes begin at or before an address
-abbrev pub rank : ℕ → List Hole → ℕ
-rank at hs = position_or_len (λ h. nat_lt at h.start) hs
+-- the holes from hi up with the one from lo to hi: the hole that begins at hi becomes part of it
+abbrev pub joined : ℕ → ℕ → List Hole → List Hole
+joined lo hi [] = record { start = lo; end = hi } ∷ []
+joined lo hi (h ∷ hs) =
+    if h.start == hi then record { start = lo; end = h.end } ∷ hs else record { start = lo; end = hi } ∷ h ∷ hs
 
 -- the holes with lo to hi added: one hole replaces it and the holes that touch it
 abbrev pub merged : ℕ → ℕ → List Hole → List Hole
-merged lo hi hs =
-    let from = reach_down lo (find (λ h. h.end == lo) hs) in
-    let to = reach_up hi (find (λ h. h.start == hi) hs) in
-    put_gap (rank from (apart_from lo hi hs)) from to (apart_from lo hi hs)
+merged lo hi [] = joined lo hi []
+merged lo hi (h ∷ hs) =
+    if nat_le lo h.end then (if h.end == lo then joined h.start hi hs else joined lo hi (h ∷ hs)) else
+    h ∷ merged lo hi hs

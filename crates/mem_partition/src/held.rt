@@ -1,10 +1,10 @@
 //! The allocated blocks, in order of address.
 
-ghost use Rattle.std.specs.Prelude.{◌≡◌, ◌<◌, ◌≤◌, ◌^◌, None, length, option_copied, MatchOption, vec_len, vec_capacity, nat_lt};
+ghost use Rattle.std.specs.Prelude.{◌≡◌, ◌<◌, ◌≤◌, ◌^◌, ◌==◌, ◌&&◌, None, length, option_copied, MatchOption, vec_len, vec_capacity, nat_lt};
 ghost use Rattle.std.specs.List.{position_or_len};
 ghost use Rattle.std.specs.List.Sorted.{IsNonDecreasingBy};
 ghost use Rattle.mem_partition.specs.State.{with_block, same_class, block_at, own_block, used};
-ghost use Rattle.mem_partition.specs.Own.{IsOwn};
+ghost use Rattle.mem_partition.specs.Own.{Rising, IsOwn};
 
 use crate::block::{Block, Class};
 
@@ -39,16 +39,27 @@ fn is_same(a: Class, b: Class) -> bool
     }
 }
 
+/// Whether a block is of this class and begins at an address.
+fn is_own(block: &Block, at: u32, class: Class) -> bool
+    ensures { result ≡ (block.now.addr == at && same_class block.now.class class) }
+{
+    block.addr == at && is_same(block.class, class)
+}
+
 /// The position of the block of this class that begins at an address.
 pub(crate) fn own_position(blocks: &[Block], at: u32, class: Class) -> Option<usize>
+    requires { Rising blocks.now }
     ensures { MatchOption result (own_block blocks.now at class ≡ None) (λ k. IsOwn blocks.now at class k) }
 {
-    for (position, block) in blocks.iter().enumerate() {
-        if block.addr == at && is_same(block.class, class) {
-            return Some(position);
-        }
+    let rank = rank_of(blocks, at);
+    if rank == 0 {
+        return None;
     }
-    None
+    if is_own(&blocks[rank - 1], at, class) {
+        Some(rank - 1)
+    } else {
+        None
+    }
 }
 
 /// The block that begins at an address.

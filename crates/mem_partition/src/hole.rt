@@ -1,10 +1,11 @@
 //! The holes of a pool, in order of address, as lists.
 
-ghost use Rattle.std.specs.Prelude.{◌≡◌, ◌<◌, ◌≤◌, ◌^◌, ◌+◌, ◌==◌, None, length, option_copied, nat_le, MatchOption, vec_len, vec_capacity, position};
-ghost use Rattle.std.specs.List.{find};
+ghost use Rattle.std.specs.Prelude.{◌≡◌, ◌<◌, ◌≤◌, ◌^◌, ◌+◌, ◌++◌, length, take, drop, slice_index_or, nat_le, vec_len, vec_capacity};
+ghost use Rattle.std.specs.List.{position_or_len};
+ghost use Rattle.std.specs.List.Sorted.{IsNonDecreasingBy};
 ghost use Rattle.wind_base.specs.declared.board_kind.Side.TheVariants.{Low, High};
 ghost use Rattle.mem_partition.specs.Place.{greatest_align};
-ghost use Rattle.mem_partition.specs.Holes.{nearest, in_hole, hole_on, put_gap, cut_out, reach_down, reach_up, apart_from, rank, merged};
+ghost use Rattle.mem_partition.specs.Holes.{nearest, in_hole, hole_on, put_gap, cut_out, joined, merged};
 
 use crate::gaps::{align_down, align_up};
 use wind_base::Side;
@@ -107,92 +108,77 @@ pub(crate) fn put_in(list: &mut Vec<Hole>, position: usize, lo: u32, hi: u32)
     }
 }
 
-/// The first hole that ends at or after an address.
-fn position_reaching(list: &[Hole], hi: u32) -> Option<usize>
-    ensures is { result ≡ position (λ h. nat_le hi h.end) list.now }
-    ensures within { MatchOption result (result ≡ None) (λ k. k < length list.now) }
+/// How many holes end before an address.
+fn rank_of(list: &[Hole], at: u32) -> usize
+    requires { IsNonDecreasingBy (λ h. h.end) list.now }
+    ensures value { result ≡ position_or_len (λ h. nat_le at h.end) list.now }
+    ensures within { result ≤ length list.now }
 {
-    list.iter().position(|hole| hi <= hole.end)
+    list.partition_point(|hole| hole.end < at)
 }
 
 /// Cuts the addresses from `lo` to `hi` out of the hole that contains them.
 pub(crate) fn cut(list: &mut Vec<Hole>, lo: u32, hi: u32)
+    requires order { IsNonDecreasingBy (λ h. h.end) list.old.items }
     requires room { vec_len list.old < vec_capacity list.old }
     ensures items { list.new.items ≡ cut_out lo hi list.old.items }
     ensures capacity { vec_capacity list.new ≡ vec_capacity list.old }
 {
-    let Some(position) = position_reaching(list, hi) else {
+    let position = rank_of(list, hi);
+    if position == list.len() {
         return;
-    };
+    }
     let hole = list.remove(position);
     put_in(list, position, hi, hole.end);
     put_in(list, position, hole.start, lo);
 }
 
-/// The hole that ends at an address.
-fn ending_at(list: &[Hole], lo: u32) -> Option<&Hole>
-    ensures { option_copied result ≡ find (λ h. h.end == lo) list.now }
-{
-    list.iter().find(|hole| hole.end == lo)
-}
-
-/// The hole that begins at an address.
-fn beginning_at(list: &[Hole], hi: u32) -> Option<&Hole>
-    ensures { option_copied result ≡ find (λ h. h.start == hi) list.now }
-{
-    list.iter().find(|hole| hole.start == hi)
-}
-
-/// Where the hole that ends at an address begins; the address itself if there is none.
-fn start_below(list: &[Hole], lo: u32) -> u32
-    ensures { result ≡ reach_down lo (find (λ h. h.end == lo) list.now) }
-{
-    match ending_at(list, lo) {
-        Some(hole) => hole.start,
-        None => lo,
-    }
-}
-
-/// Where the hole that begins at an address ends; the address itself if there is none.
-fn end_above(list: &[Hole], hi: u32) -> u32
-    ensures { result ≡ reach_up hi (find (λ h. h.start == hi) list.now) }
-{
-    match beginning_at(list, hi) {
-        Some(hole) => hole.end,
-        None => hi,
-    }
-}
-
-/// Drops the holes that end at `lo` or begin at `hi`.
-fn drop_touching(list: &mut Vec<Hole>, lo: u32, hi: u32)
-    ensures items { list.new.items ≡ apart_from lo hi list.old.items }
+/// Inserts the hole from `lo` to `hi` at a position, or extends the hole there down to `lo` if it
+/// begins at `hi`.
+fn put_joined(list: &mut Vec<Hole>, position: usize, lo: u32, hi: u32)
+    requires position { position ≤ length list.old.items }
+    requires room { position + length (joined lo hi (drop position list.old.items)) ≤ vec_capacity list.old }
+    ensures items { list.new.items
+        ≡ take position list.old.items ++ joined lo hi (drop position list.old.items) }
     ensures capacity { vec_capacity list.new ≡ vec_capacity list.old }
 {
-    list.retain(|hole| hole.end != lo && hole.start != hi);
+    if position < list.len() && list[position].start == hi {
+        list[position].start = lo;
+    } else {
+        let Ok(()) = list.insert(position, Hole { start: lo, end: hi }) else {
+            unreachable!()
+        };
+    }
 }
 
-/// How many holes begin at or before an address.
-fn rank_of(list: &[Hole], at: u32) -> usize
-    ensures value { result ≡ rank at list.now }
-    ensures within { result ≤ length list.now }
+/// Extends the hole at a position up to `hi`, and through the next hole if this begins at `hi`.
+fn extend_up(list: &mut Vec<Hole>, position: usize, hi: u32)
+    requires position { position < length list.old.items }
+    ensures items { (d : Hole) → list.new.items ≡ take position list.old.items
+        ++ joined (slice_index_or list.old.items position d).start hi (drop (position + 1) list.old.items) }
+    ensures capacity { vec_capacity list.new ≡ vec_capacity list.old }
 {
-    for (position, hole) in list.iter().enumerate() {
-        if at < hole.start {
-            return position;
-        }
+    let start = list[position].start;
+    let next = position + 1;
+    if next < list.len() && list[next].start == hi {
+        let end = list.remove(next).end;
+        list[position] = Hole { start, end };
+    } else {
+        list[position] = Hole { start, end: hi };
     }
-    list.len()
 }
 
 /// Inserts the hole from `lo` to `hi`, merged with the holes on both sides.
 pub(crate) fn merge(list: &mut Vec<Hole>, lo: u32, hi: u32)
-    requires room { length (apart_from lo hi list.old.items) < vec_capacity list.old }
+    requires order { IsNonDecreasingBy (λ h. h.end) list.old.items }
+    requires room { length (merged lo hi list.old.items) ≤ vec_capacity list.old }
     ensures items { list.new.items ≡ merged lo hi list.old.items }
     ensures capacity { vec_capacity list.new ≡ vec_capacity list.old }
 {
-    let from = start_below(list, lo);
-    let to = end_above(list, hi);
-    drop_touching(list, lo, hi);
-    let position = rank_of(list, from);
-    put_in(list, position, from, to);
+    let position = rank_of(list, lo);
+    if position < list.len() && list[position].end == lo {
+        extend_up(list, position, hi);
+    } else {
+        put_joined(list, position, lo, hi);
+    }
 }

@@ -1,97 +1,66 @@
--- Going along the modules by their ids, the last of a name that is met is the newest.
-use Rattle.std.proofs.Common.{◌≡◌, ℕ, zero, suc, ◌+◌, ◌<◌, ◌≤◌, Bool, true, false, cond, ltb, List, [], ◌∷◌, ◌++◌, length, map, take, get_or, Option, Some, None, inl, inr, refl, sym, ap, ◌∙◌, subst, arith}
+-- Going down the modules by their ids, the first with a name that is met is the newest.
+use Rattle.std.proofs.Common.{◌≡◌, ℕ, zero, suc, ◌<◌, Bool, true, false, cond, List, [], ◌∷◌, length, drop, get_or, Some, None, refl, sym, ap, ◌∙◌, subst, arith}
 use Rattle.std.specs.Prelude.{reverse}
-use Rattle.std.specs.List.{All, find}
-use Rattle.std.specs.Option.{option_map}
+use Rattle.std.specs.List.{find}
+use Rattle.std.specs.Option.{option_map, option_or}
 use Rattle.std.specs.Str.{bytes_eq}
-use Rattle.std.proofs.lemmas.Bool.{lt-ltb, le-ltb, cases_lt}
-use Rattle.std.proofs.lemmas.List.{take_more, get_or_default, reverse-append, get_or-map, length-map}
-use Rattle.id_table.specs.Rows.{row_id, row_object, next_above, Rises, objects}
+use Rattle.std.proofs.lemmas.List.{get_or-map, reverse-append}
+use Rattle.std.proofs.lemmas.List.Folds.{find-append}
+use Rattle.id_table.specs.Rows.{row_id, row_object, ids, objects}
 use Rattle.module_loader.specs.declared.module.LoadedModule.{LoadedModule}
-use Rattle.module_loader.specs.Modules.{HasIdent, is_named, newest_named}
+use Rattle.module_loader.specs.Modules.{is_named, newest_named}
 
--- the first i rows have ids up to last, and the next one a greater
-pub record IsCome (rows : List (ℕ × LoadedModule)) (i last : ℕ) : Type 0 where
-  pub before : (j : ℕ) (d : ℕ × LoadedModule) → j < i → (get_or rows j d).0 ≤ last
-  pub ahead : (d : ℕ × LoadedModule) → i < length rows → last < (get_or rows i d).0
+-- the newest of the later rows, or else the first row if it has the name
+newest_cons : (name : List ℕ) (r : ℕ × LoadedModule) (rs : List (ℕ × LoadedModule))
+    → newest_named (r ∷ rs) name ≡ option_or (newest_named rs name) (cond (is_named name r) (Some r.0) None)
+newest_cons name r rs =
+    ap (λ xs. option_map (λ (x : ℕ × LoadedModule). x.0) (find (is_named name) xs)) (reverse-append (r ∷ []) rs)
+    ∙ ap (option_map (λ (x : ℕ × LoadedModule). x.0)) (find-append (is_named name) (reverse rs) (r ∷ []))
+    ∙ elim (find (is_named name) (reverse rs)) as (λ o. option_map (λ (x : ℕ × LoadedModule). x.0) (option_or o (cond (is_named name r) (Some r) None)) ≡ option_or (option_map (λ (x : ℕ × LoadedModule). x.0) o) (cond (is_named name r) (Some r.0) None)) [
+      | None ↦ elim (is_named name r) as (λ t. option_map (λ (x : ℕ × LoadedModule). x.0) (cond t (Some r) None) ≡ cond t (Some r.0) None) [ true ↦ refl | false ↦ refl ]
+      | Some x ↦ refl
+    ]
 
-pub first_come : (rows : List (ℕ × LoadedModule)) → All HasIdent rows → IsCome rows 0 0
-first_come rows all = record {
-  before = λ j d h. absurd (omega arith);
-  ahead = λ d h. (all 0 d h).0;
-}
+-- no row from the place up has the name
+none_here : (rows : List (ℕ × LoadedModule)) (name : List ℕ) (n : ℕ) (d : ℕ × LoadedModule) → n < length rows
+    → newest_named (drop (suc n) rows) name ≡ None → is_named name (get_or rows n d) ≡ false → newest_named (drop n rows) name ≡ None
+none_here [] name n d less none fails = absurd (omega arith)
+none_here (r ∷ rs) name zero d less none fails =
+    newest_cons name r rs
+    ∙ ap (λ o. option_or o (cond (is_named name r) (Some r.0) None)) none
+    ∙ ap (λ t. cond t (Some r.0) None) fails
+none_here (r ∷ rs) name (suc n) d less none fails = none_here rs name n d (omega arith) none fails
 
-found_at : (n : ℕ) (rows : List (ℕ × LoadedModule)) (i : ℕ) (d : ℕ × LoadedModule) → i < length rows
-    → ((j : ℕ) → j < i → (get_or rows j d).0 ≤ n) → n < (get_or rows i d).0 → find (λ id. ltb n id) (map row_id rows) ≡ Some (get_or rows i d).0
-found_at n [] i d h low high = absurd (omega arith)
-found_at n (r ∷ rs) zero d h low high = ap (λ t. cond t (Some r.0) (find (λ id. ltb n id) (map row_id rs))) (lt-ltb n r.0 high)
-found_at n (r ∷ rs) (suc i) d h low high =
-    ap (λ t. cond t (Some r.0) (find (λ id. ltb n id) (map row_id rs))) (le-ltb n r.0 (low 0 (omega arith)))
-    ∙ found_at n rs i d (omega arith) (λ j l. low (suc j) (omega arith)) high
+-- the row at the place is the newest with the name
+found_here : (rows : List (ℕ × LoadedModule)) (name : List ℕ) (n : ℕ) (d : ℕ × LoadedModule) → n < length rows
+    → newest_named (drop (suc n) rows) name ≡ None → is_named name (get_or rows n d) ≡ true → newest_named rows name ≡ Some (get_or rows n d).0
+found_here [] name n d less none passes = absurd (omega arith)
+found_here (r ∷ rs) name zero d less none passes =
+    newest_cons name r rs
+    ∙ ap (λ o. option_or o (cond (is_named name r) (Some r.0) None)) none
+    ∙ ap (λ t. cond t (Some r.0) None) passes
+found_here (r ∷ rs) name (suc n) d less none passes =
+    newest_cons name r rs ∙ ap (λ o. option_or o (cond (is_named name r) (Some r.0) None)) (found_here rs name n d (omega arith) none passes)
 
-pub next_is : (rows : List (ℕ × LoadedModule)) (i last : ℕ) (d : ℕ × LoadedModule) → IsCome rows i last → i < length rows → next_above rows last ≡ Some (get_or rows i d).0
-next_is rows i last d come h = found_at last rows i d h (λ j l. come.before j d l) (come.ahead d h)
+-- as the code tests a row
+abbrev pub Tells : List (ℕ × LoadedModule) → List ℕ → ℕ → Bool → Type 0
+Tells rows name n t = (d : LoadedModule) → t ≡ bytes_eq (get_or (objects rows) n d).name name
 
-rises : (rows : List (ℕ × LoadedModule)) (i j : ℕ) (d : ℕ × LoadedModule) → Rises rows → i < j → j < length rows → (get_or rows i d).0 < (get_or rows j d).0
-rises rows i j d up h low =
-    let n : length (map row_id rows) ≡ length rows = length-map rows row_id in
-    let a : get_or (map row_id rows) i 0 ≡ (get_or rows i d).0 = get_or-map row_id rows i d 0 (omega arith) in
-    let b : get_or (map row_id rows) j 0 ≡ (get_or rows j d).0 = get_or-map row_id rows j d 0 low in
-    let less = up i j 0 h (omega arith) in
-    omega arith
+told : (rows : List (ℕ × LoadedModule)) (name : List ℕ) (n : ℕ) (t : Bool) (d : ℕ × LoadedModule) → n < length rows → Tells rows name n t → is_named name (get_or rows n d) ≡ t
+told rows name n t d less tells =
+    let here = get_or rows n d in
+    sym (tells here.1 ∙ ap (λ (m : LoadedModule). bytes_eq m.name name) (get_or-map row_object rows n d here.1 less))
 
-come_on : (rows : List (ℕ × LoadedModule)) (i last : ℕ) (d : ℕ × LoadedModule) → Rises rows → IsCome rows i last → i < length rows → IsCome rows (i + 1) (get_or rows i d).0
-come_on rows i last d up come h = record {
-  before = λ j e l. (
-      let far = come.ahead d h in
-      let q : get_or rows i e ≡ get_or rows i d = get_or_default rows i e d h in
-      let f : (get_or rows i e).0 ≡ (get_or rows i d).0 = ap (λ r. r.0) q in
-      elim (cases_lt j i) [
-        | inl less ↦ (let b = come.before j e less in omega arith)
-        | inr more ↦ (let is : j ≡ i = omega arith in let g : (get_or rows j e).0 ≡ (get_or rows i e).0 = ap (λ k. (get_or rows k e).0) is in omega arith)
-      ]);
-  ahead = λ e l. (
-      let q : get_or rows i e ≡ get_or rows i d = get_or_default rows i e d h in
-      let f : (get_or rows i e).0 ≡ (get_or rows i d).0 = ap (λ r. r.0) q in
-      let up_one = rises rows i (i + 1) e up (omega arith) l in
-      omega arith);
-}
-
-newest_more : (name : List ℕ) (rows : List (ℕ × LoadedModule)) (r : ℕ × LoadedModule)
-    → newest_named (rows ++ r ∷ []) name ≡ cond (is_named name r) (Some r.0) (newest_named rows name)
-newest_more name rows r =
-    ap (λ rs. option_map (λ x. x.0) (find (is_named name) rs)) (reverse-append rows (r ∷ []))
-    ∙ elim (is_named name r) as (λ t. option_map (λ (x : ℕ × LoadedModule). x.0) (cond t (Some r) (find (is_named name) (reverse rows))) ≡ cond t (Some r.0) (newest_named rows name)) [ true ↦ refl | false ↦ refl ]
-
-same_some : {a b : ℕ} → Some a ≡ Some b → a ≡ b
-same_some e = cc
-
--- the invariant of the loop
-pub record IsNewest (rows : List (ℕ × LoadedModule)) (name : List ℕ) (i last : ℕ) (newest : Option ℕ) : Type 0 where
-  pub come : IsCome rows i last
-  pub found : newest ≡ newest_named (take i rows) name
-
-pub one_more : (rows : List (ℕ × LoadedModule)) (name : List ℕ) (i last id : ℕ) (newest : Option ℕ) (takes : Bool) → Rises rows → i < length rows → IsNewest rows name i last newest
-    → next_above rows last ≡ Some id → ((d : LoadedModule) → takes ≡ bytes_eq (get_or (objects rows) i d).name name) → (d : ℕ × LoadedModule)
-    → IsNewest rows name (i + 1) id (cond takes (Some id) newest)
-one_more rows name i last id newest takes up h k next named d =
-    let here = get_or rows i d in
-    let is : id ≡ here.0 = same_some (sym next ∙ next_is rows i last d k.come h) in
-    let obj : get_or (objects rows) i here.1 ≡ here.1 = get_or-map row_object rows i d here.1 h in
-    let test : takes ≡ is_named name here = named here.1 ∙ ap (λ (m : LoadedModule). bytes_eq m.name name) obj in
-    record {
-      come = subst (λ n. IsCome rows (i + 1) n) (sym is) (come_on rows i last d up k.come h);
-      found =
-          ap (λ t. cond t (Some id) newest) test
-          ∙ ap (λ n. cond (is_named name here) (Some n) newest) is
-          ∙ ap (λ o. cond (is_named name here) (Some here.0) o) k.found
-          ∙ sym (newest_more name (take i rows) here)
-          ∙ sym (ap (λ rs. newest_named rs name) (take_more rows i d h));
-    }
-
-abbrev pub no_row : ℕ × LoadedModule
+abbrev no_row : ℕ × LoadedModule
 no_row = (0, record { name = []; segments = [] })
 
--- there is a next row as long as not all are met
-pub not_past : (rows : List (ℕ × LoadedModule)) (i last : ℕ) → IsCome rows i last → i < length rows → next_above rows last ≡ None → ⊥
-not_past rows i last come h none = let some = next_is rows i last no_row come h in cc
+pub none_down : (rows : List (ℕ × LoadedModule)) (name : List ℕ) (i n : ℕ) (t : Bool) → i ≡ suc n → n < length rows → newest_named (drop i rows) name ≡ None
+    → Tells rows name n t → t ≡ false → newest_named (drop n rows) name ≡ None
+none_down rows name i n t next less none tells fails =
+    none_here rows name n no_row less (subst (λ j. newest_named (drop j rows) name ≡ None) next none) (told rows name n t no_row less tells ∙ fails)
+
+pub found_down : (rows : List (ℕ × LoadedModule)) (name : List ℕ) (i n id : ℕ) (t : Bool) → i ≡ suc n → n < length rows → newest_named (drop i rows) name ≡ None
+    → Tells rows name n t → t ≡ true → id ≡ get_or (ids rows) n id → Some id ≡ newest_named rows name
+found_down rows name i n id t next less none tells passes is =
+    ap Some (is ∙ get_or-map row_id rows n no_row id less)
+    ∙ sym (found_here rows name n no_row less (subst (λ j. newest_named (drop j rows) name ≡ None) next none) (told rows name n t no_row less tells ∙ passes))

@@ -1,9 +1,9 @@
 //! The newest module with a name.
 
-ghost use Rattle.std.specs.Prelude.{◌≡◌, ◌<◌, Some, All, length, slice_index_or, if◌then◌else◌};
+ghost use Rattle.std.specs.Prelude.{◌≡◌, ◌<◌, length, slice_index_or};
 ghost use Rattle.std.specs.Str.{bytes_eq};
 ghost use Rattle.id_table.specs.Rows.{objects};
-ghost use Rattle.module_loader.specs.Modules.{HasIdent, newest_named};
+ghost use Rattle.module_loader.specs.Modules.{newest_named};
 
 use crate::module::LoadedModule;
 use id_table::{Ident, Table};
@@ -16,27 +16,14 @@ fn has_name(table: &Table<LoadedModule>, place: usize, name: &[u8]) -> bool
     table.value_at(place).name.bytes() == name
 }
 
-/// The id if it is chosen, else the one before.
-fn chosen(takes: bool, id: Ident, before: Option<Ident>) -> Option<Ident>
-    ensures { result ≡ (if takes then Some id else before) }
-{
-    if takes { Some(id) } else { before }
-}
-
 /// The id of the newest module with a name; ids rise along the table.
-#[tactic(auto, using(crate::proofs::Newest::next_is))]
 pub(crate) fn newest_in(table: &Table<LoadedModule>, name: &[u8]) -> Option<Ident>
-    requires { All HasIdent table.now.rows }
     ensures { result ≡ newest_named table.now.rows name.now }
 {
-    let mut newest = None;
-    let mut last = 0;
-    for place in 0..table.len() {
-        let Some(id) = table.next_after(last) else {
-            unreachable!()
-        };
-        newest = chosen(has_name(table, place, name), id, newest);
-        last = id.get();
+    for place in (0..table.len()).rev() {
+        if has_name(table, place, name) {
+            return Some(table.id_at(place));
+        }
     }
-    newest
+    None
 }

@@ -2,7 +2,7 @@
 use Rattle.std.proofs.Common.{◌≡◌, ℕ, zero, suc, ◌+◌, ◌-◌, ◌%◌, ◌<◌, ◌≤◌, Bool, true, false, cond, eqb, not, ◌||◌, List, [], ◌∷◌, ◌++◌, length, map, take, get_or, set, Some, refl, sym, ap, ap₂, ◌∙◌, subst, inl, inr, arith}
 use Rattle.std.specs.Prelude.{replicate}
 use Rattle.std.proofs.lemmas.Bool.{eq-eqb, ne_eqb, eqb-true, and_parts, cases_eq}
-use Rattle.std.proofs.lemmas.List.{take_more, take_all, length-append, length-set, length-map, length-take-le, map-append, get_or-map, get_or-set_same, get_or-set_other, get_or_append_left, get_or_push, length-replicate}
+use Rattle.std.proofs.lemmas.List.{take_more, take_all, length-append, length-set, length-map, length-take-le, map-append, get_or-map, get_or-set_same, get_or-set_other, get_or_append_left, get_or_push, get_or-take, length-replicate}
 use Rattle.std.proofs.lemmas.Grind.{get_or_default_zero}
 use Rattle.std.proofs.lemmas.Nat.{mod_below}
 use Rattle.std.proofs.lemmas.Slice.Eq.{bytes_eq-Decides}
@@ -92,6 +92,65 @@ pub pushed : (of : ℕ → Symbol → ℕ) (list more : List Symbol) (x : Symbol
 pushed of list more x s new g k is below longer before heads =
     let same : length s.heads ≡ length new.heads = sym (ap (λ (xs : List ℕ). length xs) heads ∙ length-set s.heads g (length s.before + 1)) in
     subst (λ n. AreChained (map (of n) more) new) same (chained_push (of (length s.heads)) list more x s new g k is below longer before heads)
+
+-- ---- one entry less
+
+chained_less : (hs : List ℕ) (s new : LinksState) (g : ℕ) → AreChained (hs ++ g ∷ []) s → g < length s.heads
+    → new.before ≡ take (length s.before - 1) s.before → new.heads ≡ set s.heads g (get_or s.before (length s.before - 1) 0) → AreChained hs new
+chained_less hs s new g k below before heads =
+    let n = length hs in
+    let more = hs ++ g ∷ [] in
+    let links = k.links in
+    let some = k.some in
+    let size : length more ≡ suc n = length-append hs (g ∷ []) ∙ omega arith in
+    let last : length s.before - 1 ≡ n = omega arith in
+    let front : length (take (length s.before - 1) s.before) ≡ length s.before - 1 = length-take-le (length s.before - 1) s.before (omega arith) in
+    let same_before = ap (λ (xs : List ℕ). length xs) before in
+    let many = ap (λ (xs : List ℕ). length xs) heads ∙ length-set s.heads g (get_or s.before (length s.before - 1) 0) in
+    let older : get_or s.before (length s.before - 1) 0 ≡ newest_link hs n g =
+    ap (λ m. get_or s.before m 0) last
+    ∙ k.each n (omega arith)
+    ∙ ap (newest_link more n) (get_or_push hs g 0 n refl)
+    ∙ link_append hs (g ∷ []) n g (omega arith) in
+    record {
+      links = omega arith;
+      some = omega arith;
+      each = λ i p.
+          ap (λ (xs : List ℕ). get_or xs i 0) before
+          ∙ get_or-take (length s.before - 1) s.before i 0 (omega arith)
+          ∙ k.each i (omega arith)
+          ∙ link_append hs (g ∷ []) i (get_or more i 0) (omega arith)
+          ∙ ap (newest_link hs i) (get_or_append_left hs (g ∷ []) 0 i (omega arith));
+      first = λ h p.
+          ap (λ (xs : List ℕ). get_or xs h 0) heads
+          ∙ elim (cases_eq g h) [
+            | inl is ↦
+                ap (λ x. get_or (set s.heads g (get_or s.before (length s.before - 1) 0)) x 0) (sym is)
+                ∙ get_or-set_same s.heads g (get_or s.before (length s.before - 1) 0) 0 below
+                ∙ older
+                ∙ ap (newest_link hs n) is
+            | inr other ↦
+                get_or-set_other s.heads g h (get_or s.before (length s.before - 1) 0) 0 (λ q. other (sym q))
+                ∙ k.first h (omega arith)
+                ∙ ap (λ m. newest_link more m h) size
+                ∙ link_push hs g h
+                ∙ ap (λ t. cond t (suc n) (newest_link hs n h)) (ne_eqb g h other)
+          ];
+    }
+
+-- the last of the first entries is taken out of its chain
+pub popped : (of : ℕ → Symbol → ℕ) (list : List Symbol) (i n : ℕ) (x : Symbol) (s new : LinksState) (g : ℕ) → i ≡ suc n → n < length list
+    → AreChained (map (of (length s.heads)) (take i list)) s → g ≡ of (length s.heads) (get_or list n x) → g < length s.heads
+    → new.before ≡ take (length s.before - 1) s.before → new.heads ≡ set s.heads g (get_or s.before (length s.before - 1) 0)
+    → AreChained (map (of (length new.heads)) (take n list)) new
+popped of list i n x s new g next less k is below before heads =
+    let hash = of (length s.heads) in
+    let next_one : i ≡ n + 1 = omega arith in
+    let whole : map hash (take i list) ≡ map hash (take n list) ++ g ∷ [] =
+    ap (λ m. map hash (take m list)) next_one ∙ ap (map hash) (take_more list n x less) ∙ map-append hash (take n list) (get_or list n x ∷ []) ∙ ap (λ y. map hash (take n list) ++ y ∷ []) (sym is) in
+    let same : length s.heads ≡ length new.heads = sym (ap (λ (xs : List ℕ). length xs) heads ∙ length-set s.heads g (get_or s.before (length s.before - 1) 0)) in
+    subst (λ m. AreChained (map (of m) (take n list)) new) same
+    (chained_less (map hash (take n list)) s new g (subst (λ (hs : List ℕ). AreChained hs s) whole k) below before heads)
 
 get_or-same : (n i z : ℕ) → get_or (replicate n z) i z ≡ z
 get_or-same zero i z = refl

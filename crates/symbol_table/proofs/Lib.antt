@@ -1,3 +1,4 @@
 pub mod Finding
 mod Removing
 mod Chaining
+mod Running

@@ -1,15 +1,17 @@
 //! The symbols in order of adding, and their chains.
 
-ghost use Rattle.std.specs.Prelude.{◌≡◌, ◌<◌, ◌≤◌, ◌-◌, ◌+◌, ◌↔◌, [], length, IfOk, OnOk, Err, option_copied, vec_capacity};
+ghost use Rattle.std.specs.Prelude.{◌≡◌, ◌<◌, ◌≤◌, ◌-◌, ◌+◌, ◌↔◌, [], length, take, IfOk, OnOk, Err, option_copied, vec_capacity};
 ghost use Rattle.wind_base.specs.Limits.{most_symbols};
 ghost use Rattle.symbol_table.specs.Newest.{newest, find_by_value};
 ghost use Rattle.std.specs.List.{All};
 ghost use Rattle.symbol_table.specs.State.{IsNamed, added, without_group, count_of};
 ghost use Rattle.symbol_table.specs.Chains.{AreChains, is_sought, table_of};
+ghost use Rattle.symbol_table.specs.Runs.{HasNone};
 ghost use Rattle.symbol_table.specs.declared.symbol.SymErr.TheVariants as errors;
 
 use crate::links::{Key, Links, hash_name, hash_value};
-use crate::search::{link, newest_named, newest_valued, widen};
+use crate::runs::{add_runs, first_of};
+use crate::search::{leave_first, link_from, newest_named, newest_valued, widen};
 use crate::symbol::{SymErr, Symbol};
 use std::alloc::Global;
 use std::marker::Model;
@@ -22,14 +24,17 @@ use wind_base::limits::SYMBOLS;
 #[derive(Drop)]
 pub struct Chains {
     list: Vec<Symbol>,
+    // for each symbol, a position from which on all symbols up to it have its group
+    runs: Vec<u32>,
     spare: u32,
     names: Links,
     values: Links,
 }
 
 impl Model for Chains {
-    ghost use Rattle.std.specs.Prelude.{◌≤◌, ◌+◌, length, vec_capacity};
+    ghost use Rattle.std.specs.Prelude.{◌≡◌, ◌≤◌, ◌+◌, length, vec_capacity};
     ghost use Rattle.symbol_table.specs.Chains.{ChainsState, AreChains, state_of};
+    ghost use Rattle.symbol_table.specs.Runs.{AreRuns};
 
     ghost Value = { ChainsState };
 
@@ -48,7 +53,10 @@ impl Model for Chains {
           spare = t.spare;
           names = state_of t.names;
           values = state_of t.values;
-        }) };
+        })
+        × (length t.list.items + t.spare ≤ vec_capacity t.runs)
+        × (length t.runs.items ≡ length t.list.items)
+        × AreRuns t.list.items t.runs.items };
 }
 
 impl Chains {
@@ -60,6 +68,7 @@ impl Chains {
         let values = Links::new(alloc)?;
         Ok(Chains {
             list: Vec::new(alloc),
+            runs: Vec::new(alloc),
             spare: 0,
             names,
             values,
@@ -90,6 +99,9 @@ impl Chains {
         let Ok(()) = self.list.reserve(n as usize) else {
             return Err(SymErr::NoMemory);
         };
+        let Ok(()) = self.runs.reserve(n as usize) else {
+            return Err(SymErr::NoMemory);
+        };
         let Ok(()) = self.names.reserve(n) else {
             return Err(SymErr::NoMemory);
         };
@@ -118,6 +130,7 @@ impl Chains {
         self.names.add(name);
         self.values.add(value);
         self.list.push_reserved(symbol);
+        add_runs(&self.list, &mut self.runs);
         self.spare -= 1;
     }
 
@@ -142,18 +155,35 @@ impl Chains {
         ensures spare { self.new.spare ≡ self.old.spare }
     {
         let before = self.list.len();
-        drop_group(&mut self.list, group);
-        link(Key::Name, &self.list, &mut self.names);
-        link(Key::Value, &self.list, &mut self.values);
+        let first = first_of(&self.list, &self.runs, group);
+        leave_first(Key::Name, &self.list, &mut self.names, first);
+        leave_first(Key::Value, &self.list, &mut self.values, first);
+        drop_group(&mut self.list, first, group);
+        self.runs.truncate(first);
+        add_runs(&self.list, &mut self.runs);
+        link_from(Key::Name, &self.list, &mut self.names, first);
+        link_from(Key::Value, &self.list, &mut self.values, first);
         (before - self.list.len()) as u32
     }
 }
 
-fn drop_group(list: &mut Vec<Symbol>, group: u32)
+/// Removes the symbols of a group, all of which are at position `first` or after it.
+fn drop_group(list: &mut Vec<Symbol>, first: usize, group: u32)
+    requires within { first ≤ length list.old.items }
+    requires none { HasNone group list.old.items 0 first }
     ensures items { list.new.items ≡ without_group group list.old.items }
+    ensures before { take first list.new.items ≡ take first list.old.items }
+    ensures within { first ≤ length list.new.items }
     ensures capacity { vec_capacity list.new ≡ vec_capacity list.old }
     ensures counted { length list.new.items + count_of group list.old.items ≡ length list.old.items }
     ensures named { All IsNamed list.old.items → All IsNamed list.new.items }
 {
-    list.retain(|symbol| symbol.group != group);
+    let mut kept = first;
+    for i in first..list.len() {
+        if list[i].group != group {
+            list.swap(kept, i);
+            kept += 1;
+        }
+    }
+    list.truncate(kept);
 }

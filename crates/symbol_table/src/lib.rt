@@ -4,6 +4,7 @@
 mod chains;
 mod laws;
 mod links;
+mod runs;
 mod search;
 mod symbol;
 mod table;

@@ -1,6 +1,6 @@
 //! Links between entries with the same hash.
 
-ghost use Rattle.std.specs.Prelude.{◌≡◌, ◌<◌, ◌≤◌, ◌+◌, ◌%◌, ◌++◌, ◌∷◌, [], length, replicate, IfOk, IsOk, OnOk, OnErr, slice_index, slice_set, vec_len, vec_capacity};
+ghost use Rattle.std.specs.Prelude.{◌≡◌, ◌<◌, ◌≤◌, ◌+◌, ◌-◌, ◌%◌, ◌++◌, ◌∷◌, [], length, take, replicate, IfOk, IsOk, OnOk, OnErr, slice_index, slice_set, vec_len, vec_capacity};
 ghost use Rattle.wind_base.specs.Limits.{most_symbols};
 ghost use Rattle.symbol_table.specs.Chains.{most_hashes, fewest_heads, name_hash, value_hash};
 
@@ -126,6 +126,22 @@ impl Links {
         let chain = hash as usize % self.heads.len();
         self.before.push_reserved(self.heads[chain]);
         self.heads[chain] = self.before.len() as u32;
+    }
+
+    /// Removes the newest entry, which has this hash.
+    pub(crate) fn remove_newest(&mut self, hash: u32)
+        requires some { 0 < length self.old.heads.items }
+        requires entries { 0 < length self.old.before.items }
+        ensures before { self.new.before.items ≡ take (length self.old.before.items - 1) self.old.before.items }
+        ensures heads { self.new.heads.items ≡ slice_set self.old.heads.items
+            (hash % length self.old.heads.items) (slice_index self.old.before.items (length self.old.before.items - 1)) }
+        ensures capacity { vec_capacity self.new.before ≡ vec_capacity self.old.before }
+    {
+        let chain = hash as usize % self.heads.len();
+        let Some(older) = self.before.pop() else {
+            unreachable!()
+        };
+        self.heads[chain] = older;
     }
 
     /// Removes all entries.

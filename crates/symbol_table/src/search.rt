@@ -1,6 +1,6 @@
 //! Look-ups along the chains of a list of symbols.
 
-ghost use Rattle.std.specs.Prelude.{◌≡◌, ◌≤◌, ◌<◌, length, option_copied, vec_capacity, OnOk};
+ghost use Rattle.std.specs.Prelude.{◌≡◌, ◌≤◌, ◌<◌, length, take, option_copied, vec_capacity, OnOk};
 ghost use Rattle.wind_base.specs.Limits.{most_symbols};
 ghost use Rattle.symbol_table.specs.Newest.{newest, has_value};
 ghost use Rattle.symbol_table.specs.Chains.{most_hashes, hash_by as hash_by_lem, AreLinked, AreNamed, AreValued, is_sought, state_of};
@@ -62,6 +62,21 @@ fn hash_by(key: Key, symbol: &Symbol) -> u32
     }
 }
 
+/// Links the symbols from position `n` on into chains by name, or by value; those before it are.
+pub(crate) fn link_from(key: Key, list: &[Symbol], links: &mut Links, n: usize)
+    requires within { n ≤ length list.now }
+    requires few { length list.now ≤ most_symbols }
+    requires room { length list.now ≤ vec_capacity links.old.before }
+    requires chained { AreLinked key (take n list.now) (state_of links.old) }
+    ensures chained { AreLinked key list.now (state_of links.new) }
+    ensures heads { length links.new.heads.items ≡ length links.old.heads.items }
+    ensures capacity { vec_capacity links.new.before ≡ vec_capacity links.old.before }
+{
+    for i in n..list.len() {
+        links.add(hash_by(key, &list[i]));
+    }
+}
+
 /// Links the symbols into chains by name, or by value.
 pub(crate) fn link(key: Key, list: &[Symbol], links: &mut Links)
     requires some { 0 < length links.old.heads.items }
@@ -72,8 +87,37 @@ pub(crate) fn link(key: Key, list: &[Symbol], links: &mut Links)
     ensures capacity { vec_capacity links.new.before ≡ vec_capacity links.old.before }
 {
     links.clear();
-    for symbol in list {
-        links.add(hash_by(key, symbol));
+    link_from(key, list, links, 0);
+}
+
+/// Takes the symbols from position `n` on out of their chains by name, or by value.
+fn unlink_from(key: Key, list: &[Symbol], links: &mut Links, n: usize)
+    requires within { n ≤ length list.now }
+    requires chained { AreLinked key list.now (state_of links.old) }
+    ensures chained { AreLinked key (take n list.now) (state_of links.new) }
+    ensures heads { length links.new.heads.items ≡ length links.old.heads.items }
+    ensures capacity { vec_capacity links.new.before ≡ vec_capacity links.old.before }
+{
+    for i in (n..list.len()).rev() {
+        links.remove_newest(hash_by(key, &list[i]));
+    }
+}
+
+/// Leaves only the symbols before position `n` in their chains by name, or by value. It hashes
+/// those or the others, whichever are fewer.
+pub(crate) fn leave_first(key: Key, list: &[Symbol], links: &mut Links, n: usize)
+    requires within { n ≤ length list.now }
+    requires few { length list.now ≤ most_symbols }
+    requires room { length list.now ≤ vec_capacity links.old.before }
+    requires chained { AreLinked key list.now (state_of links.old) }
+    ensures chained { AreLinked key (take n list.now) (state_of links.new) }
+    ensures heads { length links.new.heads.items ≡ length links.old.heads.items }
+    ensures capacity { vec_capacity links.new.before ≡ vec_capacity links.old.before }
+{
+    if n < list.len() / 2 {
+        link(key, &list[..n], links);
+    } else {
+        unlink_from(key, list, links, n);
     }
 }
 

@@ -1,12 +1,39 @@
-use Rattle.std.proofs.Common.{rules}
-use Rattle.std.proofs.lemmas.Fn.{filter_same}
+use Rattle.std.proofs.Common.{not, refl, ap, ◌∙◌, arith}
+use Rattle.std.proofs.lemmas.Bool.{ne_eqb, eq-eqb}
 use Rattle.std.proofs.lemmas.List.Elements.{All-filter}
+use Rattle.std.proofs.lemmas.List.Filters.{FiltersInPlace-all, FiltersInPlace-more_swap, FiltersInPlace-more_no}
 use Rattle.symbol_table.specs.State.{IsNamed}
 use Rattle.symbol_table.proofs.Removing.{counted}
+use Rattle.symbol_table.proofs.Running.{front_filtered, front_same, front_within}
+use Rattle.symbol_table.proofs.chains.drop_group.Goals.{then-index-group, else-index-group}
 use Rattle.symbol_table.proofs.chains.drop_group.Goals as goal
 
+pub loop-i-init : goal.loop-i-init
+loop-i-init c = record {
+  filtered = front_filtered c.args.group c.args.list.now.items c.args.first c.requires.within c.requires.none;
+  capacity = refl;
+}
+
+pub loop-i-preserved : goal.loop-i-preserved
+loop-i-preserved c = elim c.if-index-group.branch [
+  | then-index-group w ↦ rw (w.list-is, w.kept-is) (record {
+    filtered = FiltersInPlace-more_swap c.loop-i.invariant.filtered (omega (arith, c.loop-i-test.true)) (ap not (ne_eqb _ _ w.if-index-group.true)) c.index.ensures w.swap.ensures.by_index;
+    capacity = w.swap.ensures.capacity ∙ c.loop-i.invariant.capacity;
+  })
+  | else-index-group w ↦ rw (w.list-is, w.kept-is) (record {
+    filtered = FiltersInPlace-more_no c.loop-i.invariant.filtered (omega (arith, c.loop-i-test.true)) (ap not (eq-eqb _ _ w.if-index-group.false)) c.index.ensures;
+    capacity = c.loop-i.invariant.capacity;
+  })
+]
+
 pub returns-clause-items : goal.returns-clause-items
-returns-clause-items c = filter_same _ _ _ (λ x b f' k. search rules) _ _ c.retain.ensures.filtered
+returns-clause-items c = c.truncate.ensures.items ∙ FiltersInPlace-all c.loop-i.invariant.filtered (omega (arith, c.loop-i-test.false))
+
+pub returns-clause-before : goal.returns-clause-before
+returns-clause-before c = rw (returns-clause-items c) (front_same c.args.group c.args.list.now.items c.args.first c.requires.within c.requires.none)
+
+pub returns-clause-within : goal.returns-clause-within
+returns-clause-within c = rw (returns-clause-items c) (front_within c.args.group c.args.list.now.items c.args.first c.requires.within c.requires.none)
 
 pub returns-clause-counted : goal.returns-clause-counted
 returns-clause-counted c = rw (returns-clause-items c) (counted c.args.group c.args.list.now.items)

@@ -15,3 +15,6 @@ returns g c =
           ∙ ap (λ t. next_above t.rows c.args.id) c.self.view_is;
       rising = subst (λ t. Rises t.rows) c.self.view_is (rows_rise k.order.items k.slots c.self.invariant.1.present c.self.invariant.1.rising);
     }
+
+pub id_above-requires : goal.id_above-requires
+id_above-requires g c = rw c.deref.ensures.value c.self.invariant.1.rising

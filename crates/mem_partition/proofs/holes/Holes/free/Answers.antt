@@ -1,11 +1,13 @@
-use Rattle.std.proofs.Common.{◌≡◌, ◌+◌, get_or, None, sym, ap, ◌∙◌, arith}
+use Rattle.std.proofs.Common.{◌≡◌, get_or, None, sym, ap, ◌∙◌, arith}
 use Rattle.mem_partition.specs.declared.block.Block.{Block}
 use Rattle.mem_partition.specs.Own.{IsOwn}
 use Rattle.mem_partition.specs.State.{own_block, after_free}
 use Rattle.mem_partition.specs.Holes.{HolesState, with_holes}
 use Rattle.mem_partition.specs.contracts.holes.Holes.{the_view}
 use Rattle.mem_partition.proofs.Keeping.{place_inside, not_freed}
-use Rattle.mem_partition.proofs.Steps.{whole_is, free_holes, free_is_whole, apart_few}
+use Rattle.mem_partition.proofs.Rising.{holes_rise}
+use Rattle.mem_partition.proofs.Seeking.{laid_rising}
+use Rattle.mem_partition.proofs.Steps.{whole_is, free_holes, free_is_whole, merged_few}
 use Rattle.mem_partition.proofs.holes.Holes.free.Goals as goal
 
 pub returns-in_default-clause-after : goal.returns-in_default-clause-after
@@ -28,15 +30,22 @@ overflow_add-block c =
     let size = ap (λ (b : Block). b.size) is in
     omega arith
 
+pub own_position-requires : goal.own_position-requires
+own_position-requires c =
+    let s = the_view c.self.inside in
+    rw c.deref.ensures.value (laid_rising s.part.start s.part.end s.part.blocks c.self.invariant.2.part.laid)
+
 pub merge-requires : goal.merge-requires
 merge-requires c =
     let s = the_view c.self.inside in
     let k = c.in-Some.position in
     let own : IsOwn s.part.blocks c.args.addr c.args.class k = rw c.deref.ensures.value at c.in-Some.ensures in
-    let few = apart_few s (c.remove-block.result.addr + c.remove-block.result.size) k c.remove-block.result c.self.invariant.2 own.within c.remove-block.ensures.value in
-    let all = c.self.invariant.2.part.few in
+    let few = merged_few s k c.remove-block.result c.self.invariant.2 own.within c.remove-block.ensures.value in
     let spare = c.self.invariant.1 in
-    record { room = omega arith }
+    record {
+      order = holes_rise s c.self.invariant.2;
+      room = omega arith;
+    }
 
 pub invariant_of-self : goal.invariant_of-self
 invariant_of-self c =

@@ -5,6 +5,7 @@ use Rattle.mem_partition.specs.State.{with_block}
 use Rattle.mem_partition.specs.Holes.{HolesState, with_holes}
 use Rattle.mem_partition.specs.contracts.holes.Holes.{the_view}
 use Rattle.mem_partition.proofs.Keeping.{laid_rises}
+use Rattle.mem_partition.proofs.Rising.{holes_rise}
 use Rattle.mem_partition.proofs.Steps.{holding, whole_is, holes_few, put_holes}
 use Rattle.mem_partition.proofs.holes.Holes.put.Goals as goal
 
@@ -14,7 +15,10 @@ cut-requires c =
     let room : length s.part.blocks < s.part.room = subst (λ (x : HolesState). length x.part.blocks < x.part.room) (sym c.self.view_is) c.requires.room in
     let few = holes_few s c.self.invariant.2 in
     let spare = c.self.invariant.1 in
-    record { room = omega arith }
+    record {
+      order = holes_rise s c.self.invariant.2;
+      room = omega arith;
+    }
 
 pub put_block-requires-clause-order : goal.put_block-requires-clause-order
 put_block-requires-clause-order c =

@@ -7,7 +7,9 @@ use Rattle.std.specs.List.{All}
 use Rattle.std.proofs.lemmas.List.{length-set}
 use Rattle.std.proofs.lemmas.List.Elements.{All-push}
 use Rattle.std.proofs.lemmas.Nat.{mod_below}
+use Rattle.symbol_table.specs.Runs.{AreRuns}
 use Rattle.symbol_table.proofs.Chaining.{pushed}
+use Rattle.symbol_table.proofs.Running.{runs_longer}
 use Rattle.symbol_table.proofs.chains.Chains.add.Goals as goal
 
 pub invariant_of-self : goal.invariant_of-self
@@ -46,4 +48,11 @@ invariant_of-self c =
         by_name = omega arith;
         by_value = omega arith;
       },
+      rw c.add_runs.ensures.capacity (omega arith),
+      c.add_runs.ensures.count ∙ ap (λ (xs : List Symbol). length xs) c.deref.ensures.value,
+      subst (λ (xs : List Symbol). AreRuns xs c.add_runs.new.runs.items) c.deref.ensures.value c.add_runs.ensures.runs,
     )
+
+pub add_runs-requires-clause-runs : goal.add_runs-requires-clause-runs
+add_runs-requires-clause-runs c =
+    rw c.deref.ensures.value (runs_longer c.self.inside.list.items c.push_reserved.new.self.items c.self.inside.runs.items c.args.symbol c.self.invariant.6 c.push_reserved.ensures.items)

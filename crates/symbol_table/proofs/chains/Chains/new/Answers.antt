@@ -11,6 +11,7 @@ invariant_of-result c =
     let none : c.new-3.result.items ≡ [] = c.new-3.ensures.items in
     let names = ap (λ (xs : List ℕ). length xs) c.in_ok-names.ensures.heads ∙ length-replicate {A = ℕ} 64 0 in
     let values = ap (λ (xs : List ℕ). length xs) c.in_ok-values.ensures.heads ∙ length-replicate {A = ℕ} 64 0 in
+    let runs : c.new-4.result.items ≡ [] = c.new-4.ensures.items in
     rw none (
       omega arith,
       omega arith,
@@ -23,4 +24,7 @@ invariant_of-result c =
         by_name = omega arith;
         by_value = omega arith;
       },
+      omega arith,
+      ap (λ (xs : List ℕ). length xs) runs,
+      rw runs (record { within = omega arith; each = λ i h. absurd (omega arith) }),
     )
