@@ -155,8 +155,8 @@ impl Board {
         ensures within { result ≤ most }
         ensures reply { last_reply self.new ≡ None }
     {
-        if !self.known.is_of_next() {
-            self.known = Known::Nothing;
+        if !self.known.has_actor() {
+            self.known = self.known.unreplied();
             return 0;
         }
         step_law();

@@ -88,11 +88,28 @@ impl Known {
         }
     }
 
-    /// Whether it says who makes the next step.
-    pub(crate) fn is_of_next(self) -> bool
+    /// Whether it says who makes the next step, and somebody makes it.
+    #[inline(always)]
+    pub(crate) fn has_actor(self) -> bool
         ensures { result ≡ true → reply_known self ≡ None }
     {
-        matches!(self, Known::Runner(_) | Known::Routine)
+        match self {
+            Known::Runner(now) => now.who.is_some(),
+            Known::Routine => true,
+            Known::Nothing | Known::Called(_) => false,
+        }
+    }
+
+    /// The same without the reply of the step before.
+    #[inline(always)]
+    pub(crate) fn unreplied(self) -> Known
+        ensures reply { reply_known result ≡ None }
+        ensures known { (k : KernState) (level : Option Regs) → IsKnown k level self → IsKnown k level result }
+    {
+        match self {
+            Known::Called(_) => Known::Nothing,
+            Known::Nothing | Known::Runner(_) | Known::Routine => self,
+        }
     }
 
     /// The reply of the step before, if it was a kernel call.
