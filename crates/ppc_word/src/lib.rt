@@ -6,6 +6,7 @@
 ghost use Rattle.ppc_word.specs.Laws.{TableLaw};
 
 mod coding;
+mod decoded;
 mod index;
 mod insn;
 mod pattern;
@@ -16,6 +17,7 @@ mod table;
 mod word;
 
 pub use coding::{decode, encode, row_for, rule_of};
+pub use decoded::{Decoded, decode_word};
 pub use insn::Insn;
 pub use row::Row;
 pub use rule::Rule;
