@@ -1,6 +1,7 @@
 //! The board's RAM, as a list of bytes, in pages that are created at their first write.
 #![tactic(auto)]
 
+mod code;
 mod outside;
 mod pages;
 mod ram;

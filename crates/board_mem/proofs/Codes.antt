@@ -1,0 +1,178 @@
+-- Decoded words: which of them agree with their words after a write, and after a slot is given.
+use Rattle.std.proofs.Common.{◌≡◌, ◌≢◌, ℕ, zero, suc, ◌+◌, ◌-◌, ◌*◌, ◌/◌, ◌%◌, ◌<◌, ◌≤◌, ◌⊎◌, List, ◌++◌, length, replicate, get_or, set, Option, None, Some, refl, sym, ap, ◌∙◌, subst, arith, inl, inr}
+use Rattle.std.specs.Prelude.{IfSome}
+use Rattle.std.proofs.lemmas.Bool.{cases_eq, cases_lt}
+use Rattle.std.proofs.lemmas.List.{get_or-set_same, get_or-set_other, get_or-append_right, length-set}
+use Rattle.ppc_word.specs.declared.decoded.Decoded.{Decoded}
+use Rattle.board_mem.specs.Memory.{read}
+use Rattle.board_mem.specs.Pages.{page_of, page_bytes}
+use Rattle.board_mem.specs.Code.{page_words, most_code_slots, Agrees, AreDecoded, AreSlots, IsFree, IsGiven, SameElsewhere}
+
+-- an entry that stays agrees with a word that stays
+pub agrees_still : (entry now : Option Decoded) (before after : List ℕ) (at : ℕ) → now ≡ entry → read 4 after at ≡ read 4 before at → Agrees entry before at → Agrees now after at
+agrees_still None now before after at e same a = subst (λ x. Agrees x after at) (sym e) tt
+agrees_still (Some d) now before after at e same a = subst (λ x. Agrees x after at) (sym e) (same ∙ a)
+
+-- an empty entry agrees with any word
+pub agrees_empty : (now : Option Decoded) (bytes : List ℕ) (at : ℕ) → now ≡ None → Agrees now bytes at
+agrees_empty now bytes at e = subst (λ x. Agrees x bytes at) (sym e) tt
+
+-- the page of an address has no slot, so the words that are decoded are elsewhere
+pub decoded_elsewhere : (slots : List ℕ) (entries : List (Option Decoded)) (before after : List ℕ) (at n : ℕ) → at % page_bytes + n ≤ page_bytes → get_or slots (page_of at) 0 ≡ 0
+    → SameElsewhere before after at n → AreDecoded slots entries before → AreDecoded slots entries after
+decoded_elsewhere slots entries before after at n page none same decoded = λ p slot k e h.
+    let other : p ≢ page_of at = λ i. absurd (omega (arith, sym e ∙ ap (λ q. get_or slots q 0) i ∙ none)) in
+    let away : (page_bytes * p + 4 * k + 4 ≤ at) ⊎ (at + n ≤ page_bytes * p + 4 * k) = elim (cases_lt p (page_of at)) [ inl l ↦ inl (omega arith) | inr g ↦ inr (omega arith) ] in
+    agrees_still _ _ before after (page_bytes * p + 4 * k) refl (same (page_bytes * p + 4 * k) away) (decoded p slot k e h)
+
+-- a word whose entry is before or after the entries of a range in one page is not in the range
+away : (slots : List ℕ) (at n place first last page slot k : ℕ) → 0 < n → at % page_bytes + n ≤ page_bytes
+    → get_or slots (page_of at) 0 ≡ place + 1 → get_or slots page 0 ≡ slot + 1 → k < page_words
+    → first ≡ page_words * place + at % page_bytes / 4 → last ≡ page_words * place + (at % page_bytes + n - 1) / 4
+    → (page_words * slot + k < first) ⊎ (last + 1 ≤ page_words * slot + k)
+    → (page_bytes * page + 4 * k + 4 ≤ at) ⊎ (at + n ≤ page_bytes * page + 4 * k)
+away slots at n place first last page slot k some whole here there h is_first is_last out = elim (cases_eq page (page_of at)) [
+  | inl e ↦
+      let same : slot ≡ place = omega (arith, sym there ∙ ap (λ q. get_or slots q 0) e ∙ here) in
+      elim out [ inl below ↦ inl (omega arith) | inr above ↦ inr (omega arith) ]
+  | inr other ↦ elim (cases_lt page (page_of at)) [ inl l ↦ inl (omega arith) | inr g ↦ inr (omega arith) ]
+]
+
+-- the entries of the words that a range in one page meets are emptied
+pub decoded_dropped : (slots : List ℕ) (entries emptied : List (Option Decoded)) (before after : List ℕ) (at n place first last : ℕ) → 0 < n → at % page_bytes + n ≤ page_bytes
+    → get_or slots (page_of at) 0 ≡ place + 1 → first ≡ page_words * place + at % page_bytes / 4 → last ≡ page_words * place + (at % page_bytes + n - 1) / 4
+    → ((i : ℕ) → first ≤ i → i < last + 1 → get_or emptied i None ≡ None) → ((i : ℕ) → (i < first) ⊎ (last + 1 ≤ i) → get_or emptied i None ≡ get_or entries i None)
+    → SameElsewhere before after at n → AreDecoded slots entries before → AreDecoded slots emptied after
+decoded_dropped slots entries emptied before after at n place first last some page here is_first is_last gone stay same decoded = λ p slot k e h.
+    let i = page_words * slot + k in
+    let word = page_bytes * p + 4 * k in
+    let was = decoded p slot k e h in
+    let by_place = away slots at n place first last p slot k some page here e h is_first is_last in
+    let kept = λ (out : (i < first) ⊎ (last + 1 ≤ i)). agrees_still _ _ before after word (stay i out) (same word (by_place out)) was in
+    elim (cases_lt i first) as (λ _. Agrees (get_or emptied i None) after word) [
+      | inl below ↦ kept (inl below)
+      | inr from ↦ elim (cases_lt i (last + 1)) as (λ _. Agrees (get_or emptied i None) after word) [
+        | inl within ↦ agrees_empty _ after word (gone i from within)
+        | inr above ↦ kept (inr above)
+      ]
+    ]
+
+-- ---- slots
+-- a page is given a free slot
+pub decoded_given : (slots : List ℕ) (entries : List (Option Decoded)) (bytes : List ℕ) (page slot : ℕ) → page < length slots
+    → ((k : ℕ) → k < page_words → get_or entries (page_words * slot + k) None ≡ None) → AreDecoded slots entries bytes → AreDecoded (set slots page (slot + 1)) entries bytes
+decoded_given slots entries bytes page slot there empty decoded = λ p s k e h. elim (cases_eq p page) [
+  | inl i ↦
+      let number : slot + 1 ≡ s + 1 = sym (get_or-set_same slots page (slot + 1) 0 there) ∙ ap (λ q. get_or (set slots page (slot + 1)) q 0) (sym i) ∙ e in
+      let same : s ≡ slot = omega arith in
+      agrees_empty (get_or entries (page_words * s + k) None) bytes (page_bytes * p + 4 * k) (ap (λ x. get_or entries (page_words * x + k) None) same ∙ empty k h)
+  | inr other ↦ decoded p s k (sym (get_or-set_other slots page p (slot + 1) 0 other) ∙ e) h
+]
+
+pub slots_given : (slots owners : List ℕ) (entries : List (Option Decoded)) (used oldest capacity page slot : ℕ) → page < length slots → slot < used
+    → ((q : ℕ) → get_or slots q 0 ≢ slot + 1) → AreSlots slots owners entries used oldest capacity → AreSlots (set slots page (slot + 1)) (set owners slot page) entries used oldest capacity
+slots_given slots owners entries used oldest capacity page slot there within unowned a = record {
+  owned = λ p s e. elim (cases_eq p page) [
+    | inl i ↦
+        let number : slot + 1 ≡ s + 1 = sym (get_or-set_same slots page (slot + 1) 0 there) ∙ ap (λ q. get_or (set slots page (slot + 1)) q 0) (sym i) ∙ e in
+        let same : s ≡ slot = omega arith in
+        (omega arith, ap (λ x. get_or (set owners slot page) x 0) same ∙ get_or-set_same owners slot page 0 (omega (arith, a.pages, a.few)) ∙ sym i)
+    | inr other ↦
+        let was = sym (get_or-set_other slots page p (slot + 1) 0 other) ∙ e in
+        let apart : s ≢ slot = λ i. unowned p (was ∙ ap (λ x. x + 1) i) in
+        ((a.owned p s was).0, get_or-set_other owners slot s page 0 apart ∙ (a.owned p s was).1)
+  ];
+  pages = length-set owners slot page ∙ a.pages;
+  exact = a.exact;
+  few = a.few;
+  next = a.next;
+  room = a.room;
+}
+
+pub is_given : (slots now : List ℕ) (entries : List (Option Decoded)) (used page slot : ℕ) → page < length now → IsFree slots now entries used slot → IsGiven slots (set now page (slot + 1)) page slot
+is_given slots now entries used page slot there f = record {
+  size = length-set now page (slot + 1) ∙ f.size;
+  given = get_or-set_same now page (slot + 1) 0 there;
+  others = λ q other. elim (f.others q) [
+    | inl none ↦ inl (get_or-set_other now page q (slot + 1) 0 other ∙ none)
+    | inr same ↦ inr (get_or-set_other now page q (slot + 1) 0 other ∙ same)
+  ];
+}
+
+-- an entry is kept
+pub decoded_kept : (slots owners : List ℕ) (entries : List (Option Decoded)) (used oldest capacity page slot k : ℕ) (d : Decoded) (bytes : List ℕ) → AreSlots slots owners entries used oldest capacity
+    → get_or slots page 0 ≡ slot + 1 → k < page_words → Agrees (Some d) bytes (page_bytes * page + 4 * k) → AreDecoded slots entries bytes
+    → AreDecoded slots (set entries (slot * page_words + k) (Some d)) bytes
+decoded_kept slots owners entries used oldest capacity page slot k d bytes a given word agrees decoded = λ p s j e h.
+    let own = a.owned page slot given in
+    let i = slot * page_words + k in
+    let at : i < length entries = omega (arith, a.exact, own.0) in
+    elim (cases_eq (page_words * s + j) i) as (λ _. Agrees (get_or (set entries i (Some d)) (page_words * s + j) None) bytes (page_bytes * p + 4 * j)) [
+      | inl same ↦
+          let slot_same : s ≡ slot = omega arith in
+          let word_same : j ≡ k = omega arith in
+          let page_same : p ≡ page = sym (a.owned p s e).1 ∙ ap (λ x. get_or owners x 0) slot_same ∙ own.1 in
+          let entry : get_or (set entries i (Some d)) (page_words * s + j) None ≡ Some d = ap (λ x. get_or (set entries i (Some d)) x None) same ∙ get_or-set_same entries i (Some d) None at in
+          let place : page_bytes * page + 4 * k ≡ page_bytes * p + 4 * j = omega arith in
+          subst (λ x. Agrees x bytes (page_bytes * p + 4 * j)) (sym entry) (subst (λ x. Agrees (Some d) bytes x) place agrees)
+      | inr apart ↦ agrees_still _ _ bytes bytes (page_bytes * p + 4 * j) (get_or-set_other entries i (page_words * s + j) (Some d) None apart) refl (decoded p s j e h)
+    ]
+
+get_or-replicate : {A : Type 0} (x : A) (n i : ℕ) → get_or (replicate n x) i x ≡ x
+get_or-replicate x zero i = refl
+get_or-replicate x (suc n) zero = refl
+get_or-replicate x (suc n) (suc i) = get_or-replicate x n i
+
+-- entries that are added are empty
+pub empty_after : (entries after : List (Option Decoded)) (used k : ℕ) (i : ℕ) → after ≡ entries ++ replicate page_words None → length entries ≡ page_words * used → i ≡ page_words * used + k → get_or after i None ≡ None
+empty_after entries after used k i is size place =
+    ap (λ xs. get_or xs i None) is ∙ get_or-append_right entries (replicate page_words None) (page_words * used) i None size (omega arith) ∙ get_or-replicate None page_words (i - page_words * used)
+
+-- the oldest slot is taken from its page, and its entries are emptied
+pub record IsFreeing (slots freed owners : List ℕ) (entries emptied : List (Option Decoded)) (used oldest capacity owner : ℕ) : Type 0 where
+  pub before : AreSlots slots owners entries used oldest capacity
+  pub all : used ≡ most_code_slots
+  pub owner_is : owner ≡ get_or owners oldest 0
+  pub size : length freed ≡ length slots
+  pub taken : get_or freed owner 0 ≡ 0
+  pub others : (page : ℕ) → page ≢ owner → get_or freed page 0 ≡ get_or slots page 0
+  pub same_size : length emptied ≡ length entries
+  pub gone : (i : ℕ) → page_words * oldest ≤ i → i < page_words * oldest + page_words → get_or emptied i None ≡ None
+  pub stay : (i : ℕ) → (i < page_words * oldest) ⊎ (page_words * oldest + page_words ≤ i) → get_or emptied i None ≡ get_or entries i None
+
+-- a page that still has a slot had it, and it is another one
+still : {slots freed owners : List ℕ} {entries emptied : List (Option Decoded)} {used oldest capacity owner : ℕ} → IsFreeing slots freed owners entries emptied used oldest capacity owner
+    → (page slot : ℕ) → get_or freed page 0 ≡ slot + 1 → (get_or slots page 0 ≡ slot + 1) × (slot ≢ oldest)
+still {slots} {freed} {owners} {owner = owner} f page slot e =
+    let other : page ≢ owner = λ i. absurd (omega (arith, sym e ∙ ap (λ q. get_or freed q 0) i ∙ f.taken)) in
+    let was = sym (f.others page other) ∙ e in
+    (was, λ i. other (sym (f.before.owned page slot was).1 ∙ ap (λ s. get_or owners s 0) i ∙ sym f.owner_is))
+
+pub slots_freed : {slots freed owners : List ℕ} {entries emptied : List (Option Decoded)} {used oldest capacity owner : ℕ} → IsFreeing slots freed owners entries emptied used oldest capacity owner
+    → (next : ℕ) → next < most_code_slots → AreSlots freed owners emptied used next capacity
+slots_freed f next below = record {
+  owned = λ page slot e. f.before.owned page slot (still f page slot e).0;
+  pages = f.before.pages;
+  exact = f.same_size ∙ f.before.exact;
+  few = f.before.few;
+  next = below;
+  room = f.before.room;
+}
+
+pub is_freed : {slots freed owners : List ℕ} {entries emptied : List (Option Decoded)} {used oldest capacity owner : ℕ} → IsFreeing slots freed owners entries emptied used oldest capacity owner
+    → IsFree slots freed emptied used oldest
+is_freed {freed = freed} {oldest = oldest} {owner = owner} f = record {
+  size = f.size;
+  others = λ page. elim (cases_eq page owner) [ inl i ↦ inl (ap (λ q. get_or freed q 0) i ∙ f.taken) | inr other ↦ inr (f.others page other) ];
+  unowned = λ page e. (still f page oldest e).1 refl;
+  empty = λ k h. f.gone (page_words * oldest + k) (omega arith) (omega arith);
+  within = omega (arith, f.before.next, f.all);
+}
+
+pub decoded_freed : {slots freed owners : List ℕ} {entries emptied : List (Option Decoded)} {used oldest capacity owner : ℕ} → IsFreeing slots freed owners entries emptied used oldest capacity owner
+    → (bytes : List ℕ) → AreDecoded slots entries bytes → AreDecoded freed emptied bytes
+decoded_freed {oldest = oldest} f bytes decoded = λ page slot k e h.
+    let was = still f page slot e in
+    let other : slot ≢ oldest = was.1 in
+    let out : (page_words * slot + k < page_words * oldest) ⊎ (page_words * oldest + page_words ≤ page_words * slot + k) = elim (cases_lt slot oldest) [ inl l ↦ inl (omega arith) | inr g ↦ inr (omega arith) ] in
+    agrees_still _ _ bytes bytes (page_bytes * page + 4 * k) (f.stay (page_words * slot + k) out) refl (decoded page slot k was.0 h)
