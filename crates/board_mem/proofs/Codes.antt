@@ -1,12 +1,17 @@
 -- Decoded words: which of them agree with their words after a write, and after a slot is given.
-use Rattle.std.proofs.Common.{◌≡◌, ◌≢◌, ℕ, zero, suc, ◌+◌, ◌-◌, ◌*◌, ◌/◌, ◌%◌, ◌<◌, ◌≤◌, ◌⊎◌, List, ◌++◌, length, replicate, get_or, set, Option, None, Some, refl, sym, ap, ◌∙◌, subst, arith, inl, inr}
-use Rattle.std.specs.Prelude.{IfSome}
+use Rattle.std.proofs.Common.{◌≡◌, ◌≢◌, ℕ, zero, suc, ◌+◌, ◌-◌, ◌*◌, ◌/◌, ◌%◌, ◌<◌, ◌≤◌, ◌⊎◌, Bool, true, false, cond, List, ◌++◌, take, drop, length, replicate, get_or, set, Option, None, Some, refl, sym, ap, ap₂, ◌∙◌, subst, arith, inl, inr}
+use Rattle.std.specs.Prelude.{IfSome, nat_le, if◌then◌else◌}
+use Rattle.std.proofs.lemmas.Bool.Decides.{nat_tests}
 use Rattle.std.proofs.lemmas.Bool.{cases_eq, cases_lt}
-use Rattle.std.proofs.lemmas.List.{get_or-set_same, get_or-set_other, get_or-append_right, length-set}
+use Rattle.std.proofs.lemmas.List.{get_or-set_same, get_or-set_other, get_or-append_right, get_or-take, get_or-drop, length-set, length-take}
 use Rattle.ppc_word.specs.declared.decoded.Decoded.{Decoded}
-use Rattle.board_mem.specs.Memory.{read}
+use Rattle.byteorder.specs.Endian.{big_number}
+use Rattle.byteorder.specs.Numbers.{big_from-take}
+use Rattle.board_mem.specs.Memory.{read, number_at, bytes_at, with_bytes}
 use Rattle.board_mem.specs.Pages.{page_of, page_bytes}
-use Rattle.board_mem.specs.Code.{page_words, most_code_slots, Agrees, AreDecoded, AreSlots, IsFree, IsGiven, SameElsewhere}
+use Rattle.board_mem.proofs.Sizes.{length-with_bytes}
+use Rattle.board_mem.proofs.Splices.{bytes_at-with_below, bytes_at-with_after}
+use Rattle.board_mem.specs.Code.{page_words, most_code_slots, Agrees, AreDecoded, AreSlots, AreWords, AreWritable, IsFree, IsGiven, SameElsewhere}
 
 -- an entry that stays agrees with a word that stays
 pub agrees_still : (entry now : Option Decoded) (before after : List ℕ) (at : ℕ) → now ≡ entry → read 4 after at ≡ read 4 before at → Agrees entry before at → Agrees now after at
@@ -176,3 +181,76 @@ decoded_freed {oldest = oldest} f bytes decoded = λ page slot k e h.
     let other : slot ≢ oldest = was.1 in
     let out : (page_words * slot + k < page_words * oldest) ⊎ (page_words * oldest + page_words ≤ page_words * slot + k) = elim (cases_lt slot oldest) [ inl l ↦ inl (omega arith) | inr g ↦ inr (omega arith) ] in
     agrees_still _ _ bytes bytes (page_bytes * page + 4 * k) (f.stay (page_words * slot + k) out) refl (decoded page slot k was.0 h)
+
+-- ---- the numbers for writing
+-- a page without a slot has the number of the index again
+pub writable_renewed : (index writes slots : List ℕ) (page number : ℕ) → page < length index → get_or slots page 0 ≡ 0 → number ≡ get_or index page 0 → AreWritable index writes slots → AreWritable index (set writes page number) slots
+writable_renewed index writes slots page number there none is w = record {
+  pages = length-set writes page number ∙ w.pages;
+  slotted = w.slotted;
+  number = λ p some. elim (cases_eq p page) [
+    | inl e ↦ ap (λ q. get_or (set writes page number) q 0) e ∙ get_or-set_same writes page number 0 (omega (arith, w.pages)) ∙ is ∙ ap (λ q. get_or index q 0) (sym e)
+    | inr other ↦ let stays = get_or-set_other writes page p number 0 other in stays ∙ w.number p (omega (arith, stays))
+  ];
+  plain = λ p some. elim (cases_eq p page) [
+    | inl e ↦ ap (λ q. get_or slots q 0) e ∙ none
+    | inr other ↦ let stays = get_or-set_other writes page p number 0 other in w.plain p (omega (arith, stays))
+  ];
+}
+
+-- created pages keep their numbers
+pub writable_still : (index after writes slots : List ℕ) → length after ≡ length index → ((page : ℕ) → 0 < get_or index page 0 → get_or after page 0 ≡ get_or index page 0) → AreWritable index writes slots → AreWritable after writes slots
+writable_still index after writes slots size numbers w = record {
+  pages = w.pages ∙ sym size;
+  slotted = w.slotted ∙ sym size;
+  number = λ p some. w.number p some ∙ sym (numbers p (omega (arith, w.number p some)));
+  plain = w.plain;
+}
+
+-- a page that is given a slot has no number for writing
+pub writable_given : (index writes slots after : List ℕ) (page slot : ℕ) → page < length index → IsGiven slots after page slot → AreWritable index writes slots → AreWritable index (set writes page 0) after
+writable_given index writes slots after page slot there g w = record {
+  pages = length-set writes page 0 ∙ w.pages;
+  slotted = g.size ∙ w.slotted;
+  number = λ p some. elim (cases_eq p page) [
+    | inl e ↦ absurd (omega (arith, ap (λ q. get_or (set writes page 0) q 0) e, get_or-set_same writes page 0 0 (omega (arith, w.pages))))
+    | inr other ↦ let stays = get_or-set_other writes page p 0 0 other in stays ∙ w.number p (omega (arith, stays))
+  ];
+  plain = λ p some. elim (cases_eq p page) [
+    | inl e ↦ absurd (omega (arith, ap (λ q. get_or (set writes page 0) q 0) e, get_or-set_same writes page 0 0 (omega (arith, w.pages))))
+    | inr other ↦
+        let stays = get_or-set_other writes page p 0 0 other in
+        let was = w.plain p (omega (arith, stays)) in
+        elim (g.others p other) [ inl none ↦ none | inr same ↦ same ∙ was ]
+  ];
+}
+
+-- ---- writes
+read-is : (ram : List ℕ) (at : ℕ) → read 4 ram at ≡ (if nat_le (at + 4) (length ram) then Some (big_number 4 (bytes_at ram at 4)) else None)
+read-is ram at = ap (λ n. if nat_le (at + 4) (length ram) then Some n else None) (sym (big_from-take 0 4 4 (drop at ram) (omega arith)))
+
+read-same : (ram after : List ℕ) (at : ℕ) → length after ≡ length ram → bytes_at after at 4 ≡ bytes_at ram at 4 → read 4 after at ≡ read 4 ram at
+read-same ram after at size bytes =
+    read-is after at ∙ ap₂ (λ (n : ℕ) (xs : List ℕ). if nat_le (at + 4) n then Some (big_number 4 xs) else None) size bytes ∙ sym (read-is ram at)
+
+-- bytes that are written change the words that they are in alone
+pub same_elsewhere : (ram : List ℕ) (at : ℕ) (bytes : List ℕ) → at + length bytes ≤ length ram → SameElsewhere ram (with_bytes ram at bytes) at (length bytes)
+same_elsewhere ram at bytes fits = λ j out.
+    read-same ram (with_bytes ram at bytes) j (length-with_bytes ram at bytes fits)
+    (elim out [ inl before ↦ bytes_at-with_below ram at bytes j 4 before (omega arith) | inr after ↦ bytes_at-with_after ram at bytes j 4 after (omega arith) ])
+
+-- a word that can be read is inside RAM
+pub read_inside : (ram : List ℕ) (at word : ℕ) → read 4 ram at ≡ Some word → at + 4 ≤ length ram
+read_inside ram at word e = go (nat_le (at + 4) (length ram)) refl e
+  where
+    go : (c : Bool) → nat_le (at + 4) (length ram) ≡ c → cond c (Some (number_at 4 ram at)) None ≡ Some word → at + 4 ≤ length ram
+    go true f e = grind (arith, nat_tests, f)
+    go false f e = absurd (cc)
+
+-- ---- the entries of a page
+pub words_of : (slots : List ℕ) (entries : List (Option Decoded)) (bytes : List ℕ) (page number : ℕ) → 0 < number → get_or slots page 0 ≡ number → AreDecoded slots entries bytes
+    → AreWords (take page_words (drop (page_words * (number - 1)) entries)) bytes page
+words_of slots entries bytes page number some is decoded = λ k h.
+    let within : k < page_words = omega (arith, length-take page_words (drop (page_words * (number - 1)) entries)) in
+    let entry = get_or-take page_words (drop (page_words * (number - 1)) entries) k None within ∙ get_or-drop (page_words * (number - 1)) entries k None in
+    agrees_still _ _ bytes bytes (page_bytes * page + 4 * k) entry refl (decoded page (number - 1) k (is ∙ omega arith) within)

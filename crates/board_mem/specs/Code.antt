@@ -57,3 +57,9 @@ pub record AreWritable (index writes slots : List ℕ) : Type 0 where
 -- the words outside the n bytes from an address on stay
 abbrev pub SameElsewhere : List ℕ → List ℕ → ℕ → ℕ → Type 0
 SameElsewhere before after at n = (j : ℕ) → (j + 4 ≤ at) ⊎ (at + n ≤ j) → read 4 after j ≡ read 4 before j
+
+-- what is known of the decoded words of pages
+pub record AreCode (index writes slots owners : List ℕ) (entries : List (Option Decoded)) (used oldest capacity : ℕ) (bytes : List ℕ) : Type 0 where
+  pub writable : AreWritable index writes slots
+  pub slotted : AreSlots slots owners entries used oldest capacity
+  pub decoded : AreDecoded slots entries bytes

@@ -1,6 +1,6 @@
 //! The decoded words of the pages that instructions were executed in.
 
-ghost use Rattle.std.specs.Prelude.{◌≡◌, ◌≢◌, ◌+◌, ◌*◌, ◌%◌, ◌/◌, ◌<◌, ◌≤◌, ◌⊎◌, ℕ, List, IfOk, None, Some, length, slice_index, slice_index_or, slice_set, vec_capacity, replicate};
+ghost use Rattle.std.specs.Prelude.{◌≡◌, ◌≢◌, ◌+◌, ◌-◌, ◌*◌, ◌%◌, ◌/◌, ◌<◌, ◌≤◌, ◌⊎◌, ℕ, List, IfOk, None, Some, length, take, drop, slice_index, slice_index_or, slice_set, vec_capacity, replicate};
 ghost use Rattle.board_mem.specs.Code.{page_words, most_code_slots, Agrees, AreDecoded, AreSlots, IsFree, IsGiven, SameElsewhere};
 ghost use Rattle.board_mem.specs.Pages.{page_of, page_bytes};
 
@@ -22,11 +22,11 @@ pub(crate) struct CodePages {
     // for each page of addresses, 0, or one more than its slot
     pub(crate) slots: Vec<u8>,
     // for each slot, its page
-    owners: Vec<u32>,
+    pub(crate) owners: Vec<u32>,
     // the number of slots that were given
-    used: usize,
+    pub(crate) used: usize,
     // the slot that is given again next, once all are given
-    oldest: usize,
+    pub(crate) oldest: usize,
     // the entries, slot by slot
     pub(crate) entries: Vec<Option<Decoded>>,
 }
@@ -42,6 +42,17 @@ fn empty(entries: &mut [Option<Decoded>], from: usize, to: usize)
     for i in from..to {
         entries[i] = None;
     }
+}
+
+/// The entries of the slot before this number.
+#[inline(always)]
+pub(crate) fn entries_of(entries: &[Option<Decoded>], number: usize) -> &[Option<Decoded>]
+    requires some { 0 < number }
+    requires within { page_words * number ≤ length entries.now }
+    ensures { result.now ≡ take page_words (drop (page_words * (number - 1)) entries.now) }
+{
+    let start = (number - 1) * WORDS;
+    &entries[start..start + WORDS]
 }
 
 // Takes a page's slot, if there is such a page.
