@@ -11,10 +11,6 @@ rt_of w = w / 2 ^ 21 % 2 ^ 5
 abbrev pub ra_of : ℕ → ℕ
 ra_of w = w / 2 ^ 16 % 2 ^ 5
 
--- the second operand, bits 16 to 20
-abbrev pub rb_of : ℕ → ℕ
-rb_of w = w / 2 ^ 11 % 2 ^ 5
-
 -- the number of the special register: its upper half in bits 16 to 20, its lower half in bits 11 to 15
 abbrev pub spr_of : ℕ → ℕ
 spr_of w = w / 2 ^ 11 % 2 ^ 5 * 2 ^ 5 + w / 2 ^ 16 % 2 ^ 5
