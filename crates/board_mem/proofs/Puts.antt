@@ -1,5 +1,5 @@
 -- Bytes written into one page: the store and the pages afterwards.
-use Rattle.std.proofs.Common.{◌≡◌, ℕ, ◌+◌, ◌≤◌, Option, List, length, refl, sym, ap, ap₂, ◌∙◌, arith}
+use Rattle.std.proofs.Common.{◌≡◌, ℕ, ◌+◌, ◌≤◌, List, length, refl, sym, ap, ap₂, ◌∙◌, arith}
 use Rattle.ppc_word.specs.declared.decoded.Decoded.{Decoded}
 use Rattle.board_mem.specs.Code.{AreCode, AreDecoded, AreSlots, AreWritable, SameElsewhere}
 use Rattle.board_mem.specs.Memory.{with_bytes}
@@ -68,7 +68,7 @@ put_pages p s is =
 
 -- and the decoded words are still those of their pages
 pub code_put : {size : ℕ} {index store index₁ store₁ index₂ store₂ : List ℕ} {capacity capacity₁ at : ℕ} {src : List ℕ} → IsPut size index store index₁ store₁ index₂ store₂ capacity capacity₁ at src
-    → (writes₁ writes₂ slots owners : List ℕ) (entries : List (Option Decoded)) (used oldest room : ℕ) (entries₀ : List (Option Decoded)) (slots₀ : List ℕ) → writes₂ ≡ writes₁
+    → (writes₁ writes₂ slots owners : List ℕ) (entries : List Decoded) (used oldest room : ℕ) (entries₀ : List Decoded) (slots₀ : List ℕ) → writes₂ ≡ writes₁
     → AreWritable index₁ writes₁ slots → AreSlots slots owners entries used oldest room
     → ((b a : List ℕ) → SameElsewhere b a at (length src) → AreDecoded slots₀ entries₀ b → AreDecoded slots entries a) → AreDecoded slots₀ entries₀ (bytes_of size index store)
     → AreCode index₂ writes₂ slots owners entries used oldest room (bytes_of size index₂ store₂)

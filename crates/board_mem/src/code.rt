@@ -1,11 +1,13 @@
 //! The decoded words of the pages that instructions were executed in.
 
-ghost use Rattle.std.specs.Prelude.{◌≡◌, ◌≢◌, ◌+◌, ◌-◌, ◌*◌, ◌%◌, ◌/◌, ◌<◌, ◌≤◌, ◌⊎◌, ℕ, List, IfOk, None, Some, length, take, drop, slice_index, slice_index_or, slice_set, vec_capacity, replicate};
+ghost use Rattle.std.specs.Prelude.{◌≡◌, ◌≢◌, ◌+◌, ◌-◌, ◌*◌, ◌%◌, ◌/◌, ◌<◌, ◌≤◌, ◌⊎◌, ℕ, List, IfOk, length, take, drop, slice_index, slice_index_or, slice_set, vec_capacity, replicate};
 ghost use Rattle.board_mem.specs.Code.{page_words, most_code_slots, Agrees, AreDecoded, AreSlots, IsFree, IsGiven, SameElsewhere};
 ghost use Rattle.board_mem.specs.Pages.{page_of, page_bytes};
+ghost use Rattle.ppc_word.specs.declared.decoded.Decoded.{Decoded};
+ghost use Rattle.ppc_word.specs.declared.op.Op.TheVariants as ops;
 
 use crate::store::PAGE;
-use ppc_word::Decoded;
+use ppc_word::{Decoded, empty};
 use std::alloc::Global;
 use wind_base::NoMemory;
 
@@ -28,25 +30,25 @@ pub(crate) struct CodePages {
     // the slot that is given again next, once all are given
     pub(crate) oldest: usize,
     // the entries, slot by slot
-    pub(crate) entries: Vec<Option<Decoded>>,
+    pub(crate) entries: Vec<Decoded>,
 }
 
 // Empties the entries from one index to another.
-fn empty(entries: &mut [Option<Decoded>], from: usize, to: usize)
+fn empty_entries(entries: &mut [Decoded], from: usize, to: usize)
     requires order { from ≤ to }
     requires within { to ≤ length entries.old }
-    ensures emptied { (i : ℕ) → from ≤ i → i < to → slice_index_or entries.new i None ≡ None }
-    ensures others { (i : ℕ) → (i < from) ⊎ (to ≤ i)
-        → slice_index_or entries.new i None ≡ slice_index_or entries.old i None }
+    ensures emptied { (i : ℕ) (d : Decoded) → from ≤ i → i < to → (slice_index_or entries.new i d).op ≡ ops.Empty }
+    ensures others { (i : ℕ) (d : Decoded) → (i < from) ⊎ (to ≤ i)
+        → slice_index_or entries.new i d ≡ slice_index_or entries.old i d }
 {
     for i in from..to {
-        entries[i] = None;
+        entries[i] = empty();
     }
 }
 
 /// The entries of the slot before this number.
 #[inline(always)]
-pub(crate) fn entries_of(entries: &[Option<Decoded>], number: usize) -> &[Option<Decoded>]
+pub(crate) fn entries_of(entries: &[Decoded], number: usize) -> &[Decoded]
     requires some { 0 < number }
     requires within { page_words * number ≤ length entries.now }
     ensures { result.now ≡ take page_words (drop (page_words * (number - 1)) entries.now) }
@@ -102,7 +104,7 @@ impl CodePages {
         }
         let first = (number - 1) * WORDS + at % PAGE / 4;
         let last = (number - 1) * WORDS + (at % PAGE + n - 1) / 4;
-        empty(&mut self.entries, first, last + 1);
+        empty_entries(&mut self.entries, first, last + 1);
     }
 
     // Adds a free slot.
@@ -118,7 +120,7 @@ impl CodePages {
     {
         let slot = self.used;
         self.used += 1;
-        let Ok(()) = self.entries.resize(slot * WORDS + WORDS, None) else {
+        let Ok(()) = self.entries.resize(slot * WORDS + WORDS, empty()) else {
             unreachable!()
         };
         slot
@@ -138,7 +140,7 @@ impl CodePages {
         let slot = self.oldest;
         self.oldest = (slot + 1) % SLOTS;
         take_slot(&mut self.slots, self.owners[slot] as usize);
-        empty(&mut self.entries, slot * WORDS, slot * WORDS + WORDS);
+        empty_entries(&mut self.entries, slot * WORDS, slot * WORDS + WORDS);
         slot
     }
 
@@ -202,11 +204,11 @@ impl CodePages {
         ensures slots { AreSlots self.new.slots.items self.new.owners.items self.new.entries.items self.new.used
             self.new.oldest (vec_capacity self.new.entries) }
         ensures given { (slot : ℕ) × IsGiven self.old.slots.items self.new.slots.items page slot }
-        ensures decoded { (bytes : List ℕ) → Agrees (Some decoded) bytes (page_bytes * page + 4 * k)
+        ensures decoded { (bytes : List ℕ) → Agrees decoded bytes (page_bytes * page + 4 * k)
             → AreDecoded self.old.slots.items self.old.entries.items bytes
             → AreDecoded self.new.slots.items self.new.entries.items bytes }
     {
         let slot = self.slot_for(page);
-        self.entries[slot * WORDS + k] = Some(decoded);
+        self.entries[slot * WORDS + k] = decoded;
     }
 }

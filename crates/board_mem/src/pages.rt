@@ -100,7 +100,7 @@ impl Pages {
     /// The decoded words of a page, in order. An entry is empty if its word isn't decoded, and the
     /// list if none is.
     #[inline(always)]
-    pub fn code_of(&self, page: u32) -> &[Option<Decoded>]
+    pub fn code_of(&self, page: u32) -> &[Decoded]
         ensures words { AreWords result.now self.now.bytes page }
         ensures most { length result.now ≤ page_words }
     {

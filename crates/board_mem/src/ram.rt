@@ -135,7 +135,7 @@ impl Ram {
     /// decoded. What is decoded isn't part of what a contract sees of RAM, and each write drops what
     /// it changes.
     #[inline(always)]
-    pub fn code_of(&self, page: u32) -> &[Option<Decoded>]
+    pub fn code_of(&self, page: u32) -> &[Decoded]
         ensures words { AreWords result.now self.now.bytes page }
         ensures most { length result.now ≤ page_words }
     {

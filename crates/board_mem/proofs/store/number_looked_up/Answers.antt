@@ -1,4 +1,4 @@
-use Rattle.std.proofs.Common.{◌≡◌, List, ℕ, subst, sym, ◌∙◌, arith}
+use Rattle.std.proofs.Common.{List, ℕ, subst, sym, ◌∙◌, arith}
 use Rattle.board_mem.specs.Code.{AreWritable}
 use Rattle.board_mem.proofs.Codes.{writable_still}
 use Rattle.board_mem.proofs.store.number_looked_up.Goals as goal

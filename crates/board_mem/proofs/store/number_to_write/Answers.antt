@@ -1,4 +1,4 @@
-use Rattle.std.proofs.Common.{◌≡◌, ◌<◌, get_or, length, refl, sym, arith}
+use Rattle.std.proofs.Common.{◌<◌, get_or, refl, sym, arith}
 use Rattle.board_mem.specs.Pages.{page_of}
 use Rattle.board_mem.proofs.Codes.{decoded_elsewhere}
 use Rattle.board_mem.proofs.Stores.{made_of-again}

@@ -1,8 +1,16 @@
-use Rattle.std.proofs.Common.{◌≡◌, ℕ, ◌+◌, ◌-◌, ◌*◌, ◌<◌, ◌++◌, get_or, take, replicate, length, None, ap, ap₂, sym, refl, ◌∙◌, arith, inl, inr}
+use Rattle.std.proofs.Common.{◌≡◌, ◌+◌, ◌-◌, ◌*◌, ◌<◌, ◌++◌, replicate, length, ap, ap₂, refl, ◌∙◌, arith, inr}
 use Rattle.std.specs.Prelude.{vec_len}
 use Rattle.std.proofs.lemmas.List.{take_all}
-use Rattle.board_mem.proofs.Codes.{empty_after}
+use Rattle.board_mem.proofs.Codes.{agrees_still, empty_after, entry_before}
 use Rattle.board_mem.proofs.code.CodePages.add_slot.Goals as goal
+
+-- the entries afterwards
+grown : (c : goal.In-Ok) → c.resize.new.self.items ≡ c.args.self.now.entries.items ++ replicate 1024 c.empty.result
+grown c =
+    let old = c.args.self.now in
+    let most = old.used * 1024 + 1024 in
+    let len : length old.entries.items ≡ 1024 * old.used = c.requires.slots.exact in
+    c.in-Ok.ensures.items ∙ ap₂ (λ xs ys. xs ++ ys) (take_all most old.entries.items (omega arith)) (ap (λ m. replicate m c.empty.result) (let more : most - vec_len old.entries ≡ 1024 = omega arith in more))
 
 pub returns-clause-slots : goal.returns-clause-slots
 returns-clause-slots c =
@@ -20,13 +28,17 @@ pub returns-clause-free : goal.returns-clause-free
 returns-clause-free c =
     let a = c.requires.slots in
     let old = c.args.self.now in
-    let most = old.used * 1024 + 1024 in
-    let len : length old.entries.items ≡ 1024 * old.used = a.exact in
-    let grown = c.in-Ok.ensures.items ∙ ap₂ (λ xs ys. xs ++ ys) (take_all most old.entries.items (omega arith)) (ap (λ m. replicate m None) (let more : most - vec_len old.entries ≡ 1024 = omega arith in more)) in
     record {
       size = refl;
       others = λ page. inr refl;
-      unowned = λ page e. absurd (omega (arith, (a.owned page c.args.self.now.used e).0));
-      empty = λ k h. empty_after c.args.self.now.entries.items c.resize.new.self.items c.args.self.now.used k (1024 * c.args.self.now.used + k) grown a.exact refl;
+      unowned = λ page e. absurd (omega (arith, (a.owned page old.used e).0));
+      empty = λ k d h. empty_after old.entries.items c.resize.new.self.items old.used k (1024 * old.used + k) c.empty.result d (grown c) c.empty.ensures a.exact refl h;
       within = omega arith;
     }
+
+pub returns-clause-decoded : goal.returns-clause-decoded
+returns-clause-decoded c = λ bytes decoded page slot k d e h.
+    let a = c.requires.slots in
+    let old = c.args.self.now in
+    let within : 1024 * slot + k < length old.entries.items = omega (arith, (a.owned page slot e).0, a.exact) in
+    agrees_still _ _ bytes bytes (4096 * page + 4 * k) (entry_before old.entries.items c.resize.new.self.items (1024 * slot + k) c.empty.result d (grown c) within) refl (decoded page slot k d e h)

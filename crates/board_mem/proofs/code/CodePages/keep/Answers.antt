@@ -1,4 +1,4 @@
-use Rattle.std.proofs.Common.{◌≡◌, ◌+◌, ◌*◌, ◌<◌, length, arith}
+use Rattle.std.proofs.Common.{arith}
 use Rattle.std.specs.Prelude.{vec_capacity}
 use Rattle.board_mem.proofs.Codes.{decoded_kept}
 use Rattle.board_mem.proofs.code.CodePages.keep.Goals as goal

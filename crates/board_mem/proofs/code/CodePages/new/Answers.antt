@@ -1,4 +1,4 @@
-use Rattle.std.proofs.Common.{◌≡◌, ℕ, ◌+◌, ◌<◌, get_or, length, ap, sym, ◌∙◌, arith}
+use Rattle.std.proofs.Common.{ℕ, get_or, length, ap, sym, ◌∙◌, arith}
 use Rattle.std.proofs.lemmas.List.{length-replicate}
 use Rattle.board_mem.proofs.Making.{get_or-zeros}
 use Rattle.board_mem.proofs.code.CodePages.new.Goals as goal

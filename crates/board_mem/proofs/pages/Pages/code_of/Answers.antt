@@ -1,4 +1,4 @@
-use Rattle.std.proofs.Common.{◌≡◌, ℕ, ◌+◌, ◌-◌, ◌*◌, ◌<◌, ◌≤◌, List, Option, length, get_or, take, drop, None, subst, sym, ap, ◌∙◌, arith}
+use Rattle.std.proofs.Common.{◌-◌, ◌*◌, ◌<◌, List, length, take, drop, subst, sym, ap, ◌∙◌, arith}
 use Rattle.std.proofs.lemmas.List.{get_or_read, length-take}
 use Rattle.ppc_word.specs.declared.decoded.Decoded.{Decoded}
 use Rattle.board_mem.specs.Code.{page_words, AreWords}
@@ -19,7 +19,7 @@ returns-clause-words c =
     let code = c.self.inside.code in
     let here = sym (get_or_read code.slots.items c.args.page c.index.result.now (omega arith) c.index.ensures 0) in
     let entries = c.entries_of.ensures ∙ ap (λ xs. take page_words (drop (page_words * (c.index.result.now - 1)) xs)) c.deref.ensures.value in
-    subst (λ (xs : List (Option Decoded)). AreWords xs c.args.self.now.bytes c.args.page) (sym entries)
+    subst (λ (xs : List Decoded). AreWords xs c.args.self.now.bytes c.args.page) (sym entries)
     (subst (λ (s : PagesState). AreWords (take page_words (drop (page_words * (c.index.result.now - 1)) code.entries.items)) s.bytes c.args.page) c.self.view_is
     (words_of code.slots.items code.entries.items _ c.args.page c.index.result.now (omega arith) here c.self.invariant.1.decoded))
 

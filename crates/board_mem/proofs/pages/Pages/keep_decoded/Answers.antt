@@ -1,4 +1,4 @@
-use Rattle.std.proofs.Common.{◌≡◌, ℕ, ◌+◌, ◌*◌, ◌/◌, ◌%◌, ◌<◌, length, Some, subst, ap, sym, ◌∙◌, arith}
+use Rattle.std.proofs.Common.{◌≡◌, ℕ, ◌+◌, ◌*◌, ◌/◌, ◌%◌, ◌<◌, length, Some, inr, subst, ap, sym, arith}
 use Rattle.board_mem.specs.Memory.{read}
 use Rattle.board_mem.specs.Pages.{PagesState}
 use Rattle.board_mem.specs.Store.{bytes_of}
@@ -23,6 +23,6 @@ invariant_of-self c =
       record {
         writable = writable_given now.index.items now.writes.items now.code.slots.items c.keep.new.self.slots.items (c.args.at / 4096) c.keep.ensures.given.0 there c.keep.ensures.given.1 c.self.invariant.1.writable;
         slotted = c.keep.ensures.slots;
-        decoded = c.keep.ensures.decoded bytes (subst (λ (a : ℕ). read 4 bytes a ≡ Some c.args.decoded.word) place word) c.self.invariant.1.decoded;
+        decoded = c.keep.ensures.decoded bytes (inr (subst (λ (a : ℕ). read 4 bytes a ≡ Some c.args.decoded.word) place word)) c.self.invariant.1.decoded;
       },
     )
