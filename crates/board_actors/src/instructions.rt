@@ -1,16 +1,108 @@
 //! Instructions of one actor, one after the other, with nothing in between.
 
-ghost use Rattle.std.specs.Prelude.{◌≡◌, ℕ, ◌≤◌, length};
+ghost use Rattle.std.specs.Prelude.{◌≡◌, ◌≢◌, ℕ, ◌≤◌, length, Some, IfSome, MatchOption};
 ghost use Rattle.wind_base.specs.Boards.{board_rules};
+ghost use Rattle.ppc_word.specs.declared.op.Op.TheVariants as ops;
+ghost use Rattle.ppc_core.specs.Instructions.{exec_of};
+ghost use Rattle.ppc_core.specs.Outcomes.{Done};
+ghost use Rattle.ppc_core.specs.Stepping.{at_pc};
+ghost use Rattle.board_bus.specs.Access.{board_meaning, fetched};
 ghost use Rattle.board_bus.specs.Seen.{bus_seen};
 ghost use Rattle.live_loading.specs.KernelWorldSeen.{world_seen};
-ghost use Rattle.board_actors.specs.{Instructions.ExecutesMany, Running.{IsThere, RanMany}};
+ghost use Rattle.board_actors.specs.{Instructions.{ExecutesMany, MayRun}, Running.{IsThere, RanMany}};
 
 use board_bus::BoardBus;
+use board_mem::{PAGE, WORDS};
 use live_loading::{Actor, World};
-use ppc_core::exec_inline;
+use ppc_core::{finish_load, load_address, run_bus, run_registers};
+use ppc_word::{Decoded, Op};
 use wind_base::Regs;
 use wind_outside::Device;
+
+// The instructions of one page that were executed: the next address, their number, and the decoded
+// word at that address, if it is the next to be executed and needs the bus.
+struct Straight {
+    pc: u32,
+    made: u64,
+    insn: Option<Decoded>,
+}
+
+// Executes a decoded word that uses registers, and of the bus at most a word of RAM, and returns
+// the next address. None if it needs more, or if it is empty; then nothing changes.
+#[inline(always)]
+fn run_reading(pc: u32, regs: &mut Regs, insn: Decoded, bus: &BoardBus) -> Option<u32>
+    ensures some { IfSome result (λ _. insn.op ≢ ops.Empty) }
+    ensures step { MatchOption result (regs.new ≡ regs.old)
+        (λ next. exec_of board_meaning (at_pc regs.old pc) insn.word (bus_seen ⟦<dyn Device as Device>⟧ bus.now)
+        ≡ Done (at_pc regs.new next) (bus_seen ⟦<dyn Device as Device>⟧ bus.now)) }
+{
+    if insn.op == Op::Empty {
+        return None;
+    }
+    if let Some(next) = run_registers::<BoardBus>(pc, regs, insn) {
+        return Some(next);
+    }
+    match insn.op {
+        Op::LoadWord => {
+            let word = bus.ram.read32(load_address(regs, insn))?;
+            Some(finish_load::<BoardBus>(word, pc, regs, insn))
+        }
+        _ => None,
+    }
+}
+
+// Executes instructions from an address on as long as they are in its page and need no more of the
+// bus than a word of RAM, at most `most`.
+#[inline(always)]
+fn run_in_page(pc: u32, regs: &mut Regs, bus: &BoardBus, most: u64) -> Straight
+    requires { Unit {0} }
+    ensures ran { (gates : ℕ) → length bus.now.ram.bytes ≤ gates
+        → ExecutesMany gates result.made (at_pc regs.old pc) (bus_seen ⟦<dyn Device as Device>⟧ bus.now)
+        (at_pc regs.new result.pc) (bus_seen ⟦<dyn Device as Device>⟧ bus.now) }
+    ensures insn { IfSome result.insn
+        (λ d. fetched (bus_seen ⟦<dyn Device as Device>⟧ bus.now) result.pc ≡ Some d.word) }
+    ensures within { result.made ≤ most }
+{
+    let page = pc / PAGE as u32;
+    let entries = bus.ram.code_of(page);
+    let mut pc = pc;
+    let mut made = 0;
+    if entries.len() == WORDS {
+        while made < most && pc / PAGE as u32 == page && pc % 4 == 0 {
+            let insn = entries[pc as usize % PAGE / 4].copied();
+            let Some(next) = run_reading(pc, regs, insn, bus) else {
+                let insn = if insn.op == Op::Empty { None } else { Some(insn) };
+                return Straight { pc, made, insn };
+            };
+            pc = next;
+            made += 1;
+        }
+    }
+    Straight {
+        pc,
+        made,
+        insn: None,
+    }
+}
+
+// Executes the instruction at an address, whose decoded word may be known, and returns the next
+// address. None if its word can't be fetched, is no instruction, or causes an exception; then
+// nothing changes but, perhaps, `regs.pc`, which isn't read.
+#[inline(always)]
+fn run_next(pc: u32, regs: &mut Regs, insn: Option<Decoded>, bus: &mut BoardBus) -> Option<u32>
+    requires { IfSome insn (λ d. fetched (bus_seen ⟦<dyn Device as Device>⟧ bus.old) pc ≡ Some d.word) }
+    ensures { MayRun pc regs.old (bus_seen ⟦<dyn Device as Device>⟧ bus.old) regs.new
+        (bus_seen ⟦<dyn Device as Device>⟧ bus.new) result }
+{
+    let insn = match insn {
+        Some(insn) => insn,
+        None => bus.ram.decode_at(pc)?,
+    };
+    match run_bus(pc, regs, insn, bus) {
+        Ok(next) => Some(next),
+        Err(_) => None,
+    }
+}
 
 // Executes at most `most` instructions, and returns how many it executed. It stops before an
 // instruction that can't be fetched or causes an exception. No gate is below the end of RAM, so a
@@ -23,15 +115,23 @@ fn run_words(regs: &mut Regs, bus: &mut BoardBus, most: u64) -> u64
         regs.new (bus_seen ⟦<dyn Device as Device>⟧ bus.new) }
     ensures within { result ≤ most }
 {
-    for made in 0..most {
-        let Some(word) = bus.fetch(regs.pc) else {
-            return made;
-        };
-        if exec_inline(regs, word, bus).is_err() {
-            return made;
+    let mut pc = regs.pc;
+    let mut made = 0;
+    while made < most {
+        let straight = run_in_page(pc, regs, bus, most - made);
+        pc = straight.pc;
+        made += straight.made;
+        if made == most || straight.insn.is_none() && straight.made > 0 {
+            continue;
         }
+        let Some(next) = run_next(pc, regs, straight.insn, bus) else {
+            break;
+        };
+        pc = next;
+        made += 1;
     }
-    most
+    regs.pc = pc;
+    made
 }
 
 /// Executes at most `most` instructions of an actor, as long as each can be fetched and causes no

@@ -12,7 +12,7 @@ use std::alloc::Global;
 use wind_base::NoMemory;
 
 /// The number of words in a page.
-pub(crate) const WORDS: usize = PAGE / 4;
+pub const WORDS: usize = PAGE / 4;
 
 // The greatest number of slots.
 const SLOTS: usize = 64;

@@ -8,7 +8,9 @@ mod ram;
 mod ram_string;
 mod store;
 
+pub use code::WORDS;
 pub use outside::Outside;
 pub use pages::Pages;
 pub use ram::Ram;
 pub use ram_string::RamString;
+pub use store::PAGE;

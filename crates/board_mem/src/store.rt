@@ -9,7 +9,7 @@ ghost use Rattle.board_mem.specs.Store.{AreStored, IsMade, offset_of};
 use crate::code::CodePages;
 
 /// The size of a page in bytes.
-pub(crate) const PAGE: usize = 4_096;
+pub const PAGE: usize = 4_096;
 
 // Creates a page: appends a page of zeros to the store, and returns its number.
 #[cold]
