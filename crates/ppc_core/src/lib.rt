@@ -11,11 +11,15 @@ mod logic;
 mod multiple;
 mod operands;
 mod registers;
+mod stepping;
 mod storage;
+mod storing;
 mod trap;
 mod words;
 
 pub use bus::{Bus, Fault};
 pub use execution::{exec, exec_inline};
 pub use laws::{instruction_law, move_to_cr_law};
+pub use stepping::run_registers;
+pub use storing::{finish_load, finish_store, load_address, run_at, run_bus, store_address};
 pub use trap::Trap;

@@ -3,6 +3,7 @@
 ghost use Rattle.std.specs.Prelude.{◌≡◌, ◌<◌, ◌*◌, ◌^◌};
 ghost use Rattle.ppc_core.specs.Buses.{Loads, Stores};
 ghost use Rattle.ppc_core.specs.Outcomes.{Leaves};
+ghost use Rattle.ppc_core.specs.Stepping.{at_pc, LeavesAt};
 ghost use Rattle.ppc_core.specs.Storage as storage;
 
 use crate::bus::{Bus, Fault};
@@ -215,4 +216,51 @@ pub fn store_rs<B: Bus>(
     set_base(address, at, regs, insn);
     registers::step(regs);
     Ok(())
+}
+
+/// Loads the datum at the effective address into RT, for the instruction at `pc`, and returns the
+/// next address.
+#[tactic(auto, using(crate::proofs::Beside::address_of_at, crate::proofs::Beside::with_base_at), unfolding(crate::specs::Storage::load_of, crate::specs::Registers::gpr, crate::specs::Registers::with_gpr, crate::specs::Registers::next))]
+#[inline(always)]
+pub fn load_at<B: Bus>(
+    what: Load,
+    address: Address,
+    pc: u32,
+    regs: &mut Regs,
+    insn: Decoded,
+    bus: &mut B,
+) -> Result<u32, Trap>
+    ensures { LeavesAt (storage.load_of B.meaning what address (at_pc regs.old pc) insn.word (B.held bus.old))
+        pc regs.old (B.held bus.old) regs.new (B.held bus.new) result }
+{
+    let at = address_for(address, regs, insn);
+    let Ok(datum) = read_datum(what, at, bus) else {
+        return Err(Trap::Access);
+    };
+    registers::write(operands::rt(insn), taken_of(what, datum), regs);
+    set_base(address, at, regs, insn);
+    Ok(pc.wrapping_add(4))
+}
+
+/// Stores (RS) at the effective address, for the instruction at `pc`, and returns the next address.
+#[tactic(auto, using(crate::proofs::Beside::address_of_at, crate::proofs::Beside::with_base_at), unfolding(crate::specs::Storage::store_of, crate::specs::Registers::gpr, crate::specs::Registers::with_gpr, crate::specs::Registers::next))]
+#[inline(always)]
+pub fn store_at<B: Bus>(
+    what: Store,
+    address: Address,
+    pc: u32,
+    regs: &mut Regs,
+    insn: Decoded,
+    bus: &mut B,
+) -> Result<u32, Trap>
+    ensures { LeavesAt (storage.store_of B.meaning what address (at_pc regs.old pc) insn.word (B.held bus.old))
+        pc regs.old (B.held bus.old) regs.new (B.held bus.new) result }
+{
+    let at = address_for(address, regs, insn);
+    let value = given_of(what, registers::in_rs(regs, insn));
+    let Ok(()) = write_datum(what, at, value, bus) else {
+        return Err(Trap::Access);
+    };
+    set_base(address, at, regs, insn);
+    Ok(pc.wrapping_add(4))
 }
