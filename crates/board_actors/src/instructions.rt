@@ -21,10 +21,27 @@ use wind_outside::Device;
 
 // The instructions of one page that were executed: the next address, their number, and the decoded
 // word at that address, if it is the next to be executed and needs the bus.
+#[derive(Drop)]
 struct Straight {
     pc: u32,
     made: u64,
     insn: Option<Decoded>,
+}
+
+// A copy of an entry, field by field, so that only the fields that an instruction needs are read.
+#[inline(always)]
+fn copied(entry: &Decoded) -> Decoded
+    ensures { result ≡ entry.now }
+{
+    Decoded {
+        op: entry.op,
+        row: entry.row,
+        rt: entry.rt,
+        ra: entry.ra,
+        rb: entry.rb,
+        immediate: entry.immediate,
+        word: entry.word,
+    }
 }
 
 // Executes a decoded word that uses registers, and of the bus at most a word of RAM, and returns
@@ -51,37 +68,71 @@ fn run_reading(pc: u32, regs: &mut Regs, insn: Decoded, bus: &BoardBus) -> Optio
     }
 }
 
+// The decoded word, if it isn't empty.
+#[inline(always)]
+fn known(insn: Decoded) -> Option<Decoded>
+    ensures { IfSome result (λ d. (d ≡ insn) × (insn.op ≢ ops.Empty)) }
+{
+    if insn.op == Op::Empty {
+        return None;
+    }
+    Some(insn)
+}
+
 // Executes instructions from an address on as long as they are in its page and need no more of the
 // bus than a word of RAM, at most `most`.
 #[inline(always)]
-fn run_in_page(pc: u32, regs: &mut Regs, bus: &BoardBus, most: u64) -> Straight
+fn run_in_page(start: u32, regs: &mut Regs, bus: &BoardBus, most: u64) -> Straight
     requires { Unit {0} }
     ensures ran { (gates : ℕ) → length bus.now.ram.bytes ≤ gates
-        → ExecutesMany gates result.made (at_pc regs.old pc) (bus_seen ⟦<dyn Device as Device>⟧ bus.now)
+        → ExecutesMany gates result.made (at_pc regs.old start) (bus_seen ⟦<dyn Device as Device>⟧ bus.now)
         (at_pc regs.new result.pc) (bus_seen ⟦<dyn Device as Device>⟧ bus.now) }
     ensures insn { IfSome result.insn
         (λ d. fetched (bus_seen ⟦<dyn Device as Device>⟧ bus.now) result.pc ≡ Some d.word) }
     ensures within { result.made ≤ most }
 {
-    let page = pc / PAGE as u32;
+    let page = start / PAGE as u32;
     let entries = bus.ram.code_of(page);
-    let mut pc = pc;
+    let mut pc = start;
     let mut made = 0;
-    if entries.len() == WORDS {
-        while made < most && pc / PAGE as u32 == page && pc % 4 == 0 {
-            let insn = entries[pc as usize % PAGE / 4].copied();
-            let Some(next) = run_reading(pc, regs, insn, bus) else {
-                let insn = if insn.op == Op::Empty { None } else { Some(insn) };
-                return Straight { pc, made, insn };
+    if entries.len() != WORDS {
+        return Straight {
+            pc,
+            made,
+            insn: None,
+        };
+    }
+    while made < most && pc / PAGE as u32 == page && pc % 4 == 0 {
+        let insn = copied(&entries[pc as usize % PAGE / 4]);
+        let Some(next) = run_reading(pc, regs, insn, bus) else {
+            return Straight {
+                pc,
+                made,
+                insn: known(insn),
             };
-            pc = next;
-            made += 1;
-        }
+        };
+        pc = next;
+        made += 1;
     }
     Straight {
         pc,
         made,
         insn: None,
+    }
+}
+
+// The decoded word at an address, which may be known. None if it can't be fetched, or is no
+// instruction.
+#[inline(always)]
+fn next_word(pc: u32, insn: Option<Decoded>, bus: &mut BoardBus) -> Option<Decoded>
+    requires { IfSome insn (λ d. fetched (bus_seen ⟦<dyn Device as Device>⟧ bus.old) pc ≡ Some d.word) }
+    ensures bus { bus_seen ⟦<dyn Device as Device>⟧ bus.new ≡ bus_seen ⟦<dyn Device as Device>⟧ bus.old }
+    ensures word { IfSome result
+        (λ d. fetched (bus_seen ⟦<dyn Device as Device>⟧ bus.old) pc ≡ Some d.word) }
+{
+    match insn {
+        Some(insn) => Some(insn),
+        None => bus.ram.decode_at(pc),
     }
 }
 
@@ -94,10 +145,7 @@ fn run_next(pc: u32, regs: &mut Regs, insn: Option<Decoded>, bus: &mut BoardBus)
     ensures { MayRun pc regs.old (bus_seen ⟦<dyn Device as Device>⟧ bus.old) regs.new
         (bus_seen ⟦<dyn Device as Device>⟧ bus.new) result }
 {
-    let insn = match insn {
-        Some(insn) => insn,
-        None => bus.ram.decode_at(pc)?,
-    };
+    let insn = next_word(pc, insn, bus)?;
     match run_bus(pc, regs, insn, bus) {
         Ok(next) => Some(next),
         Err(_) => None,
@@ -121,14 +169,14 @@ fn run_words(regs: &mut Regs, bus: &mut BoardBus, most: u64) -> u64
         let straight = run_in_page(pc, regs, bus, most - made);
         pc = straight.pc;
         made += straight.made;
-        if made == most || straight.insn.is_none() && straight.made > 0 {
-            continue;
+        if made < most && (straight.made == 0 || straight.insn.is_some()) {
+            let Some(next) = run_next(pc, regs, straight.insn, bus) else {
+                regs.pc = pc;
+                return made;
+            };
+            pc = next;
+            made += 1;
         }
-        let Some(next) = run_next(pc, regs, straight.insn, bus) else {
-            break;
-        };
-        pc = next;
-        made += 1;
     }
     regs.pc = pc;
     made
