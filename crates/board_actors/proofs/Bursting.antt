@@ -1,5 +1,5 @@
 -- Instructions, one after the other.
-use Rattle.std.proofs.Common.{◌≡◌, ℕ, ◌+◌, ◌-◌, ◌/◌, ◌%◌, ◌<◌, ◌≤◌, ◌&&◌, ◌==◌, Bool, true, false, cond, eqb, List, length, Option, None, Some, Result, refl, sym, ap, ◌∙◌, subst, add-one, arith}
+use Rattle.std.proofs.Common.{◌≡◌, ℕ, ◌+◌, ◌-◌, ◌*◌, ◌/◌, ◌%◌, ◌<◌, ◌≤◌, ◌&&◌, ◌==◌, Bool, true, false, cond, eqb, List, length, Option, None, Some, Result, refl, sym, ap, ap₂, ◌∙◌, subst, zero, suc, add-one, add-zero, add-suc, get_or, Ok, Err, inl, inr, arith}
 use Rattle.std.specs.Prelude.{is_err, unwrap_or, nat_le, if◌then◌else◌}
 use Rattle.std.proofs.lemmas.Bool.Decides.{nat_tests}
 use Rattle.wind_base.specs.Limits.{gate_bytes}
@@ -9,6 +9,10 @@ use Rattle.wind_base.specs.declared.regs.Regs.{Regs}
 use Rattle.ppc_core.specs.Instructions.{exec_of}
 use Rattle.ppc_core.specs.Outcomes.{Outcome, Done, Trapped, Leaves}
 use Rattle.ppc_core.specs.declared.trap.Trap.{Trap}
+use Rattle.ppc_word.specs.declared.decoded.Decoded.{Decoded}
+use Rattle.ppc_word.specs.declared.op.Op.TheVariants as ops
+use Rattle.ppc_core.specs.Stepping.{at_pc, LeavesAt}
+use Rattle.board_mem.specs.Code.{Agrees, AreWords}
 use Rattle.board_bus.specs.BusState.{BusState}
 use Rattle.board_mem.specs.Memory.{number_at, read}
 use Rattle.board_bus.specs.Access.{board_meaning, fetched}
@@ -18,7 +22,7 @@ use Rattle.live_loading.specs.KernelWorldActors.{found_regs}
 use Rattle.live_loading.specs.KernelWorldActor.{Actor}
 use Rattle.wind_machine.specs.Processor.{bus_of, regs_of}
 use Rattle.wind_machine.proofs.Executing.{IfDone, executing_lasts, sizes_last}
-use Rattle.board_actors.specs.Instructions.{ExecutesMany, executed_to}
+use Rattle.board_actors.specs.Instructions.{ExecutesMany, MayRun, executed_to}
 use Rattle.board_actors.specs.Running.{RanMany}
 
 -- no gate is below the first
@@ -67,6 +71,64 @@ one_more k word r m after b c bus found res bad runs fetch there leaves err ok =
           );
       size = subst (λ o. IfDone (λ d. length d.ram ≡ length c.ram) o) done (executing_lasts board_meaning (λ d. length d.ram ≡ length c.ram) (sizes_last (length c.ram)) m word c refl) ∙ runs.size;
     }
+
+-- an outcome that is left at the next address is done
+pub left_done : (o : Outcome BusState) (pc next : ℕ) (old regs : Regs) (b bus : BusState) → LeavesAt o pc old b regs bus (Ok next) → o ≡ Done (at_pc regs next) bus
+left_done (Done r d) pc next old regs b bus l =
+    let at : r.pc ≡ next = let e = l.0 in cc in
+    ap₂ (λ (x : Regs) (y : BusState). Done x y) (sym l.1 ∙ ap (at_pc regs) at) (sym l.2)
+left_done (Trapped t) pc next old regs b bus l = let e = l.0 in absurd (cc)
+
+-- one more instruction was executed, at an address beside the registers
+pub one_more_at : (k word pc next : ℕ) (r m after : Regs) (b c bus : BusState) → RunsBelow k r b (at_pc m pc) c → fetched c pc ≡ Some word
+    → exec_of board_meaning (at_pc m pc) word c ≡ Done (at_pc after next) bus → RunsBelow (k + 1) r b (at_pc after next) bus
+one_more_at k word pc next r m after b c bus runs there done =
+    one_more k word r (at_pc m pc) (at_pc after next) b c bus (fetched c pc) (Ok tt) false runs refl there
+    (subst (λ (o : Outcome BusState). Leaves o (at_pc m pc) c (at_pc after next) bus (Ok tt)) (sym done) (refl, refl, refl)) refl refl
+
+-- instructions after others
+append_many : (start k j : ℕ) (r m after : Regs) (b c bus : BusState) → ExecutesMany start k r b m c → ExecutesMany start j m c after bus → ExecutesMany start (k + j) r b after bus
+append_many start k zero r m after b c bus first rest =
+    subst (λ (n : ℕ). ExecutesMany start n r b after bus) (sym (add-zero k)) (subst (λ (x : Regs). ExecutesMany start k r b x bus) (sym rest.0) (subst (λ (x : BusState). ExecutesMany start k r b m x) (sym rest.1) first))
+append_many start k (suc j) r m after b c bus first rest =
+    subst (λ (n : ℕ). ExecutesMany start n r b after bus) (sym (add-suc k j)) (rest.0, rest.1, append_many start k j r m rest.0 b c rest.1 first rest.2, rest.3)
+
+-- instructions that leave the bus were executed after others
+pub runs_on : (k j : ℕ) (r m after : Regs) (b c : BusState) → RunsBelow k r b m c → ((start : ℕ) → length c.ram ≤ start → ExecutesMany start j m c after c) → RunsBelow (k + j) r b after c
+runs_on k j r m after b c runs many = record {
+  many = λ start above. append_many start k j r m after b c c (runs.many start above) (many start (let size = runs.size in omega (arith, size, above)));
+  size = runs.size;
+}
+
+-- an entry that isn't empty is the word that can be fetched
+pub fetched_entry : (b : BusState) (pc page k : ℕ) (entries : List Decoded) (e d : Decoded) → AreWords entries b.ram page → pc / 4096 ≡ page → pc % 4 ≡ 0 → k ≡ pc % 4096 / 4 → k < length entries
+    → e ≡ get_or entries k e → d ≡ e → (d.op ≡ ops.Empty → ⊥) → fetched b pc ≡ Some d.word
+fetched_entry b pc page k entries e d words is_page aligned place within entry copy some =
+    let test : (pc % 4 == 0) ≡ true = grind (arith, nat_tests) in
+    let at : 4096 * page + 4 * k ≡ pc = omega arith in
+    let agrees : Agrees d b.ram (4096 * page + 4 * k) = subst (λ (x : Decoded). Agrees x b.ram (4096 * page + 4 * k)) (sym entry ∙ sym copy) (words k e within) in
+    let word : read 4 b.ram (4096 * page + 4 * k) ≡ Some d.word = elim agrees [ inl empty ↦ absurd (some empty) | inr is ↦ is ] in
+    ap (λ (t : Bool). if t then read 4 b.ram pc else None) test ∙ ap (read 4 b.ram) (sym at) ∙ word
+
+-- an instruction that left the bus and an address is executed
+pub may_run : (pc word next : ℕ) (old regs : Regs) (b held bus : BusState) → fetched b pc ≡ Some word → held ≡ b → LeavesAt (exec_of board_meaning (at_pc old pc) word held) pc old held regs bus (Ok next) → MayRun pc old b regs bus (Some next)
+may_run pc word next old regs b held bus there same left =
+    (word, there, subst (λ (x : BusState). exec_of board_meaning (at_pc old pc) word x ≡ Done (at_pc regs next) bus) same (left_done (exec_of board_meaning (at_pc old pc) word held) pc next old regs held bus left))
+
+-- one more instruction was executed, or none
+pub ran_next : (k pc next : ℕ) (r m after : Regs) (b c bus : BusState) → RunsBelow k r b (at_pc m pc) c → MayRun pc m c after bus (Some next) → RunsBelow (k + 1) r b (at_pc after next) bus
+ran_next k pc next r m after b c bus runs may = one_more_at k may.0 pc next r m after b c bus runs may.1 may.2
+
+pub ran_none : (k pc : ℕ) (r m after : Regs) (b c bus : BusState) → RunsBelow k r b (at_pc m pc) c → MayRun pc m c after bus None → RunsBelow k r b (at_pc after pc) bus
+ran_none k pc r m after b c bus runs may =
+    subst (λ (x : Regs). RunsBelow k r b x bus) (sym may.0) (subst (λ (x : BusState). RunsBelow k r b (at_pc m pc) x) (sym may.1) runs)
+
+-- one more instruction was executed, by its entry
+pub entry_ran : (k pc page place next : ℕ) (r m after : Regs) (b c bus : BusState) (entries : List Decoded) (e d : Decoded) → RunsBelow k r b (at_pc m pc) c → AreWords entries c.ram page
+    → pc / 4096 ≡ page → pc % 4 ≡ 0 → place ≡ pc % 4096 / 4 → place < length entries → e ≡ get_or entries place e → d ≡ e → (d.op ≡ ops.Empty → ⊥)
+    → exec_of board_meaning (at_pc m pc) d.word c ≡ Done (at_pc after next) bus → RunsBelow (k + 1) r b (at_pc after next) bus
+entry_ran k pc page place next r m after b c bus entries e d runs words is_page aligned is within entry copy some done =
+    one_more_at k d.word pc next r m after b c bus runs (fetched_entry c pc page place entries e d words is_page aligned is within entry copy some) done
 
 -- the actor, which is this one, has executed k instructions
 pub ran_many : (w : WorldState) (who a : Actor) → who ≡ a → (k : ℕ) (old regs : Regs) (bus : BusState) → found_regs w.kern w.watch.level a ≡ Some old

@@ -4,6 +4,7 @@ use Rattle.wind_base.specs.Gates.{gate_at}
 use Rattle.wind_base.specs.declared.regs.Regs.{Regs}
 use Rattle.ppc_core.specs.Instructions.{exec_of}
 use Rattle.ppc_core.specs.Outcomes.{Outcome, Done, Trapped}
+use Rattle.ppc_core.specs.Stepping.{at_pc}
 use Rattle.board_bus.specs.BusState.{BusState}
 use Rattle.board_bus.specs.Access.{board_meaning, fetched}
 use Rattle.live_loading.specs.KernelWorldState.{WorldState}
@@ -33,6 +34,12 @@ pub record Executes (start : ℕ) (r : Regs) (b : BusState) (after : Regs) (bus 
 abbrev pub ExecutesMany : ℕ → ℕ → Regs → BusState → Regs → BusState → Type 0
 ExecutesMany start zero r b after bus = (after ≡ r) × (bus ≡ b)
 ExecutesMany start (suc k) r b after bus = (m : Regs) × (c : BusState) × ExecutesMany start k r b m c × Executes start m c after bus
+
+-- the instruction at an address beside the registers may be executed: either it leads to the next address, these registers
+-- and this bus, or nothing changes but the program counter in the registers, which is free
+abbrev pub MayRun : ℕ → Regs → BusState → Regs → BusState → Option ℕ → Type 0
+MayRun pc r b after bus None = (at_pc after pc ≡ at_pc r pc) × (bus ≡ b)
+MayRun pc r b after bus (Some next) = (word : ℕ) × (fetched b pc ≡ Some word) × (exec_of board_meaning (at_pc r pc) word b ≡ Done (at_pc after next) bus)
 
 -- the world with these registers of the actor, and this bus
 abbrev pub executed_to : WorldState → Actor → Regs → BusState → WorldState

@@ -1,9 +1,12 @@
 -- Bytes written into one page: the store and the pages afterwards.
-use Rattle.std.proofs.Common.{◌≡◌, ℕ, List, length, refl, sym, ap, ap₂, ◌∙◌, arith}
+use Rattle.std.proofs.Common.{◌≡◌, ℕ, ◌+◌, ◌≤◌, List, length, refl, sym, ap, ap₂, ◌∙◌, arith}
+use Rattle.ppc_word.specs.declared.decoded.Decoded.{Decoded}
+use Rattle.board_mem.specs.Code.{AreCode, AreDecoded, AreSlots, AreWritable, SameElsewhere}
 use Rattle.board_mem.specs.Memory.{with_bytes}
+use Rattle.board_mem.proofs.Codes.{same_elsewhere}
 use Rattle.board_mem.specs.Pages.{PagesState, made_with, page_of, written_at}
 use Rattle.board_mem.specs.Store.{offset_of, bytes_of, made_of, IsMade, IsStore}
-use Rattle.board_mem.proofs.Stores.{length-made_of}
+use Rattle.board_mem.proofs.Stores.{length-made_of, length-bytes_of}
 use Rattle.board_mem.proofs.Windows.{IsWindow, pages_of, window_page, bytes_of-put, IsStore-put}
 use Rattle.board_mem.proofs.Writings.{made_with-page}
 
@@ -62,3 +65,19 @@ put_pages p s is =
     let b = pages_after p s bytes made in
     let m = made_after p s bytes made in
     λ i. record { bytes = b i; made = m i }
+
+-- and the decoded words are still those of their pages
+pub code_put : {size : ℕ} {index store index₁ store₁ index₂ store₂ : List ℕ} {capacity capacity₁ at : ℕ} {src : List ℕ} → IsPut size index store index₁ store₁ index₂ store₂ capacity capacity₁ at src
+    → (writes₁ writes₂ slots owners : List ℕ) (entries : List Decoded) (used oldest room : ℕ) (entries₀ : List Decoded) (slots₀ : List ℕ) → writes₂ ≡ writes₁
+    → AreWritable index₁ writes₁ slots → AreSlots slots owners entries used oldest room
+    → ((b a : List ℕ) → SameElsewhere b a at (length src) → AreDecoded slots₀ entries₀ b → AreDecoded slots entries a) → AreDecoded slots₀ entries₀ (bytes_of size index store)
+    → AreCode index₂ writes₂ slots owners entries used oldest room (bytes_of size index₂ store₂)
+code_put {size} {index} {store} {at = at} {src = src} p writes₁ writes₂ slots owners entries used oldest room entries₀ slots₀ same writable slotted dropped decoded =
+    let old = bytes_of size index store in
+    let is = pages_after p (record { bytes = old; made = made_of index }) refl refl in
+    let fits : at + length src ≤ length old = omega (arith, p.window.there, length-bytes_of size index store) in
+    record {
+      writable = rw (p.index_same, same) writable;
+      slotted = slotted;
+      decoded = rw is (dropped old (with_bytes old at src) (same_elsewhere old at src fits) decoded);
+    }

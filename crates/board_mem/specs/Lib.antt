@@ -1,3 +1,4 @@
+pub mod Code
 pub mod Memory
 pub mod Pages
 pub mod Store

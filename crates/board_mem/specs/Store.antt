@@ -46,4 +46,5 @@ pub record IsMade (index store index_after store_after : List ℕ) (capacity pag
   pub stored : AreStored index_after store_after capacity
   pub numbered : 0 < slice_index index_after page
   pub made : made_of index_after ≡ slice_set (made_of index) page true
+  pub numbers : (other : ℕ) → 0 < slice_index index other → slice_index index_after other ≡ slice_index index other
   pub bytes : (size : ℕ) → size ≤ page_bytes * length index → bytes_of size index_after store_after ≡ bytes_of size index store

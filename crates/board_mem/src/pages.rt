@@ -1,11 +1,14 @@
 //! Memory in pages, each created at its first write.
 
-ghost use Rattle.std.specs.Prelude.{◌≡◌, ◌+◌, ◌-◌, ◌*◌, ◌%◌, ◌<◌, ◌≤◌, ◌↔◌, IsTrue, IsOk, IfOk, if◌then◌else◌, length, replicate};
-ghost use Rattle.board_mem.specs.Memory.{has as has_lem, bytes_at};
+ghost use Rattle.std.specs.Prelude.{◌≡◌, Some, ◌+◌, ◌-◌, ◌*◌, ◌%◌, ◌<◌, ◌≤◌, ◌↔◌, IsTrue, IsOk, IfOk, if◌then◌else◌, length, replicate};
+ghost use Rattle.board_mem.specs.Code.{page_words, AreWords};
+ghost use Rattle.board_mem.specs.Memory.{has as has_lem, read, bytes_at};
 ghost use Rattle.board_mem.specs.Pages.{page_bytes, unmade, written_at, made_count, ArePages};
 
+use crate::code::{CodePages, entries_of};
 use crate::outside::Outside;
-use crate::store::{PAGE, fill_in, offset, offset_made, put_in};
+use crate::store::{PAGE, fill_in, offset, offset_to_write, put_in};
+use ppc_word::Decoded;
 use std::alloc::Global;
 use std::marker::Model;
 use wind_base::NoMemory;
@@ -19,13 +22,18 @@ pub struct Pages {
     // for each page of addresses, the number of its page in the store; 0, the page of zeros, until
     // it is created
     index: Vec<u32>,
+    // the same for writers; also 0 for a page with decoded words, which a write drops
+    writes: Vec<u32>,
     // a page of zeros, which is never written, and then the created pages
     store: Vec<u8>,
+    // the decoded words of pages of code
+    code: CodePages,
 }
 
 impl Model for Pages {
     ghost use Rattle.std.specs.Prelude.{vec_capacity};
     ghost use Rattle.board_mem.specs.Pages.{PagesState};
+    ghost use Rattle.board_mem.specs.Code.{AreCode};
     ghost use Rattle.board_mem.specs.Store.{bytes_of, made_of, IsStore};
 
     ghost Value = { PagesState };
@@ -35,7 +43,9 @@ impl Model for Pages {
       made = made_of p.index.items;
     } };
 
-    ghost invariant = { λ p. IsStore p.size p.index.items p.store.items (vec_capacity p.store) };
+    ghost invariant = { λ p. IsStore p.size p.index.items p.store.items (vec_capacity p.store)
+        × AreCode p.index.items p.writes.items p.code.slots.items p.code.owners.items p.code.entries.items p.code.used
+        p.code.oldest (vec_capacity p.code.entries) (bytes_of p.size p.index.items p.store.items) };
 }
 
 // The greatest number of bytes moved at once.
@@ -58,9 +68,17 @@ impl Pages {
     {
         let count = (size as usize + (PAGE - 1)) / PAGE;
         let index = vec![in alloc; 0; count]?;
+        let writes = vec![in alloc; 0; count]?;
         let mut store = Vec::with_capacity(alloc, count * PAGE + PAGE)?;
         store.resize(PAGE, 0)?;
-        Ok(Pages { size, index, store })
+        let code = CodePages::new(alloc, count)?;
+        Ok(Pages {
+            size,
+            index,
+            writes,
+            store,
+            code,
+        })
     }
 
     /// The number of bytes.
@@ -77,6 +95,35 @@ impl Pages {
         ensures sound { ArePages self.now }
     {
         (self.store.len() / PAGE - 1) as u32
+    }
+
+    /// The decoded words of a page, in order. An entry is empty if its word isn't decoded, and the
+    /// list if none is.
+    #[inline(always)]
+    pub fn code_of(&self, page: u32) -> &[Decoded]
+        ensures words { AreWords result.now self.now.bytes page }
+        ensures most { length result.now ≤ page_words }
+    {
+        let page = page as usize;
+        if page >= self.code.slots.len() {
+            return &[];
+        }
+        let number = self.code.slots[page] as usize;
+        if number == 0 {
+            return &[];
+        }
+        entries_of(&self.code.entries, number)
+    }
+
+    /// Keeps the decoded word at an address.
+    pub fn keep_decoded(&mut self, at: u32, decoded: Decoded)
+        requires aligned { at % 4 ≡ 0 }
+        requires word { read 4 self.old.bytes at ≡ Some decoded.word }
+        ensures { self.new ≡ self.old }
+    {
+        let page = at / PAGE as u32;
+        self.code.keep(page, (at as usize % PAGE) / 4, decoded);
+        self.writes[page as usize] = 0;
     }
 
     // The `n` bytes from an address on, all in one page.
@@ -99,7 +146,14 @@ impl Pages {
         requires there { at + length src.now ≤ length self.old.bytes }
         ensures { self.new ≡ written_at self.old at src.now }
     {
-        let start = offset_made(&mut self.index, &mut self.store, at as usize);
+        let start = offset_to_write(
+            &mut self.index,
+            &mut self.writes,
+            &mut self.store,
+            &mut self.code,
+            at as usize,
+            src.len(),
+        );
         put_in(&mut self.store, start, src);
     }
 
@@ -110,7 +164,14 @@ impl Pages {
         requires there { at + n ≤ length self.old.bytes }
         ensures { self.new ≡ written_at self.old at (replicate n byte) }
     {
-        let start = offset_made(&mut self.index, &mut self.store, at as usize);
+        let start = offset_to_write(
+            &mut self.index,
+            &mut self.writes,
+            &mut self.store,
+            &mut self.code,
+            at as usize,
+            n,
+        );
         fill_in(&mut self.store, start, n, byte);
     }
 

@@ -1,14 +1,18 @@
 //! RAM.
 
-ghost use Rattle.std.specs.Prelude.{◌≡◌, ◌<◌, ◌≤◌, ◌+◌, ◌^◌, ◌==◌, ◌↔◌, IsTrue, IsOk, IfOk, IfSome, if◌then◌else◌, length, take, position, replicate};
+ghost use Rattle.std.specs.Prelude.{◌≡◌, ◌<◌, ◌≤◌, ◌+◌, ◌^◌, ◌==◌, ◌↔◌, IsTrue, IsOk, IfOk, IfSome, if◌then◌else◌, length, take, position, replicate, None, Some, ◌%◌};
 ghost use Rattle.wind_base.specs.Limits.{longest_string};
 ghost use Rattle.board_mem.specs.Memory.{has, read, written, number_at, bytes_at, with_bytes, with_number, string_length, string_at, string_over};
+ghost use Rattle.board_mem.specs.Code.{page_words, AreWords};
 ghost use Rattle.board_mem.specs.Pages.{unmade, made_by};
+ghost use Rattle.ppc_word.specs.Rows.{row_of};
+ghost use Rattle.std.specs.Option.{option_map, option_and_then};
 
 use crate::outside::Outside;
 use crate::pages::{Pages, left_in_page};
 use crate::ram_string::{RamString, STRING_ROOM};
 use byteorder::{BigEndian, ByteOrder};
+use ppc_word::{Decoded, decode_word};
 use std::alloc::Global;
 use std::marker::Model;
 use wind_base::NoMemory;
@@ -125,6 +129,36 @@ impl Ram {
         let mut bytes = [0; 4];
         self.pages.get_across(addr, &mut bytes);
         BigEndian::read_u32(&bytes)
+    }
+
+    /// The decoded words of a page, in order: 1,024, or none. An entry is empty if its word isn't
+    /// decoded. What is decoded isn't part of what a contract sees of RAM, and each write drops what
+    /// it changes.
+    #[inline(always)]
+    pub fn code_of(&self, page: u32) -> &[Decoded]
+        ensures words { AreWords result.now self.now.bytes page }
+        ensures most { length result.now ≤ page_words }
+    {
+        self.pages.code_of(page)
+    }
+
+    /// The decoded word at an address, which is kept for `code_of`. None if the address isn't a
+    /// multiple of 4, if a byte of the word is outside RAM, or if the word is no instruction's.
+    #[cold]
+    #[inline(never)]
+    pub fn decode_at(&mut self, addr: u32) -> Option<Decoded>
+        ensures same { self.new ≡ self.old }
+        ensures word { IfSome result (λ d. read 4 self.old.bytes addr ≡ Some d.word) }
+        ensures row { option_map (λ d. d.row) result
+            ≡ (if addr % 4 == 0 then option_and_then row_of (read 4 self.old.bytes addr) else None) }
+    {
+        if addr % 4 != 0 {
+            return None;
+        }
+        let word = self.read32(addr)?;
+        let decoded = decode_word(word)?;
+        self.pages.keep_decoded(addr, decoded);
+        Some(decoded)
     }
 
     /// Writes the low byte of `v` at an address. `Outside` if it is outside RAM; then nothing

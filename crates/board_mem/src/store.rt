@@ -1,12 +1,15 @@
 //! The store of the pages, and the number that each page of addresses has in it.
 
-ghost use Rattle.std.specs.Prelude.{◌≡◌, ◌+◌, ◌<◌, ◌≤◌, length, replicate, slice_index, vec_capacity};
+ghost use Rattle.std.specs.Prelude.{◌≡◌, ◌+◌, ◌%◌, ◌<◌, ◌≤◌, ℕ, List, length, replicate, slice_index, vec_capacity};
 ghost use Rattle.board_mem.specs.Memory.{with_bytes};
-ghost use Rattle.board_mem.specs.Pages.{page_of};
+ghost use Rattle.board_mem.specs.Code.{AreDecoded, AreSlots, AreWritable, SameElsewhere};
+ghost use Rattle.board_mem.specs.Pages.{page_of, page_bytes};
 ghost use Rattle.board_mem.specs.Store.{AreStored, IsMade, offset_of};
 
+use crate::code::CodePages;
+
 /// The size of a page in bytes.
-pub(crate) const PAGE: usize = 4_096;
+pub const PAGE: usize = 4_096;
 
 // Creates a page: appends a page of zeros to the store, and returns its number.
 #[cold]
@@ -42,15 +45,115 @@ fn number_made(index: &mut [u32], store: &mut Vec<u8>, page: usize) -> usize
     make(index, store, page)
 }
 
-/// The index in the store of the byte at an address. Its page is created if it wasn't yet.
-#[inline(always)]
-pub(crate) fn offset_made(index: &mut [u32], store: &mut Vec<u8>, at: usize) -> usize
+// Gives the writers the number of a page again, unless the page has a slot.
+fn renew_number(index: &[u32], writes: &mut [u32], slots: &[u8], page: usize)
+    requires writable { AreWritable index.now writes.old slots.now }
+    requires there { page < length index.now }
+    ensures { AreWritable index.now writes.new slots.now }
+{
+    if slots[page] == 0 {
+        writes[page] = index[page];
+    }
+}
+
+// The number of a page that writers have no number for: the page is created if it wasn't yet, and
+// the decoded words that the `n` bytes from an address on are in are dropped.
+#[cold]
+#[inline(never)]
+fn number_looked_up(
+    index: &mut [u32],
+    writes: &mut [u32],
+    store: &mut Vec<u8>,
+    code: &mut CodePages,
+    at: usize,
+    n: usize,
+) -> usize
     requires stored { AreStored index.old store.old.items (vec_capacity store.old) }
     requires there { page_of at < length index.old }
+    requires some { 0 < n }
+    requires whole { at % page_bytes + n ≤ page_bytes }
+    requires writable { AreWritable index.old writes.old code.old.slots.items }
+    requires slotted { AreSlots code.old.slots.items code.old.owners.items code.old.entries.items code.old.used
+        code.old.oldest (vec_capacity code.old.entries) }
+    ensures made { IsMade index.old store.old.items index.new store.new.items (vec_capacity store.new) (page_of at) }
+    ensures number { slice_index index.new (page_of at) ≡ result }
+    ensures writable { AreWritable index.new writes.new code.new.slots.items }
+    ensures slotted { AreSlots code.new.slots.items code.new.owners.items code.new.entries.items code.new.used
+        code.new.oldest (vec_capacity code.new.entries) }
+    ensures decoded { (before after : List ℕ) → SameElsewhere before after at n
+        → AreDecoded code.old.slots.items code.old.entries.items before
+        → AreDecoded code.new.slots.items code.new.entries.items after }
+{
+    let page = at / PAGE;
+    code.drop_words(at, n);
+    let number = number_made(index, store, page);
+    renew_number(index, writes, &code.slots, page);
+    number
+}
+
+// The number of the page of the `n` bytes from an address on, which are written next. The page is
+// created if it wasn't yet, and the decoded words that the bytes are in are dropped.
+#[inline(always)]
+fn number_to_write(
+    index: &mut [u32],
+    writes: &mut [u32],
+    store: &mut Vec<u8>,
+    code: &mut CodePages,
+    at: usize,
+    n: usize,
+) -> usize
+    requires stored { AreStored index.old store.old.items (vec_capacity store.old) }
+    requires there { page_of at < length index.old }
+    requires some { 0 < n }
+    requires whole { at % page_bytes + n ≤ page_bytes }
+    requires writable { AreWritable index.old writes.old code.old.slots.items }
+    requires slotted { AreSlots code.old.slots.items code.old.owners.items code.old.entries.items code.old.used
+        code.old.oldest (vec_capacity code.old.entries) }
+    ensures made { IsMade index.old store.old.items index.new store.new.items (vec_capacity store.new) (page_of at) }
+    ensures number { slice_index index.new (page_of at) ≡ result }
+    ensures writable { AreWritable index.new writes.new code.new.slots.items }
+    ensures slotted { AreSlots code.new.slots.items code.new.owners.items code.new.entries.items code.new.used
+        code.new.oldest (vec_capacity code.new.entries) }
+    ensures decoded { (before after : List ℕ) → SameElsewhere before after at n
+        → AreDecoded code.old.slots.items code.old.entries.items before
+        → AreDecoded code.new.slots.items code.new.entries.items after }
+{
+    let number = writes[at / PAGE] as usize;
+    if number != 0 {
+        return number;
+    }
+    number_looked_up(index, writes, store, code, at, n)
+}
+
+/// The index in the store of the byte at an address, from which on `n` bytes are written next, all
+/// in one page. The page is created if it wasn't yet, and the decoded words that the bytes are in
+/// are dropped.
+#[inline(always)]
+pub(crate) fn offset_to_write(
+    index: &mut [u32],
+    writes: &mut [u32],
+    store: &mut Vec<u8>,
+    code: &mut CodePages,
+    at: usize,
+    n: usize,
+) -> usize
+    requires stored { AreStored index.old store.old.items (vec_capacity store.old) }
+    requires there { page_of at < length index.old }
+    requires some { 0 < n }
+    requires whole { at % page_bytes + n ≤ page_bytes }
+    requires writable { AreWritable index.old writes.old code.old.slots.items }
+    requires slotted { AreSlots code.old.slots.items code.old.owners.items code.old.entries.items code.old.used
+        code.old.oldest (vec_capacity code.old.entries) }
     ensures made { IsMade index.old store.old.items index.new store.new.items (vec_capacity store.new) (page_of at) }
     ensures offset { result ≡ offset_of index.new at }
+    ensures writable { AreWritable index.new writes.new code.new.slots.items }
+    ensures slotted { AreSlots code.new.slots.items code.new.owners.items code.new.entries.items code.new.used
+        code.new.oldest (vec_capacity code.new.entries) }
+    ensures decoded { (before after : List ℕ) → SameElsewhere before after at n
+        → AreDecoded code.old.slots.items code.old.entries.items before
+        → AreDecoded code.new.slots.items code.new.entries.items after }
 {
-    number_made(index, store, at / PAGE) * PAGE + at % PAGE
+    number_to_write(index, writes, store, code, at, n) * PAGE + at % PAGE
 }
 
 /// The index in the store of the byte at an address.

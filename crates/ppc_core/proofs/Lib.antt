@@ -7,3 +7,4 @@ pub mod Agreeing
 pub mod SameEffect
 pub mod CrFields
 pub mod ManyWords
+pub mod Beside

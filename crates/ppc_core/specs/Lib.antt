@@ -8,6 +8,7 @@ pub mod Logic
 pub mod Conditions
 pub mod Branches
 pub mod Storage
+pub mod Stepping
 pub mod Multiples
 pub mod Instructions
 pub mod Names

@@ -5,14 +5,7 @@ use Rattle.wind_base.specs.declared.regs.Regs.{Regs}
 use Rattle.ppc_core.specs.Words.{bits, bit, complement}
 use Rattle.ppc_core.specs.Fields.{ra, mb, me}
 use Rattle.ppc_core.specs.Registers.{in_rs, in_rb, with_ca, with_result}
-
--- the word with ones in bits `first` to `last`, and zeros elsewhere
-abbrev pub ones : ℕ → ℕ → ℕ
-ones first last = 2 ^ (32 - first) - 2 ^ (31 - last)
-
--- the same, but the bits wrap around from 31 to 0
-abbrev pub mask : ℕ → ℕ → ℕ
-mask first last = if nat_le first last then ones first last else complement (ones (last + 1) (first - 1))
+pub use Rattle.ppc_word.specs.Bits.{ones, mask}
 
 -- the mask from MB to ME
 abbrev pub mask_of : ℕ → ℕ

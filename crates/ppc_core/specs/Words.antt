@@ -1,23 +1,12 @@
 -- Words are numbers below 2 ^ 32. Their bits are numbered from the most significant, which is bit 0 (Book I 1.3.2).
 use Rattle.std.specs.Prelude.{ℕ, ◌+◌, ◌-◌, ◌*◌, ◌/◌, ◌%◌, ◌^◌, Bool, ◌&&◌, nat_lt, if◌then◌else◌, ℤ, pos, negsuc, int_le, int_lt}
 use Rattle.std.specs.Int.{cast_signed, w32}
-
--- the number in bits `first` to `last` of a word
-abbrev pub bits : ℕ → ℕ → ℕ → ℕ
-bits word first last = word / 2 ^ (31 - last) % 2 ^ (last + 1 - first)
+pub use Rattle.ppc_word.specs.Bits.{bits, complement, sign_extended}
 
 -- the word with another number in bits `first` to `last`; the bits before and after them stay
 abbrev pub with_bits : ℕ → ℕ → ℕ → ℕ → ℕ
 with_bits word first last value =
     word / 2 ^ (32 - first) * 2 ^ (32 - first) + value * 2 ^ (31 - last) + word % 2 ^ (31 - last)
-
--- a word with every bit inverted
-abbrev pub complement : ℕ → ℕ
-complement word = 2 ^ 32 - 1 - word
-
--- a number of the given number of bits, sign-extended to a word
-abbrev pub sign_extended : ℕ → ℕ → ℕ
-sign_extended width n = if nat_lt n (2 ^ (width - 1)) then n else n + (2 ^ 32 - 2 ^ width)
 
 -- a word, read as signed
 abbrev pub signed : ℕ → ℤ

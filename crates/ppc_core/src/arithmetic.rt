@@ -5,7 +5,8 @@ ghost use Rattle.ppc_core.specs.Words.{signed};
 ghost use Rattle.ppc_core.specs.Arithmetic as arithmetic;
 
 use crate::words::{is_word, signed_of};
-use crate::{fields, registers};
+use crate::{operands, registers};
+use ppc_word::Decoded;
 use wind_base::Regs;
 
 /// The low 32 bits of the sum of two words and a carry.
@@ -38,33 +39,33 @@ fn overflows(x: u32, y: u32, c: u32) -> bool
 /// Sets RT to a sum, and CA to its carry.
 #[tactic(auto, unfolding(crate::specs::Arithmetic::with_carrying))]
 #[inline(always)]
-pub fn set_carrying(x: u32, y: u32, c: u32, regs: &mut Regs, word: u32)
+pub fn set_carrying(x: u32, y: u32, c: u32, regs: &mut Regs, insn: Decoded)
     requires { c < 2 }
-    ensures { regs.new ≡ arithmetic.with_carrying regs.old word x y c }
+    ensures { regs.new ≡ arithmetic.with_carrying regs.old insn.word x y c }
 {
     registers::set_ca(carry_of(x, y, c), regs);
-    registers::write(fields::rt(word), sum_of(x, y, c), regs);
+    registers::write(operands::rt(insn), sum_of(x, y, c), regs);
 }
 
 /// Sets RT to a sum; OE and Rc are respected.
 #[tactic(auto, unfolding(crate::specs::Arithmetic::with_sum))]
 #[inline(always)]
-pub fn set_sum(x: u32, y: u32, c: u32, regs: &mut Regs, word: u32)
+pub fn set_sum(x: u32, y: u32, c: u32, regs: &mut Regs, insn: Decoded)
     requires { c < 2 }
-    ensures { regs.new ≡ arithmetic.with_sum regs.old word x y c }
+    ensures { regs.new ≡ arithmetic.with_sum regs.old insn.word x y c }
 {
-    registers::set_checked_result(sum_of(x, y, c), overflows(x, y, c), regs, word);
+    registers::set_checked_result(sum_of(x, y, c), overflows(x, y, c), regs, insn);
 }
 
 /// Sets RT to a sum and CA to its carry; OE and Rc are respected.
 #[tactic(auto, unfolding(crate::specs::Arithmetic::with_sum_carrying))]
 #[inline(always)]
-pub fn set_sum_carrying(x: u32, y: u32, c: u32, regs: &mut Regs, word: u32)
+pub fn set_sum_carrying(x: u32, y: u32, c: u32, regs: &mut Regs, insn: Decoded)
     requires { c < 2 }
-    ensures { regs.new ≡ arithmetic.with_sum_carrying regs.old word x y c }
+    ensures { regs.new ≡ arithmetic.with_sum_carrying regs.old insn.word x y c }
 {
     registers::set_ca(carry_of(x, y, c), regs);
-    set_sum(x, y, c, regs, word);
+    set_sum(x, y, c, regs, insn);
 }
 
 /// The product of two words, read as signed.
@@ -117,19 +118,19 @@ fn product_overflows(x: u32, y: u32) -> bool
 
 /// Sets RT to the low word of a product; OE and Rc are respected.
 #[inline(always)]
-pub fn set_product(x: u32, y: u32, regs: &mut Regs, word: u32)
-    ensures { regs.new ≡ arithmetic.with_product regs.old word x y }
+pub fn set_product(x: u32, y: u32, regs: &mut Regs, insn: Decoded)
+    ensures { regs.new ≡ arithmetic.with_product regs.old insn.word x y }
 {
-    registers::set_checked_result(low_signed(x, y), product_overflows(x, y), regs, word);
+    registers::set_checked_result(low_signed(x, y), product_overflows(x, y), regs, insn);
 }
 
 /// Sets RT to an unsigned quotient; OE and Rc are respected. A quotient by 0 is 0, and overflows.
 #[inline(always)]
-pub fn set_quotient(x: u32, y: u32, regs: &mut Regs, word: u32)
-    ensures { regs.new ≡ arithmetic.with_quotient regs.old word x y }
+pub fn set_quotient(x: u32, y: u32, regs: &mut Regs, insn: Decoded)
+    ensures { regs.new ≡ arithmetic.with_quotient regs.old insn.word x y }
 {
     let value = if y == 0 { 0 } else { x / y };
-    registers::set_checked_result(value, y == 0, regs, word);
+    registers::set_checked_result(value, y == 0, regs, insn);
 }
 
 /// Whether two words, read as signed, have no quotient that fits a word.
@@ -153,8 +154,8 @@ fn signed_quotient(x: u32, y: u32) -> u32
 
 /// Sets RT to the quotient of two words, read as signed; OE and Rc are respected.
 #[inline(always)]
-pub fn set_signed_quotient(x: u32, y: u32, regs: &mut Regs, word: u32)
-    ensures { regs.new ≡ arithmetic.with_signed_quotient regs.old word x y }
+pub fn set_signed_quotient(x: u32, y: u32, regs: &mut Regs, insn: Decoded)
+    ensures { regs.new ≡ arithmetic.with_signed_quotient regs.old insn.word x y }
 {
-    registers::set_checked_result(signed_quotient(x, y), has_no_quotient(x, y), regs, word);
+    registers::set_checked_result(signed_quotient(x, y), has_no_quotient(x, y), regs, insn);
 }

@@ -4,72 +4,73 @@ ghost use Rattle.std.specs.Prelude.{◌≡◌, ◌<◌, ◌&&◌, ◌==◌};
 ghost use Rattle.ppc_core.specs.Words.{bits};
 ghost use Rattle.ppc_core.specs.Conditions as condition;
 
-use crate::words::{bits_of, set_bits, signed_of};
-use crate::{fields, registers};
+use crate::words::{set_bits, signed_of};
+use crate::{operands, registers};
+use ppc_word::{Decoded, bits_of, fields};
 use wind_base::Regs;
 
 /// Sets CR field BF to the result of a signed comparison of two words.
 #[tactic(auto, unfolding(crate::specs::Conditions::with_signed_order))]
 #[inline(always)]
-pub fn compare_signed(x: u32, y: u32, regs: &mut Regs, word: u32)
-    ensures { regs.new ≡ condition.with_signed_order regs.old word x y }
+pub fn compare_signed(x: u32, y: u32, regs: &mut Regs, insn: Decoded)
+    ensures { regs.new ≡ condition.with_signed_order regs.old insn.word x y }
 {
     let (p, q) = (signed_of(x), signed_of(y));
     let order = registers::order_of(p < q, q < p, registers::so(regs));
-    registers::set_cr_field(fields::bf(word), order, regs);
+    registers::set_cr_field(fields::bf(insn.word), order, regs);
 }
 
 /// Sets CR field BF to the result of an unsigned comparison of two words.
 #[tactic(auto, unfolding(crate::specs::Conditions::with_order))]
 #[inline(always)]
-pub fn compare(x: u32, y: u32, regs: &mut Regs, word: u32)
-    ensures { regs.new ≡ condition.with_order regs.old word x y }
+pub fn compare(x: u32, y: u32, regs: &mut Regs, insn: Decoded)
+    ensures { regs.new ≡ condition.with_order regs.old insn.word x y }
 {
     let order = registers::order_of(x < y, y < x, registers::so(regs));
-    registers::set_cr_field(fields::bf(word), order, regs);
+    registers::set_cr_field(fields::bf(insn.word), order, regs);
 }
 
 /// Whether a bit of TO is set and its relation holds.
 #[inline(always)]
-fn holds(word: u32, at: u8, relation: bool) -> bool
+fn holds(insn: Decoded, at: u8, relation: bool) -> bool
     requires { at < 32 }
-    ensures { result ≡ (bits word at at == 1 && relation) }
+    ensures { result ≡ (bits insn.word at at == 1 && relation) }
 {
-    bits_of(word, at, at) == 1 && relation
+    bits_of(insn.word, at, at) == 1 && relation
 }
 
 /// Whether a bit of TO is set and its relation holds for two words.
 #[tactic(auto, unfolding(crate::specs::Conditions::traps))]
 #[inline(always)]
-pub fn is_trapped(x: u32, y: u32, word: u32) -> bool
-    ensures { result ≡ condition.traps word x y }
+pub fn is_trapped(x: u32, y: u32, insn: Decoded) -> bool
+    ensures { result ≡ condition.traps insn.word x y }
 {
     let (p, q) = (signed_of(x), signed_of(y));
-    let less = holds(word, 6, p < q);
-    let greater = holds(word, 7, q < p);
-    let equal = holds(word, 8, x == y);
-    let below = holds(word, 9, x < y);
-    let above = holds(word, 10, y < x);
+    let less = holds(insn, 6, p < q);
+    let greater = holds(insn, 7, q < p);
+    let equal = holds(insn, 8, x == y);
+    let below = holds(insn, 9, x < y);
+    let above = holds(insn, 10, y < x);
     less | greater | equal | below | above
 }
 
 /// CR bit BA.
 #[inline(always)]
-pub fn in_ba(regs: &Regs, word: u32) -> u32
-    ensures is { result ≡ condition.in_ba regs.now word }
+pub fn in_ba(regs: &Regs, insn: Decoded) -> u32
+    ensures is { result ≡ condition.in_ba regs.now insn.word }
     ensures below { result < 2 }
 {
-    let n = fields::ra(word) as u8;
+    let n = operands::ra(insn) as u8;
     bits_of(regs.cr, n, n)
 }
 
 /// CR bit BB.
 #[inline(always)]
-pub fn in_bb(regs: &Regs, word: u32) -> u32
-    ensures is { result ≡ condition.in_bb regs.now word }
+pub fn in_bb(regs: &Regs, insn: Decoded) -> u32
+    ensures is { result ≡ condition.in_bb regs.now insn.word }
     ensures below { result < 2 }
 {
-    let n = fields::rb(word) as u8;
+    let n = operands::rb(insn) as u8;
     bits_of(regs.cr, n, n)
 }
 
@@ -86,11 +87,11 @@ pub fn invert(bit: u32) -> u32
 /// Sets CR bit BT.
 #[tactic(auto, unfolding(crate::specs::Conditions::with_bt))]
 #[inline(always)]
-pub fn set_bt(value: u32, regs: &mut Regs, word: u32)
+pub fn set_bt(value: u32, regs: &mut Regs, insn: Decoded)
     requires { value < 2 }
-    ensures { regs.new ≡ condition.with_bt regs.old word value }
+    ensures { regs.new ≡ condition.with_bt regs.old insn.word value }
 {
-    let n = fields::rt(word) as u8;
+    let n = operands::rt(insn) as u8;
     regs.cr = set_bits(regs.cr, n, n, value);
 }
 
@@ -114,12 +115,12 @@ pub fn flags(regs: &Regs) -> u32
 }
 
 /// The condition register after the fields named by FXM are taken from a word.
-pub fn moved(cr: u32, s: u32, word: u32) -> u32
-    ensures { result ≡ condition.moved_fields cr s word 8 }
+pub fn moved(cr: u32, s: u32, insn: Decoded) -> u32
+    ensures { result ≡ condition.moved_fields cr s insn.word 8 }
 {
     let mut made = cr;
     for k in 0..8u8 {
-        if fields::fxm(word, k) == 1 {
+        if fields::fxm(insn.word, k) == 1 {
             made = set_bits(made, 4 * k, 4 * k + 3, bits_of(s, 4 * k, 4 * k + 3));
         }
     }

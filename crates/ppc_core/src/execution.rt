@@ -7,15 +7,15 @@ use crate::arithmetic::{set_carrying, set_signed_quotient, set_sum, set_sum_carr
 use crate::branch::from_here;
 use crate::bus::Bus;
 use crate::condition::{in_ba, in_bb, invert, is_trapped};
-use crate::fields::{bd, bf, bfa, high_ui, li, ra, rb, rt, si, spr, ui};
 use crate::logic::{mask_of, rotate};
 use crate::multiple::{Direction, transfer};
+use crate::operands::{ra, rb, rt};
 use crate::registers::{ca, in_ra, in_ra_or_0, in_rb, in_rs, set_ra};
 use crate::storage::{Address, Load, Store, indexed, load_rt, offset, store_rs};
 use crate::trap::Trap;
-use crate::words::{bits_of, extend_sign};
 use crate::{arithmetic, branch, condition, logic, multiple, registers};
-use ppc_word::{Row, row_for};
+use ppc_word::fields::{bd, bf, bfa, high_ui, li, si, spr, ui};
+use ppc_word::{Decoded, Row, bits_of, decode_once, extend_sign};
 use wind_base::Regs;
 
 /// Traps if `trapped` is set, and otherwise goes to the next instruction.
@@ -35,190 +35,190 @@ fn trap_if<B: Bus>(trapped: bool, regs: &mut Regs, bus: &mut B) -> Result<(), Tr
 /// it, this is a single jump. It is too large for the toolchain to inline.
 #[tactic(auto, using(crate::proofs::Bounds::or_of_bits), unfolding(crate::specs::Instructions::effect_of))]
 #[inline(never)]
-fn run<B: Bus>(row: Row, regs: &mut Regs, word: u32, bus: &mut B) -> Result<(), Trap>
-    ensures { Leaves (effect_of B.meaning row regs.old word (B.held bus.old))
+fn run<B: Bus>(row: Row, regs: &mut Regs, insn: Decoded, bus: &mut B) -> Result<(), Trap>
+    ensures { Leaves (effect_of B.meaning row regs.old insn.word (B.held bus.old))
         regs.old (B.held bus.old) regs.new (B.held bus.new) result }
 {
     match row {
         // Branches and system call.
         Row::B => {
-            branch::go(true, from_here(li(word), regs, word), regs, word);
+            branch::go(true, from_here(li(insn.word), regs, insn), regs, insn);
             return Ok(());
         }
         Row::Bc => {
-            branch::test_and_go(from_here(bd(word), regs, word), regs, word);
+            branch::test_and_go(from_here(bd(insn.word), regs, insn), regs, insn);
             return Ok(());
         }
         Row::Bclr => {
-            branch::test_and_go(regs.lr, regs, word);
+            branch::test_and_go(regs.lr, regs, insn);
             return Ok(());
         }
         Row::Bcctr => {
-            branch::test_and_go(regs.ctr, regs, word);
+            branch::test_and_go(regs.ctr, regs, insn);
             return Ok(());
         }
         Row::Sc => return Err(Trap::Sysc),
         // Condition register.
-        Row::Crand => condition::set_bt(in_ba(regs, word) & in_bb(regs, word), regs, word),
-        Row::Cror => condition::set_bt(in_ba(regs, word) | in_bb(regs, word), regs, word),
-        Row::Crxor => condition::set_bt(in_ba(regs, word) ^ in_bb(regs, word), regs, word),
-        Row::Crnand => condition::set_bt(invert(in_ba(regs, word) & in_bb(regs, word)), regs, word),
-        Row::Crnor => condition::set_bt(invert(in_ba(regs, word) | in_bb(regs, word)), regs, word),
-        Row::Creqv => condition::set_bt(invert(in_ba(regs, word) ^ in_bb(regs, word)), regs, word),
-        Row::Crandc => condition::set_bt(in_ba(regs, word) & invert(in_bb(regs, word)), regs, word),
-        Row::Crorc => condition::set_bt(in_ba(regs, word) | invert(in_bb(regs, word)), regs, word),
+        Row::Crand => condition::set_bt(in_ba(regs, insn) & in_bb(regs, insn), regs, insn),
+        Row::Cror => condition::set_bt(in_ba(regs, insn) | in_bb(regs, insn), regs, insn),
+        Row::Crxor => condition::set_bt(in_ba(regs, insn) ^ in_bb(regs, insn), regs, insn),
+        Row::Crnand => condition::set_bt(invert(in_ba(regs, insn) & in_bb(regs, insn)), regs, insn),
+        Row::Crnor => condition::set_bt(invert(in_ba(regs, insn) | in_bb(regs, insn)), regs, insn),
+        Row::Creqv => condition::set_bt(invert(in_ba(regs, insn) ^ in_bb(regs, insn)), regs, insn),
+        Row::Crandc => condition::set_bt(in_ba(regs, insn) & invert(in_bb(regs, insn)), regs, insn),
+        Row::Crorc => condition::set_bt(in_ba(regs, insn) | invert(in_bb(regs, insn)), regs, insn),
         Row::Mcrf => {
-            let value = condition::cr_field(regs, bfa(word));
-            registers::set_cr_field(bf(word), value, regs);
+            let value = condition::cr_field(regs, bfa(insn.word));
+            registers::set_cr_field(bf(insn.word), value, regs);
         }
         // Loads and stores.
-        Row::Lbz => return load_rt(Load::Byte, Address::Offset, regs, word, bus),
-        Row::Lbzx => return load_rt(Load::Byte, Address::Indexed, regs, word, bus),
-        Row::Lbzu => return load_rt(Load::Byte, Address::OffsetUpdate, regs, word, bus),
-        Row::Lbzux => return load_rt(Load::Byte, Address::IndexedUpdate, regs, word, bus),
-        Row::Lhz => return load_rt(Load::Half, Address::Offset, regs, word, bus),
-        Row::Lhzx => return load_rt(Load::Half, Address::Indexed, regs, word, bus),
-        Row::Lhzu => return load_rt(Load::Half, Address::OffsetUpdate, regs, word, bus),
-        Row::Lhzux => return load_rt(Load::Half, Address::IndexedUpdate, regs, word, bus),
-        Row::Lha => return load_rt(Load::HalfSigned, Address::Offset, regs, word, bus),
-        Row::Lhax => return load_rt(Load::HalfSigned, Address::Indexed, regs, word, bus),
-        Row::Lhau => return load_rt(Load::HalfSigned, Address::OffsetUpdate, regs, word, bus),
-        Row::Lhaux => return load_rt(Load::HalfSigned, Address::IndexedUpdate, regs, word, bus),
-        Row::Lwz => return load_rt(Load::Word, Address::Offset, regs, word, bus),
-        Row::Lwzx => return load_rt(Load::Word, Address::Indexed, regs, word, bus),
-        Row::Lwzu => return load_rt(Load::Word, Address::OffsetUpdate, regs, word, bus),
-        Row::Lwzux => return load_rt(Load::Word, Address::IndexedUpdate, regs, word, bus),
-        Row::Stb => return store_rs(Store::Byte, Address::Offset, regs, word, bus),
-        Row::Stbx => return store_rs(Store::Byte, Address::Indexed, regs, word, bus),
-        Row::Stbu => return store_rs(Store::Byte, Address::OffsetUpdate, regs, word, bus),
-        Row::Stbux => return store_rs(Store::Byte, Address::IndexedUpdate, regs, word, bus),
-        Row::Sth => return store_rs(Store::Half, Address::Offset, regs, word, bus),
-        Row::Sthx => return store_rs(Store::Half, Address::Indexed, regs, word, bus),
-        Row::Sthu => return store_rs(Store::Half, Address::OffsetUpdate, regs, word, bus),
-        Row::Sthux => return store_rs(Store::Half, Address::IndexedUpdate, regs, word, bus),
-        Row::Stw => return store_rs(Store::Word, Address::Offset, regs, word, bus),
-        Row::Stwx => return store_rs(Store::Word, Address::Indexed, regs, word, bus),
-        Row::Stwu => return store_rs(Store::Word, Address::OffsetUpdate, regs, word, bus),
-        Row::Stwux => return store_rs(Store::Word, Address::IndexedUpdate, regs, word, bus),
-        Row::Lhbrx => return load_rt(Load::HalfReversed, Address::Indexed, regs, word, bus),
-        Row::Lwbrx => return load_rt(Load::WordReversed, Address::Indexed, regs, word, bus),
-        Row::Sthbrx => return store_rs(Store::HalfReversed, Address::Indexed, regs, word, bus),
-        Row::Stwbrx => return store_rs(Store::WordReversed, Address::Indexed, regs, word, bus),
-        Row::Lmw => return transfer(Direction::Load, offset(regs, word), regs, word, bus),
-        Row::Stmw => return transfer(Direction::Store, offset(regs, word), regs, word, bus),
+        Row::Lbz => return load_rt(Load::Byte, Address::Offset, regs, insn, bus),
+        Row::Lbzx => return load_rt(Load::Byte, Address::Indexed, regs, insn, bus),
+        Row::Lbzu => return load_rt(Load::Byte, Address::OffsetUpdate, regs, insn, bus),
+        Row::Lbzux => return load_rt(Load::Byte, Address::IndexedUpdate, regs, insn, bus),
+        Row::Lhz => return load_rt(Load::Half, Address::Offset, regs, insn, bus),
+        Row::Lhzx => return load_rt(Load::Half, Address::Indexed, regs, insn, bus),
+        Row::Lhzu => return load_rt(Load::Half, Address::OffsetUpdate, regs, insn, bus),
+        Row::Lhzux => return load_rt(Load::Half, Address::IndexedUpdate, regs, insn, bus),
+        Row::Lha => return load_rt(Load::HalfSigned, Address::Offset, regs, insn, bus),
+        Row::Lhax => return load_rt(Load::HalfSigned, Address::Indexed, regs, insn, bus),
+        Row::Lhau => return load_rt(Load::HalfSigned, Address::OffsetUpdate, regs, insn, bus),
+        Row::Lhaux => return load_rt(Load::HalfSigned, Address::IndexedUpdate, regs, insn, bus),
+        Row::Lwz => return load_rt(Load::Word, Address::Offset, regs, insn, bus),
+        Row::Lwzx => return load_rt(Load::Word, Address::Indexed, regs, insn, bus),
+        Row::Lwzu => return load_rt(Load::Word, Address::OffsetUpdate, regs, insn, bus),
+        Row::Lwzux => return load_rt(Load::Word, Address::IndexedUpdate, regs, insn, bus),
+        Row::Stb => return store_rs(Store::Byte, Address::Offset, regs, insn, bus),
+        Row::Stbx => return store_rs(Store::Byte, Address::Indexed, regs, insn, bus),
+        Row::Stbu => return store_rs(Store::Byte, Address::OffsetUpdate, regs, insn, bus),
+        Row::Stbux => return store_rs(Store::Byte, Address::IndexedUpdate, regs, insn, bus),
+        Row::Sth => return store_rs(Store::Half, Address::Offset, regs, insn, bus),
+        Row::Sthx => return store_rs(Store::Half, Address::Indexed, regs, insn, bus),
+        Row::Sthu => return store_rs(Store::Half, Address::OffsetUpdate, regs, insn, bus),
+        Row::Sthux => return store_rs(Store::Half, Address::IndexedUpdate, regs, insn, bus),
+        Row::Stw => return store_rs(Store::Word, Address::Offset, regs, insn, bus),
+        Row::Stwx => return store_rs(Store::Word, Address::Indexed, regs, insn, bus),
+        Row::Stwu => return store_rs(Store::Word, Address::OffsetUpdate, regs, insn, bus),
+        Row::Stwux => return store_rs(Store::Word, Address::IndexedUpdate, regs, insn, bus),
+        Row::Lhbrx => return load_rt(Load::HalfReversed, Address::Indexed, regs, insn, bus),
+        Row::Lwbrx => return load_rt(Load::WordReversed, Address::Indexed, regs, insn, bus),
+        Row::Sthbrx => return store_rs(Store::HalfReversed, Address::Indexed, regs, insn, bus),
+        Row::Stwbrx => return store_rs(Store::WordReversed, Address::Indexed, regs, insn, bus),
+        Row::Lmw => return transfer(Direction::Load, offset(regs, insn), regs, insn, bus),
+        Row::Stmw => return transfer(Direction::Store, offset(regs, insn), regs, insn, bus),
         // Sums.
         Row::Addi => {
-            let value = arithmetic::sum_of(in_ra_or_0(regs, word), si(word), 0);
-            registers::write(rt(word), value, regs);
+            let value = arithmetic::sum_of(in_ra_or_0(regs, insn), si(insn.word), 0);
+            registers::write(rt(insn), value, regs);
         }
         Row::Addis => {
-            let value = arithmetic::sum_of(in_ra_or_0(regs, word), high_ui(word), 0);
-            registers::write(rt(word), value, regs);
+            let value = arithmetic::sum_of(in_ra_or_0(regs, insn), high_ui(insn.word), 0);
+            registers::write(rt(insn), value, regs);
         }
-        Row::Addic => set_carrying(in_ra(regs, word), si(word), 0, regs, word),
+        Row::Addic => set_carrying(in_ra(regs, insn), si(insn.word), 0, regs, insn),
         Row::AddicDot => {
-            let a = in_ra(regs, word);
-            set_carrying(a, si(word), 0, regs, word);
-            registers::set_cr0(arithmetic::sum_of(a, si(word), 0), regs);
+            let a = in_ra(regs, insn);
+            set_carrying(a, si(insn.word), 0, regs, insn);
+            registers::set_cr0(arithmetic::sum_of(a, si(insn.word), 0), regs);
         }
-        Row::Subfic => set_carrying(!in_ra(regs, word), si(word), 1, regs, word),
-        Row::Add => set_sum(in_ra(regs, word), in_rb(regs, word), 0, regs, word),
-        Row::Subf => set_sum(!in_ra(regs, word), in_rb(regs, word), 1, regs, word),
-        Row::Neg => set_sum(!in_ra(regs, word), 0, 1, regs, word),
-        Row::Addc => set_sum_carrying(in_ra(regs, word), in_rb(regs, word), 0, regs, word),
-        Row::Subfc => set_sum_carrying(!in_ra(regs, word), in_rb(regs, word), 1, regs, word),
-        Row::Adde => set_sum_carrying(in_ra(regs, word), in_rb(regs, word), ca(regs), regs, word),
-        Row::Subfe => set_sum_carrying(!in_ra(regs, word), in_rb(regs, word), ca(regs), regs, word),
-        Row::Addme => set_sum_carrying(in_ra(regs, word), 0xffff_ffff, ca(regs), regs, word),
-        Row::Subfme => set_sum_carrying(!in_ra(regs, word), 0xffff_ffff, ca(regs), regs, word),
-        Row::Addze => set_sum_carrying(in_ra(regs, word), 0, ca(regs), regs, word),
-        Row::Subfze => set_sum_carrying(!in_ra(regs, word), 0, ca(regs), regs, word),
+        Row::Subfic => set_carrying(!in_ra(regs, insn), si(insn.word), 1, regs, insn),
+        Row::Add => set_sum(in_ra(regs, insn), in_rb(regs, insn), 0, regs, insn),
+        Row::Subf => set_sum(!in_ra(regs, insn), in_rb(regs, insn), 1, regs, insn),
+        Row::Neg => set_sum(!in_ra(regs, insn), 0, 1, regs, insn),
+        Row::Addc => set_sum_carrying(in_ra(regs, insn), in_rb(regs, insn), 0, regs, insn),
+        Row::Subfc => set_sum_carrying(!in_ra(regs, insn), in_rb(regs, insn), 1, regs, insn),
+        Row::Adde => set_sum_carrying(in_ra(regs, insn), in_rb(regs, insn), ca(regs), regs, insn),
+        Row::Subfe => set_sum_carrying(!in_ra(regs, insn), in_rb(regs, insn), ca(regs), regs, insn),
+        Row::Addme => set_sum_carrying(in_ra(regs, insn), 0xffff_ffff, ca(regs), regs, insn),
+        Row::Subfme => set_sum_carrying(!in_ra(regs, insn), 0xffff_ffff, ca(regs), regs, insn),
+        Row::Addze => set_sum_carrying(in_ra(regs, insn), 0, ca(regs), regs, insn),
+        Row::Subfze => set_sum_carrying(!in_ra(regs, insn), 0, ca(regs), regs, insn),
         // Products and quotients.
         Row::Mulli => {
-            let value = arithmetic::low_signed(in_ra(regs, word), si(word));
-            registers::write(rt(word), value, regs);
+            let value = arithmetic::low_signed(in_ra(regs, insn), si(insn.word));
+            registers::write(rt(insn), value, regs);
         }
         Row::Mulhwu => {
-            let value = arithmetic::high_unsigned(in_ra(regs, word), in_rb(regs, word));
-            registers::set_rt(value, regs, word);
+            let value = arithmetic::high_unsigned(in_ra(regs, insn), in_rb(regs, insn));
+            registers::set_rt(value, regs, insn);
         }
         Row::Mulhw => {
-            let value = arithmetic::high_signed(in_ra(regs, word), in_rb(regs, word));
-            registers::set_rt(value, regs, word);
+            let value = arithmetic::high_signed(in_ra(regs, insn), in_rb(regs, insn));
+            registers::set_rt(value, regs, insn);
         }
-        Row::Mullw => arithmetic::set_product(in_ra(regs, word), in_rb(regs, word), regs, word),
-        Row::Divwu => arithmetic::set_quotient(in_ra(regs, word), in_rb(regs, word), regs, word),
-        Row::Divw => set_signed_quotient(in_ra(regs, word), in_rb(regs, word), regs, word),
+        Row::Mullw => arithmetic::set_product(in_ra(regs, insn), in_rb(regs, insn), regs, insn),
+        Row::Divwu => arithmetic::set_quotient(in_ra(regs, insn), in_rb(regs, insn), regs, insn),
+        Row::Divw => set_signed_quotient(in_ra(regs, insn), in_rb(regs, insn), regs, insn),
         // Comparisons and traps.
-        Row::Cmpi => condition::compare_signed(in_ra(regs, word), si(word), regs, word),
-        Row::Cmp => condition::compare_signed(in_ra(regs, word), in_rb(regs, word), regs, word),
-        Row::Cmpli => condition::compare(in_ra(regs, word), ui(word), regs, word),
-        Row::Cmpl => condition::compare(in_ra(regs, word), in_rb(regs, word), regs, word),
+        Row::Cmpi => condition::compare_signed(in_ra(regs, insn), si(insn.word), regs, insn),
+        Row::Cmp => condition::compare_signed(in_ra(regs, insn), in_rb(regs, insn), regs, insn),
+        Row::Cmpli => condition::compare(in_ra(regs, insn), ui(insn.word), regs, insn),
+        Row::Cmpl => condition::compare(in_ra(regs, insn), in_rb(regs, insn), regs, insn),
         Row::Twi => {
-            let trapped = is_trapped(in_ra(regs, word), si(word), word);
+            let trapped = is_trapped(in_ra(regs, insn), si(insn.word), insn);
             return trap_if(trapped, regs, bus);
         }
         Row::Tw => {
-            let trapped = is_trapped(in_ra(regs, word), in_rb(regs, word), word);
+            let trapped = is_trapped(in_ra(regs, insn), in_rb(regs, insn), insn);
             return trap_if(trapped, regs, bus);
         }
         // Logic.
-        Row::Andi => registers::record(ra(word), in_rs(regs, word) & ui(word), regs),
-        Row::Andis => registers::record(ra(word), in_rs(regs, word) & high_ui(word), regs),
-        Row::Ori => registers::write(ra(word), in_rs(regs, word) | ui(word), regs),
-        Row::Oris => registers::write(ra(word), in_rs(regs, word) | high_ui(word), regs),
-        Row::Xori => registers::write(ra(word), in_rs(regs, word) ^ ui(word), regs),
-        Row::Xoris => registers::write(ra(word), in_rs(regs, word) ^ high_ui(word), regs),
-        Row::And => set_ra(in_rs(regs, word) & in_rb(regs, word), regs, word),
-        Row::Or => set_ra(in_rs(regs, word) | in_rb(regs, word), regs, word),
-        Row::Xor => set_ra(in_rs(regs, word) ^ in_rb(regs, word), regs, word),
-        Row::Nand => set_ra(!(in_rs(regs, word) & in_rb(regs, word)), regs, word),
-        Row::Nor => set_ra(!(in_rs(regs, word) | in_rb(regs, word)), regs, word),
-        Row::Eqv => set_ra(!(in_rs(regs, word) ^ in_rb(regs, word)), regs, word),
-        Row::Andc => set_ra(in_rs(regs, word) & !in_rb(regs, word), regs, word),
-        Row::Orc => set_ra(in_rs(regs, word) | !in_rb(regs, word), regs, word),
-        Row::Extsb => set_ra(extend_sign(8, in_rs(regs, word) % 0x100), regs, word),
-        Row::Extsh => set_ra(extend_sign(16, in_rs(regs, word) % 0x1_0000), regs, word),
-        Row::Cntlzw => set_ra(in_rs(regs, word).leading_zeros(), regs, word),
+        Row::Andi => registers::record(ra(insn), in_rs(regs, insn) & ui(insn.word), regs),
+        Row::Andis => registers::record(ra(insn), in_rs(regs, insn) & high_ui(insn.word), regs),
+        Row::Ori => registers::write(ra(insn), in_rs(regs, insn) | ui(insn.word), regs),
+        Row::Oris => registers::write(ra(insn), in_rs(regs, insn) | high_ui(insn.word), regs),
+        Row::Xori => registers::write(ra(insn), in_rs(regs, insn) ^ ui(insn.word), regs),
+        Row::Xoris => registers::write(ra(insn), in_rs(regs, insn) ^ high_ui(insn.word), regs),
+        Row::And => set_ra(in_rs(regs, insn) & in_rb(regs, insn), regs, insn),
+        Row::Or => set_ra(in_rs(regs, insn) | in_rb(regs, insn), regs, insn),
+        Row::Xor => set_ra(in_rs(regs, insn) ^ in_rb(regs, insn), regs, insn),
+        Row::Nand => set_ra(!(in_rs(regs, insn) & in_rb(regs, insn)), regs, insn),
+        Row::Nor => set_ra(!(in_rs(regs, insn) | in_rb(regs, insn)), regs, insn),
+        Row::Eqv => set_ra(!(in_rs(regs, insn) ^ in_rb(regs, insn)), regs, insn),
+        Row::Andc => set_ra(in_rs(regs, insn) & !in_rb(regs, insn), regs, insn),
+        Row::Orc => set_ra(in_rs(regs, insn) | !in_rb(regs, insn), regs, insn),
+        Row::Extsb => set_ra(extend_sign(8, in_rs(regs, insn) % 0x100), regs, insn),
+        Row::Extsh => set_ra(extend_sign(16, in_rs(regs, insn) % 0x1_0000), regs, insn),
+        Row::Cntlzw => set_ra(in_rs(regs, insn).leading_zeros(), regs, insn),
         // Rotation and shifts.
         Row::Rlwinm => {
-            let value = rotate(rb(word), regs, word) & mask_of(word);
-            set_ra(value, regs, word);
+            let value = rotate(rb(insn), regs, insn) & mask_of(insn);
+            set_ra(value, regs, insn);
         }
         Row::Rlwnm => {
-            let value = rotate(bits_of(in_rb(regs, word), 27, 31), regs, word) & mask_of(word);
-            set_ra(value, regs, word);
+            let value = rotate(bits_of(in_rb(regs, insn), 27, 31), regs, insn) & mask_of(insn);
+            set_ra(value, regs, insn);
         }
         Row::Rlwimi => {
-            let rotated = rotate(rb(word), regs, word);
-            let value = logic::merge(mask_of(word), rotated, in_ra(regs, word));
-            set_ra(value, regs, word);
+            let rotated = rotate(rb(insn), regs, insn);
+            let value = logic::merge(mask_of(insn), rotated, in_ra(regs, insn));
+            set_ra(value, regs, insn);
         }
         Row::Slw => {
-            let value = logic::shift_left(in_rs(regs, word), logic::distance_of(regs, word));
-            set_ra(value, regs, word);
+            let value = logic::shift_left(in_rs(regs, insn), logic::distance_of(regs, insn));
+            set_ra(value, regs, insn);
         }
         Row::Srw => {
-            let value = logic::shift_right(in_rs(regs, word), logic::distance_of(regs, word));
-            set_ra(value, regs, word);
+            let value = logic::shift_right(in_rs(regs, insn), logic::distance_of(regs, insn));
+            set_ra(value, regs, insn);
         }
-        Row::Srawi => logic::set_signed_shift(rb(word), regs, word),
-        Row::Sraw => logic::set_signed_shift(logic::distance_of(regs, word), regs, word),
+        Row::Srawi => logic::set_signed_shift(rb(insn), regs, insn),
+        Row::Sraw => logic::set_signed_shift(logic::distance_of(regs, insn), regs, insn),
         // Special registers and the condition register.
-        Row::Mtspr => condition::set_special(spr(word), in_rs(regs, word), regs),
+        Row::Mtspr => condition::set_special(spr(insn.word), in_rs(regs, insn), regs),
         Row::Mfspr => {
-            let value = condition::special(regs, spr(word));
-            registers::write(rt(word), value, regs);
+            let value = condition::special(regs, spr(insn.word));
+            registers::write(rt(insn), value, regs);
         }
-        Row::Mtcrf => regs.cr = condition::moved(regs.cr, in_rs(regs, word), word),
+        Row::Mtcrf => regs.cr = condition::moved(regs.cr, in_rs(regs, insn), insn),
         Row::Mcrxr => {
-            registers::set_cr_field(bf(word), condition::flags(regs) * 2, regs);
+            registers::set_cr_field(bf(insn.word), condition::flags(regs) * 2, regs);
             regs.xer = 0;
         }
-        Row::Mfcr => registers::write(rt(word), regs.cr, regs),
+        Row::Mfcr => registers::write(rt(insn), regs.cr, regs),
         // Reservations and the order of accesses.
-        Row::Lwarx => return multiple::load_and_reserve(indexed(regs, word), regs, word, bus),
-        Row::Stwcx => return multiple::store_conditional(indexed(regs, word), regs, word, bus),
+        Row::Lwarx => return multiple::load_and_reserve(indexed(regs, insn), regs, insn, bus),
+        Row::Stwcx => return multiple::store_conditional(indexed(regs, insn), regs, insn, bus),
         Row::Isync => {}
         Row::Sync => {}
         Row::Eieio => {}
@@ -231,97 +231,97 @@ fn run<B: Bus>(row: Row, regs: &mut Regs, word: u32, bus: &mut B) -> Result<(), 
 /// makes no call for them.
 #[tactic(auto, using(crate::proofs::Bounds::or_of_bits), unfolding(crate::specs::Instructions::effect_of))]
 #[inline(always)]
-fn run_common<B: Bus>(row: Row, regs: &mut Regs, word: u32, bus: &mut B) -> Result<(), Trap>
-    ensures { Leaves (effect_of B.meaning row regs.old word (B.held bus.old))
+fn run_common<B: Bus>(row: Row, regs: &mut Regs, insn: Decoded, bus: &mut B) -> Result<(), Trap>
+    ensures { Leaves (effect_of B.meaning row regs.old insn.word (B.held bus.old))
         regs.old (B.held bus.old) regs.new (B.held bus.new) result }
 {
     match row {
         Row::B => {
-            branch::go(true, from_here(li(word), regs, word), regs, word);
+            branch::go(true, from_here(li(insn.word), regs, insn), regs, insn);
             return Ok(());
         }
         Row::Bc => {
-            branch::test_and_go(from_here(bd(word), regs, word), regs, word);
+            branch::test_and_go(from_here(bd(insn.word), regs, insn), regs, insn);
             return Ok(());
         }
         Row::Bclr => {
-            branch::test_and_go(regs.lr, regs, word);
+            branch::test_and_go(regs.lr, regs, insn);
             return Ok(());
         }
         Row::Bcctr => {
-            branch::test_and_go(regs.ctr, regs, word);
+            branch::test_and_go(regs.ctr, regs, insn);
             return Ok(());
         }
-        Row::Lbz => return load_rt(Load::Byte, Address::Offset, regs, word, bus),
-        Row::Lbzx => return load_rt(Load::Byte, Address::Indexed, regs, word, bus),
-        Row::Lhz => return load_rt(Load::Half, Address::Offset, regs, word, bus),
-        Row::Lhzx => return load_rt(Load::Half, Address::Indexed, regs, word, bus),
-        Row::Lha => return load_rt(Load::HalfSigned, Address::Offset, regs, word, bus),
-        Row::Lwz => return load_rt(Load::Word, Address::Offset, regs, word, bus),
-        Row::Lwzx => return load_rt(Load::Word, Address::Indexed, regs, word, bus),
-        Row::Lwzu => return load_rt(Load::Word, Address::OffsetUpdate, regs, word, bus),
-        Row::Lbzu => return load_rt(Load::Byte, Address::OffsetUpdate, regs, word, bus),
-        Row::Stb => return store_rs(Store::Byte, Address::Offset, regs, word, bus),
-        Row::Stbx => return store_rs(Store::Byte, Address::Indexed, regs, word, bus),
-        Row::Stbu => return store_rs(Store::Byte, Address::OffsetUpdate, regs, word, bus),
-        Row::Sth => return store_rs(Store::Half, Address::Offset, regs, word, bus),
-        Row::Sthx => return store_rs(Store::Half, Address::Indexed, regs, word, bus),
-        Row::Stw => return store_rs(Store::Word, Address::Offset, regs, word, bus),
-        Row::Stwx => return store_rs(Store::Word, Address::Indexed, regs, word, bus),
-        Row::Stwu => return store_rs(Store::Word, Address::OffsetUpdate, regs, word, bus),
+        Row::Lbz => return load_rt(Load::Byte, Address::Offset, regs, insn, bus),
+        Row::Lbzx => return load_rt(Load::Byte, Address::Indexed, regs, insn, bus),
+        Row::Lhz => return load_rt(Load::Half, Address::Offset, regs, insn, bus),
+        Row::Lhzx => return load_rt(Load::Half, Address::Indexed, regs, insn, bus),
+        Row::Lha => return load_rt(Load::HalfSigned, Address::Offset, regs, insn, bus),
+        Row::Lwz => return load_rt(Load::Word, Address::Offset, regs, insn, bus),
+        Row::Lwzx => return load_rt(Load::Word, Address::Indexed, regs, insn, bus),
+        Row::Lwzu => return load_rt(Load::Word, Address::OffsetUpdate, regs, insn, bus),
+        Row::Lbzu => return load_rt(Load::Byte, Address::OffsetUpdate, regs, insn, bus),
+        Row::Stb => return store_rs(Store::Byte, Address::Offset, regs, insn, bus),
+        Row::Stbx => return store_rs(Store::Byte, Address::Indexed, regs, insn, bus),
+        Row::Stbu => return store_rs(Store::Byte, Address::OffsetUpdate, regs, insn, bus),
+        Row::Sth => return store_rs(Store::Half, Address::Offset, regs, insn, bus),
+        Row::Sthx => return store_rs(Store::Half, Address::Indexed, regs, insn, bus),
+        Row::Stw => return store_rs(Store::Word, Address::Offset, regs, insn, bus),
+        Row::Stwx => return store_rs(Store::Word, Address::Indexed, regs, insn, bus),
+        Row::Stwu => return store_rs(Store::Word, Address::OffsetUpdate, regs, insn, bus),
         Row::Addi => {
-            let value = arithmetic::sum_of(in_ra_or_0(regs, word), si(word), 0);
-            registers::write(rt(word), value, regs);
+            let value = arithmetic::sum_of(in_ra_or_0(regs, insn), si(insn.word), 0);
+            registers::write(rt(insn), value, regs);
         }
         Row::Addis => {
-            let value = arithmetic::sum_of(in_ra_or_0(regs, word), high_ui(word), 0);
-            registers::write(rt(word), value, regs);
+            let value = arithmetic::sum_of(in_ra_or_0(regs, insn), high_ui(insn.word), 0);
+            registers::write(rt(insn), value, regs);
         }
         Row::AddicDot => {
-            let a = in_ra(regs, word);
-            set_carrying(a, si(word), 0, regs, word);
-            registers::set_cr0(arithmetic::sum_of(a, si(word), 0), regs);
+            let a = in_ra(regs, insn);
+            set_carrying(a, si(insn.word), 0, regs, insn);
+            registers::set_cr0(arithmetic::sum_of(a, si(insn.word), 0), regs);
         }
-        Row::Add => set_sum(in_ra(regs, word), in_rb(regs, word), 0, regs, word),
-        Row::Subf => set_sum(!in_ra(regs, word), in_rb(regs, word), 1, regs, word),
-        Row::Neg => set_sum(!in_ra(regs, word), 0, 1, regs, word),
+        Row::Add => set_sum(in_ra(regs, insn), in_rb(regs, insn), 0, regs, insn),
+        Row::Subf => set_sum(!in_ra(regs, insn), in_rb(regs, insn), 1, regs, insn),
+        Row::Neg => set_sum(!in_ra(regs, insn), 0, 1, regs, insn),
         Row::Mulli => {
-            let value = arithmetic::low_signed(in_ra(regs, word), si(word));
-            registers::write(rt(word), value, regs);
+            let value = arithmetic::low_signed(in_ra(regs, insn), si(insn.word));
+            registers::write(rt(insn), value, regs);
         }
-        Row::Mullw => arithmetic::set_product(in_ra(regs, word), in_rb(regs, word), regs, word),
-        Row::Cmpi => condition::compare_signed(in_ra(regs, word), si(word), regs, word),
-        Row::Cmp => condition::compare_signed(in_ra(regs, word), in_rb(regs, word), regs, word),
-        Row::Cmpli => condition::compare(in_ra(regs, word), ui(word), regs, word),
-        Row::Cmpl => condition::compare(in_ra(regs, word), in_rb(regs, word), regs, word),
-        Row::Andi => registers::record(ra(word), in_rs(regs, word) & ui(word), regs),
-        Row::Ori => registers::write(ra(word), in_rs(regs, word) | ui(word), regs),
-        Row::Oris => registers::write(ra(word), in_rs(regs, word) | high_ui(word), regs),
-        Row::Xori => registers::write(ra(word), in_rs(regs, word) ^ ui(word), regs),
-        Row::Xoris => registers::write(ra(word), in_rs(regs, word) ^ high_ui(word), regs),
-        Row::And => set_ra(in_rs(regs, word) & in_rb(regs, word), regs, word),
-        Row::Or => set_ra(in_rs(regs, word) | in_rb(regs, word), regs, word),
-        Row::Xor => set_ra(in_rs(regs, word) ^ in_rb(regs, word), regs, word),
-        Row::Nor => set_ra(!(in_rs(regs, word) | in_rb(regs, word)), regs, word),
+        Row::Mullw => arithmetic::set_product(in_ra(regs, insn), in_rb(regs, insn), regs, insn),
+        Row::Cmpi => condition::compare_signed(in_ra(regs, insn), si(insn.word), regs, insn),
+        Row::Cmp => condition::compare_signed(in_ra(regs, insn), in_rb(regs, insn), regs, insn),
+        Row::Cmpli => condition::compare(in_ra(regs, insn), ui(insn.word), regs, insn),
+        Row::Cmpl => condition::compare(in_ra(regs, insn), in_rb(regs, insn), regs, insn),
+        Row::Andi => registers::record(ra(insn), in_rs(regs, insn) & ui(insn.word), regs),
+        Row::Ori => registers::write(ra(insn), in_rs(regs, insn) | ui(insn.word), regs),
+        Row::Oris => registers::write(ra(insn), in_rs(regs, insn) | high_ui(insn.word), regs),
+        Row::Xori => registers::write(ra(insn), in_rs(regs, insn) ^ ui(insn.word), regs),
+        Row::Xoris => registers::write(ra(insn), in_rs(regs, insn) ^ high_ui(insn.word), regs),
+        Row::And => set_ra(in_rs(regs, insn) & in_rb(regs, insn), regs, insn),
+        Row::Or => set_ra(in_rs(regs, insn) | in_rb(regs, insn), regs, insn),
+        Row::Xor => set_ra(in_rs(regs, insn) ^ in_rb(regs, insn), regs, insn),
+        Row::Nor => set_ra(!(in_rs(regs, insn) | in_rb(regs, insn)), regs, insn),
         Row::Rlwinm => {
-            let value = rotate(rb(word), regs, word) & mask_of(word);
-            set_ra(value, regs, word);
+            let value = rotate(rb(insn), regs, insn) & mask_of(insn);
+            set_ra(value, regs, insn);
         }
         Row::Slw => {
-            let value = logic::shift_left(in_rs(regs, word), logic::distance_of(regs, word));
-            set_ra(value, regs, word);
+            let value = logic::shift_left(in_rs(regs, insn), logic::distance_of(regs, insn));
+            set_ra(value, regs, insn);
         }
         Row::Srw => {
-            let value = logic::shift_right(in_rs(regs, word), logic::distance_of(regs, word));
-            set_ra(value, regs, word);
+            let value = logic::shift_right(in_rs(regs, insn), logic::distance_of(regs, insn));
+            set_ra(value, regs, insn);
         }
-        Row::Srawi => logic::set_signed_shift(rb(word), regs, word),
-        Row::Mtspr => condition::set_special(spr(word), in_rs(regs, word), regs),
+        Row::Srawi => logic::set_signed_shift(rb(insn), regs, insn),
+        Row::Mtspr => condition::set_special(spr(insn.word), in_rs(regs, insn), regs),
         Row::Mfspr => {
-            let value = condition::special(regs, spr(word));
-            registers::write(rt(word), value, regs);
+            let value = condition::special(regs, spr(insn.word));
+            registers::write(rt(insn), value, regs);
         }
-        _ => return run(row, regs, word, bus),
+        _ => return run(row, regs, insn, bus),
     }
     registers::step(regs);
     Ok(())
@@ -336,10 +336,10 @@ pub fn exec_inline<B: Bus>(regs: &mut Regs, word: u32, bus: &mut B) -> Result<()
     ensures { Leaves (exec_of B.meaning regs.old word (B.held bus.old))
         regs.old (B.held bus.old) regs.new (B.held bus.new) result }
 {
-    let Some(row) = row_for(word) else {
-        return Err(Trap::Illegal);
-    };
-    run_common(row, regs, word, bus)
+    match decode_once(word) {
+        Some(insn) => run_common(insn.row, regs, insn, bus),
+        None => Err(Trap::Illegal),
+    }
 }
 
 /// Executes one instruction: it does what the row of the word says, and traps with `Illegal` if the
@@ -350,8 +350,8 @@ pub fn exec<B: Bus>(regs: &mut Regs, word: u32, bus: &mut B) -> Result<(), Trap>
     ensures { Leaves (exec_of B.meaning regs.old word (B.held bus.old))
         regs.old (B.held bus.old) regs.new (B.held bus.new) result }
 {
-    match row_for(word) {
-        Some(row) => run(row, regs, word, bus),
+    match decode_once(word) {
+        Some(insn) => run(insn.row, regs, insn, bus),
         None => Err(Trap::Illegal),
     }
 }

@@ -3,41 +3,24 @@
 ghost use Rattle.std.specs.Prelude.{◌≡◌, ◌<◌};
 ghost use Rattle.ppc_core.specs.Logic as logic;
 
-use crate::words::bits_of;
-use crate::{fields, registers};
+use crate::registers;
+use ppc_word::{Decoded, bits_of, fields, ones_between};
 use wind_base::Regs;
-
-/// The word with ones in bits `first` to `last`, and zeros elsewhere. The bits wrap around from 31
-/// to 0.
-#[inline(always)]
-fn ones_between(first: u32, last: u32) -> u32
-    requires begin { first < 32 }
-    requires end { last < 32 }
-    ensures { result ≡ logic.mask first last }
-{
-    let from = 1u64 << (32 - first);
-    let to = 1u64 << (31 - last);
-    if first <= last {
-        (from - to) as u32
-    } else {
-        (0xffff_ffff - (to - from)) as u32
-    }
-}
 
 /// The mask from MB to ME.
 #[inline(always)]
-pub fn mask_of(word: u32) -> u32
-    ensures { result ≡ logic.mask_of word }
+pub fn mask_of(insn: Decoded) -> u32
+    ensures { result ≡ logic.mask_of insn.word }
 {
-    ones_between(fields::mb(word), fields::me(word))
+    ones_between(fields::mb(insn.word), fields::me(insn.word))
 }
 
 /// (RS) rotated left by `n` bits.
 #[inline(always)]
-pub fn rotate(n: u32, regs: &Regs, word: u32) -> u32
-    ensures { result ≡ logic.rotated regs.now word n }
+pub fn rotate(n: u32, regs: &Regs, insn: Decoded) -> u32
+    ensures { result ≡ logic.rotated regs.now insn.word n }
 {
-    registers::in_rs(regs, word).rotate_left(n)
+    registers::in_rs(regs, insn).rotate_left(n)
 }
 
 /// The bits of `x` where the mask has ones, and those of `y` where it has zeros.
@@ -50,11 +33,11 @@ pub fn merge(mask: u32, x: u32, y: u32) -> u32
 
 /// The distance of a shift by (RB): its last six bits.
 #[inline(always)]
-pub fn distance_of(regs: &Regs, word: u32) -> u32
-    ensures is { result ≡ logic.distance regs.now word }
+pub fn distance_of(regs: &Regs, insn: Decoded) -> u32
+    ensures is { result ≡ logic.distance regs.now insn.word }
     ensures below { result < 64 }
 {
-    bits_of(registers::in_rb(regs, word), 26, 31)
+    bits_of(registers::in_rb(regs, insn), 26, 31)
 }
 
 /// A word shifted left by `n` bits.
@@ -100,12 +83,12 @@ fn loses_one(s: u32, n: u32) -> bool
 /// word lost a 1 bit.
 #[tactic(auto, unfolding(crate::specs::Logic::with_signed_shift))]
 #[inline(always)]
-pub fn set_signed_shift(n: u32, regs: &mut Regs, word: u32)
+pub fn set_signed_shift(n: u32, regs: &mut Regs, insn: Decoded)
     requires { n < 64 }
-    ensures { regs.new ≡ logic.with_signed_shift regs.old word n }
+    ensures { regs.new ≡ logic.with_signed_shift regs.old insn.word n }
 {
-    let s = registers::in_rs(regs, word);
+    let s = registers::in_rs(regs, insn);
     let carry = if loses_one(s, n) { 1 } else { 0 };
     registers::set_ca(carry, regs);
-    registers::set_ra(shift_signed(s, n), regs, word);
+    registers::set_ra(shift_signed(s, n), regs, insn);
 }

@@ -7,7 +7,8 @@ ghost use Rattle.ppc_core.specs.Multiples as multiple;
 
 use crate::bus::Bus;
 use crate::trap::{Ending, Trap};
-use crate::{fields, registers};
+use crate::{operands, registers};
+use ppc_word::Decoded;
 use wind_base::Regs;
 
 /// Which way the words of several registers go.
@@ -72,11 +73,17 @@ fn check_ram<B: Bus>(at: u32, n: u32, bus: &B) -> Result<(), Trap>
 /// Loads or stores the registers RT to 31 from or to the words at `at` and after it.
 #[tactic(auto, unfolding(crate::specs::Multiples::load_multiple_of, crate::specs::Multiples::store_multiple_of))]
 #[inline(always)]
-pub fn transfer<B: Bus>(what: Direction, at: u32, regs: &mut Regs, word: u32, bus: &mut B) -> Ending
-    ensures { Leaves (multiple.multiple_of B.meaning what regs.old word (B.held bus.old) at)
+pub fn transfer<B: Bus>(
+    what: Direction,
+    at: u32,
+    regs: &mut Regs,
+    insn: Decoded,
+    bus: &mut B,
+) -> Ending
+    ensures { Leaves (multiple.multiple_of B.meaning what regs.old insn.word (B.held bus.old) at)
         regs.old (B.held bus.old) regs.new (B.held bus.new) result }
 {
-    let first = fields::rt(word);
+    let first = operands::rt(insn);
     let count = 32 - first;
     check_ram(at, 4 * count, bus)?;
     match what {
@@ -89,15 +96,15 @@ pub fn transfer<B: Bus>(what: Direction, at: u32, regs: &mut Regs, word: u32, bu
 
 /// Loads the word at `at` into RT, and reserves its address.
 #[tactic(auto, unfolding(crate::specs::Multiples::load_and_reserve_of))]
-pub fn load_and_reserve<B: Bus>(at: u32, regs: &mut Regs, word: u32, bus: &mut B) -> Ending
-    ensures { Leaves (multiple.load_and_reserve_of B.meaning regs.old word (B.held bus.old) at)
+pub fn load_and_reserve<B: Bus>(at: u32, regs: &mut Regs, insn: Decoded, bus: &mut B) -> Ending
+    ensures { Leaves (multiple.load_and_reserve_of B.meaning regs.old insn.word (B.held bus.old) at)
         regs.old (B.held bus.old) regs.new (B.held bus.new) result }
 {
     check_ram(at, 4, bus)?;
     let Ok(value) = bus.load32(at) else {
         unreachable!();
     };
-    registers::write(fields::rt(word), value, regs);
+    registers::write(operands::rt(insn), value, regs);
     regs.reserve = Some(at);
     registers::step(regs);
     Ok(())
@@ -115,14 +122,14 @@ fn reserves(reserve: Option<u32>, at: u32) -> bool
 
 /// Stores (RS) at `at` if that address is reserved. Afterwards no address is reserved.
 #[tactic(auto, unfolding(crate::specs::Multiples::store_conditional_of))]
-pub fn store_conditional<B: Bus>(at: u32, regs: &mut Regs, word: u32, bus: &mut B) -> Ending
-    ensures { Leaves (multiple.store_conditional_of B.meaning regs.old word (B.held bus.old) at)
+pub fn store_conditional<B: Bus>(at: u32, regs: &mut Regs, insn: Decoded, bus: &mut B) -> Ending
+    ensures { Leaves (multiple.store_conditional_of B.meaning regs.old insn.word (B.held bus.old) at)
         regs.old (B.held bus.old) regs.new (B.held bus.new) result }
 {
     check_ram(at, 4, bus)?;
     let stored = reserves(regs.reserve, at);
     let mark = if stored { 1 } else { 0 };
-    let value = registers::in_rs(regs, word);
+    let value = registers::in_rs(regs, insn);
     if stored {
         let Ok(()) = bus.store32(at, value) else {
             unreachable!();

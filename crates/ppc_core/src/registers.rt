@@ -4,8 +4,9 @@ ghost use Rattle.std.specs.Prelude.{◌≡◌, ◌<◌};
 ghost use Rattle.ppc_core.specs.Fields.{rt, ra};
 ghost use Rattle.ppc_core.specs.Registers as register;
 
-use crate::fields;
-use crate::words::{bits_of, set_bits, signed_of};
+use crate::operands;
+use crate::words::{set_bits, signed_of};
+use ppc_word::{Decoded, bits_of, fields};
 use wind_base::Regs;
 
 /// General register `n`.
@@ -30,37 +31,37 @@ pub fn write(n: u32, value: u32, regs: &mut Regs)
 
 /// (RS), the content of register RS.
 #[inline(always)]
-pub fn in_rs(regs: &Regs, word: u32) -> u32
-    ensures { result ≡ register.in_rs regs.now word }
+pub fn in_rs(regs: &Regs, insn: Decoded) -> u32
+    ensures { result ≡ register.in_rs regs.now insn.word }
 {
-    read(regs, fields::rt(word))
+    read(regs, operands::rt(insn))
 }
 
 /// (RA), the content of register RA.
 #[inline(always)]
-pub fn in_ra(regs: &Regs, word: u32) -> u32
-    ensures { result ≡ register.in_ra regs.now word }
+pub fn in_ra(regs: &Regs, insn: Decoded) -> u32
+    ensures { result ≡ register.in_ra regs.now insn.word }
 {
-    read(regs, fields::ra(word))
+    read(regs, operands::ra(insn))
 }
 
 /// (RB), the content of register RB.
 #[inline(always)]
-pub fn in_rb(regs: &Regs, word: u32) -> u32
-    ensures { result ≡ register.in_rb regs.now word }
+pub fn in_rb(regs: &Regs, insn: Decoded) -> u32
+    ensures { result ≡ register.in_rb regs.now insn.word }
 {
-    read(regs, fields::rb(word))
+    read(regs, operands::rb(insn))
 }
 
 /// (RA|0): the content of register RA, or 0 if RA is register 0.
 #[inline(always)]
-pub fn in_ra_or_0(regs: &Regs, word: u32) -> u32
-    ensures { result ≡ register.in_ra_or_0 regs.now word }
+pub fn in_ra_or_0(regs: &Regs, insn: Decoded) -> u32
+    ensures { result ≡ register.in_ra_or_0 regs.now insn.word }
 {
-    if fields::ra(word) == 0 {
+    if operands::ra(insn) == 0 {
         0
     } else {
-        in_ra(regs, word)
+        in_ra(regs, insn)
     }
 }
 
@@ -157,11 +158,11 @@ pub fn record(n: u32, value: u32, regs: &mut Regs)
 /// Sets register `n` to a result, and with Rc, CR0 to its comparison with 0.
 #[tactic(auto, unfolding(crate::specs::Registers::with_result))]
 #[inline(always)]
-fn set_result(n: u32, value: u32, regs: &mut Regs, word: u32)
+fn set_result(n: u32, value: u32, regs: &mut Regs, insn: Decoded)
     requires { n < 32 }
-    ensures { regs.new ≡ register.with_result regs.old word n value }
+    ensures { regs.new ≡ register.with_result regs.old insn.word n value }
 {
-    if fields::rc(word) {
+    if fields::rc(insn.word) {
         record(n, value, regs);
     } else {
         write(n, value, regs);
@@ -170,31 +171,31 @@ fn set_result(n: u32, value: u32, regs: &mut Regs, word: u32)
 
 /// Sets RT to a result, and with Rc, CR0 to its comparison with 0.
 #[inline(always)]
-pub fn set_rt(value: u32, regs: &mut Regs, word: u32)
-    ensures { regs.new ≡ register.with_result regs.old word (rt word) value }
+pub fn set_rt(value: u32, regs: &mut Regs, insn: Decoded)
+    ensures { regs.new ≡ register.with_result regs.old insn.word (rt insn.word) value }
 {
-    set_result(fields::rt(word), value, regs, word);
+    set_result(operands::rt(insn), value, regs, insn);
 }
 
 /// Sets RA to a result, and with Rc, CR0 to its comparison with 0.
 #[inline(always)]
-pub fn set_ra(value: u32, regs: &mut Regs, word: u32)
-    ensures { regs.new ≡ register.with_result regs.old word (ra word) value }
+pub fn set_ra(value: u32, regs: &mut Regs, insn: Decoded)
+    ensures { regs.new ≡ register.with_result regs.old insn.word (ra insn.word) value }
 {
-    set_result(fields::ra(word), value, regs, word);
+    set_result(operands::ra(insn), value, regs, insn);
 }
 
 /// Sets RT to a result, and with Rc, CR0 to its comparison with 0. With OE, first records in OV and
 /// SO whether the result overflows.
 #[tactic(auto, unfolding(crate::specs::Registers::with_checked_result))]
 #[inline(always)]
-pub fn set_checked_result(value: u32, overflow: bool, regs: &mut Regs, word: u32)
-    ensures { regs.new ≡ register.with_checked_result regs.old word value overflow }
+pub fn set_checked_result(value: u32, overflow: bool, regs: &mut Regs, insn: Decoded)
+    ensures { regs.new ≡ register.with_checked_result regs.old insn.word value overflow }
 {
-    if fields::oe(word) {
+    if fields::oe(insn.word) {
         set_ov(overflow, regs);
     }
-    set_rt(value, regs, word);
+    set_rt(value, regs, insn);
 }
 
 /// Sets the program counter to the next instruction.

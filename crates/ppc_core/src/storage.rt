@@ -3,12 +3,13 @@
 ghost use Rattle.std.specs.Prelude.{◌≡◌, ◌<◌, ◌*◌, ◌^◌};
 ghost use Rattle.ppc_core.specs.Buses.{Loads, Stores};
 ghost use Rattle.ppc_core.specs.Outcomes.{Leaves};
+ghost use Rattle.ppc_core.specs.Stepping.{at_pc, LeavesAt};
 ghost use Rattle.ppc_core.specs.Storage as storage;
 
 use crate::bus::{Bus, Fault};
 use crate::trap::Trap;
-use crate::words::extend_half;
-use crate::{fields, registers};
+use crate::{operands, registers};
+use ppc_word::{Decoded, extend_half, fields};
 use wind_base::Regs;
 
 /// What a load reads, and how it becomes a register's content.
@@ -58,43 +59,43 @@ pub enum Address {
 
 /// The effective address (RA|0) + D.
 #[inline(always)]
-pub fn offset(regs: &Regs, word: u32) -> u32
-    ensures { result ≡ storage.offset regs.now word }
+pub fn offset(regs: &Regs, insn: Decoded) -> u32
+    ensures { result ≡ storage.offset regs.now insn.word }
 {
-    registers::in_ra_or_0(regs, word).wrapping_add(fields::si(word))
+    registers::in_ra_or_0(regs, insn).wrapping_add(fields::si(insn.word))
 }
 
 /// The effective address (RA|0) + (RB).
 #[inline(always)]
-pub fn indexed(regs: &Regs, word: u32) -> u32
-    ensures { result ≡ storage.indexed regs.now word }
+pub fn indexed(regs: &Regs, insn: Decoded) -> u32
+    ensures { result ≡ storage.indexed regs.now insn.word }
 {
-    registers::in_ra_or_0(regs, word).wrapping_add(registers::in_rb(regs, word))
+    registers::in_ra_or_0(regs, insn).wrapping_add(registers::in_rb(regs, insn))
 }
 
 /// The effective address for a form.
 #[inline(always)]
-fn address_for(address: Address, regs: &Regs, word: u32) -> u32
-    ensures { result ≡ storage.address_of address regs.now word }
+fn address_for(address: Address, regs: &Regs, insn: Decoded) -> u32
+    ensures { result ≡ storage.address_of address regs.now insn.word }
 {
     match address {
-        Address::Offset => offset(regs, word),
-        Address::OffsetUpdate => offset(regs, word),
-        Address::Indexed => indexed(regs, word),
-        Address::IndexedUpdate => indexed(regs, word),
+        Address::Offset => offset(regs, insn),
+        Address::OffsetUpdate => offset(regs, insn),
+        Address::Indexed => indexed(regs, insn),
+        Address::IndexedUpdate => indexed(regs, insn),
     }
 }
 
 /// Updates RA after an access, if the form says so.
 #[inline(always)]
-fn set_base(address: Address, at: u32, regs: &mut Regs, word: u32)
-    ensures { regs.new ≡ storage.with_base address regs.old word at }
+fn set_base(address: Address, at: u32, regs: &mut Regs, insn: Decoded)
+    ensures { regs.new ≡ storage.with_base address regs.old insn.word at }
 {
     match address {
         Address::Offset => {}
-        Address::OffsetUpdate => registers::write(fields::ra(word), at, regs),
+        Address::OffsetUpdate => registers::write(operands::ra(insn), at, regs),
         Address::Indexed => {}
-        Address::IndexedUpdate => registers::write(fields::ra(word), at, regs),
+        Address::IndexedUpdate => registers::write(operands::ra(insn), at, regs),
     }
 }
 
@@ -178,18 +179,18 @@ pub fn load_rt<B: Bus>(
     what: Load,
     address: Address,
     regs: &mut Regs,
-    word: u32,
+    insn: Decoded,
     bus: &mut B,
 ) -> Result<(), Trap>
-    ensures { Leaves (storage.load_of B.meaning what address regs.old word (B.held bus.old))
+    ensures { Leaves (storage.load_of B.meaning what address regs.old insn.word (B.held bus.old))
         regs.old (B.held bus.old) regs.new (B.held bus.new) result }
 {
-    let at = address_for(address, regs, word);
+    let at = address_for(address, regs, insn);
     let Ok(datum) = read_datum(what, at, bus) else {
         return Err(Trap::Access);
     };
-    registers::write(fields::rt(word), taken_of(what, datum), regs);
-    set_base(address, at, regs, word);
+    registers::write(operands::rt(insn), taken_of(what, datum), regs);
+    set_base(address, at, regs, insn);
     registers::step(regs);
     Ok(())
 }
@@ -201,18 +202,65 @@ pub fn store_rs<B: Bus>(
     what: Store,
     address: Address,
     regs: &mut Regs,
-    word: u32,
+    insn: Decoded,
     bus: &mut B,
 ) -> Result<(), Trap>
-    ensures { Leaves (storage.store_of B.meaning what address regs.old word (B.held bus.old))
+    ensures { Leaves (storage.store_of B.meaning what address regs.old insn.word (B.held bus.old))
         regs.old (B.held bus.old) regs.new (B.held bus.new) result }
 {
-    let at = address_for(address, regs, word);
-    let value = given_of(what, registers::in_rs(regs, word));
+    let at = address_for(address, regs, insn);
+    let value = given_of(what, registers::in_rs(regs, insn));
     let Ok(()) = write_datum(what, at, value, bus) else {
         return Err(Trap::Access);
     };
-    set_base(address, at, regs, word);
+    set_base(address, at, regs, insn);
     registers::step(regs);
     Ok(())
+}
+
+/// Loads the datum at the effective address into RT, for the instruction at `pc`, and returns the
+/// next address.
+#[tactic(auto, using(crate::proofs::Beside::address_of_at, crate::proofs::Beside::with_base_at), unfolding(crate::specs::Storage::load_of, crate::specs::Registers::gpr, crate::specs::Registers::with_gpr, crate::specs::Registers::next))]
+#[inline(always)]
+pub fn load_at<B: Bus>(
+    what: Load,
+    address: Address,
+    pc: u32,
+    regs: &mut Regs,
+    insn: Decoded,
+    bus: &mut B,
+) -> Result<u32, Trap>
+    ensures { LeavesAt (storage.load_of B.meaning what address (at_pc regs.old pc) insn.word (B.held bus.old))
+        pc regs.old (B.held bus.old) regs.new (B.held bus.new) result }
+{
+    let at = address_for(address, regs, insn);
+    let Ok(datum) = read_datum(what, at, bus) else {
+        return Err(Trap::Access);
+    };
+    registers::write(operands::rt(insn), taken_of(what, datum), regs);
+    set_base(address, at, regs, insn);
+    Ok(pc.wrapping_add(4))
+}
+
+/// Stores (RS) at the effective address, for the instruction at `pc`, and returns the next address.
+#[tactic(auto, using(crate::proofs::Beside::address_of_at, crate::proofs::Beside::with_base_at), unfolding(crate::specs::Storage::store_of, crate::specs::Registers::gpr, crate::specs::Registers::with_gpr, crate::specs::Registers::next))]
+#[inline(always)]
+pub fn store_at<B: Bus>(
+    what: Store,
+    address: Address,
+    pc: u32,
+    regs: &mut Regs,
+    insn: Decoded,
+    bus: &mut B,
+) -> Result<u32, Trap>
+    ensures { LeavesAt (storage.store_of B.meaning what address (at_pc regs.old pc) insn.word (B.held bus.old))
+        pc regs.old (B.held bus.old) regs.new (B.held bus.new) result }
+{
+    let at = address_for(address, regs, insn);
+    let value = given_of(what, registers::in_rs(regs, insn));
+    let Ok(()) = write_datum(what, at, value, bus) else {
+        return Err(Trap::Access);
+    };
+    set_base(address, at, regs, insn);
+    Ok(pc.wrapping_add(4))
 }

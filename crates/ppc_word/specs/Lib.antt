@@ -1,8 +1,11 @@
+pub mod Bits
+pub mod Fields
 pub mod Words
 pub mod Rules
 pub mod Pieces
 pub mod Table
 pub mod Rows
+pub mod Ops
 pub mod Insn
 pub mod Patterns
 pub mod Places

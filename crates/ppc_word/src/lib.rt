@@ -5,9 +5,13 @@
 
 ghost use Rattle.ppc_word.specs.Laws.{TableLaw};
 
+mod bits;
 mod coding;
+mod decoded;
+pub mod fields;
 mod index;
 mod insn;
+mod op;
 mod pattern;
 mod piece;
 mod row;
@@ -15,8 +19,11 @@ mod rule;
 mod table;
 mod word;
 
+pub use bits::{bits_of, extend_half, extend_sign, ones_between};
 pub use coding::{decode, encode, row_for, rule_of};
+pub use decoded::{Decoded, decode_once, decode_word, empty};
 pub use insn::Insn;
+pub use op::Op;
 pub use row::Row;
 pub use rule::Rule;
 

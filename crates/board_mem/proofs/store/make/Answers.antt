@@ -1,4 +1,5 @@
-use Rattle.std.proofs.Common.{◌≡◌, ◌+◌, ◌/◌, ◌-◌, ◌<◌, ◌++◌, length, refl, ap₂, ◌∙◌, arith, get_or-set_same}
+use Rattle.std.proofs.Common.{◌≡◌, ◌+◌, ◌/◌, ◌-◌, ◌<◌, ◌++◌, length, refl, ap₂, ◌∙◌, arith, get_or, ap}
+use Rattle.std.proofs.lemmas.List.{get_or-set_same, get_or-set_other}
 use Rattle.std.specs.Prelude.{vec_len, vec_capacity}
 use Rattle.std.proofs.lemmas.Bool.{false≢true}
 use Rattle.std.proofs.lemmas.List.{take_all}
@@ -37,5 +38,6 @@ returns-clause-made c =
       stored = AreStored-making (making c) (vec_capacity c.resize.new.self) c.resize.ensures.capacity;
       numbered = rw get_or-set_same some;
       made = made_of-set c.args.index.now c.args.page (c.len-len.result / 4096) some;
+      numbers = λ other h. get_or-set_other c.args.index.now c.args.page other (c.len-len.result / 4096) 0 (λ e. absurd (omega (arith, ap (λ p. get_or c.args.index.now p 0) e, c.requires.unmade)));
       bytes = bytes_of-making (making c);
     }

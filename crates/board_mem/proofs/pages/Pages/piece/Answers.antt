@@ -10,11 +10,11 @@ use Rattle.board_mem.proofs.pages.Pages.piece.Goals as goal
 pub offset-start-requires : goal.offset-start-requires
 offset-start-requires c =
     let size = ap (λ (s : PagesState). length s.bytes) c.self.view_is in
-    record { there = omega (arith, c.self.invariant.cover, size, length-bytes_of c.self.inside.size c.self.inside.index.items c.self.inside.store.items) }
+    record { there = omega (arith, c.self.invariant.0.cover, size, length-bytes_of c.self.inside.size c.self.inside.index.items c.self.inside.store.items) }
 
 -- the range in the store
 window : (c : goal.After-result-1) → IsWindow c.self.inside.size c.self.inside.index.items c.self.inside.store.items (vec_capacity c.self.inside.store) c.args.at c.args.n
-window c = window_in c.args.self.now c.self.invariant c.self.view_is c.requires.some c.requires.page c.requires.there
+window c = window_in c.args.self.now c.self.invariant.0 c.self.view_is c.requires.some c.requires.page c.requires.there
 
 pub returns : goal.returns
 returns c =

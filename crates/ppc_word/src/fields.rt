@@ -1,9 +1,9 @@
 //! The fields of an instruction word, by their names in the book (Book I, 1.7).
 
 ghost use Rattle.std.specs.Prelude.{◌≡◌, ◌<◌, ◌^◌};
-ghost use Rattle.ppc_core.specs.Fields as field;
+ghost use Rattle.ppc_word.specs.Fields as field;
 
-use crate::words::{bits_of, extend_half, extend_sign};
+use crate::bits::{bits_of, extend_half, extend_sign};
 
 /// RT, a target register. RS, TO and BT have the same place.
 #[tactic(auto, unfolding(crate::specs::Fields::rt))]

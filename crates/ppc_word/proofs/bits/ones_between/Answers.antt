@@ -1,7 +1,10 @@
-use Rattle.std.proofs.Common.{◌-◌, arith}
+use Rattle.std.proofs.Common.{ℕ, ◌-◌, ◌^◌, ◌≤◌, lit≤, arith}
 use Rattle.std.proofs.lemmas.Nat.{one_shl, pow_pos}
-use Rattle.ppc_core.proofs.Bounds.{pow_le}
-use Rattle.ppc_core.proofs.logic.ones_between.Goals as goal
+use Rattle.std.proofs.Math.Nat.{pow-le-pow_right}
+use Rattle.ppc_word.proofs.bits.ones_between.Goals as goal
+
+pow_le : (i j : ℕ) → i ≤ j → 2 ^ i ≤ 2 ^ j
+pow_le i j h = pow-le-pow_right (lit≤ tt) h
 
 pub overflow_sub-result : goal.overflow_sub-result
 overflow_sub-result c =
