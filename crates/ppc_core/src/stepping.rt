@@ -1,6 +1,7 @@
 //! Instructions that touch registers only, at an address that is kept beside the registers.
 
-ghost use Rattle.std.specs.Prelude.{◌≡◌, ◌+◌, ◌*◌, ◌/◌, ◌%◌, ◌^◌, if◌then◌else◌};
+ghost use Rattle.std.specs.Prelude.{◌≡◌, ◌≢◌, IfSome, ◌+◌, ◌*◌, ◌/◌, ◌%◌, ◌^◌, if◌then◌else◌};
+ghost use Rattle.ppc_word.specs.declared.op.Op.TheVariants as ops;
 ghost use Rattle.ppc_core.specs.Instructions.{exec_of};
 ghost use Rattle.ppc_core.specs.Stepping.{at_pc, MayStep};
 
@@ -32,7 +33,8 @@ fn target_if(taken: bool, displacement: u32, pc: u32) -> u32
 #[tactic(auto, unfolding(crate::specs::Instructions::exec_of, crate::specs::Instructions::effect_of, crate::specs::Branches::with_test_and_branch, crate::specs::Branches::with_branch, crate::specs::Arithmetic::with_carrying, crate::specs::Arithmetic::with_sum, crate::specs::Registers::with_checked_result, crate::specs::Registers::with_result, crate::specs::Registers::with_recorded, crate::specs::Registers::with_cr0, crate::specs::Registers::with_ov, crate::specs::Registers::with_ca, crate::specs::Registers::gpr, crate::specs::Registers::with_gpr, crate::specs::Registers::next, crate::specs::Registers::with_cr_field, crate::specs::Registers::so, crate::specs::Conditions::with_signed_order, crate::specs::Conditions::with_order, crate::specs::Logic::with_signed_shift, ppc_word::specs::Ops::fits))]
 #[inline(always)]
 pub fn run_registers<B: Bus>(pc: u32, regs: &mut Regs, insn: Decoded) -> Option<u32>
-    ensures { MayStep (exec_of B.meaning (at_pc regs.old pc) insn.word) regs.old regs.new result }
+    ensures step { MayStep (exec_of B.meaning (at_pc regs.old pc) insn.word) regs.old regs.new result }
+    ensures some { IfSome result (λ _. insn.op ≢ ops.Empty) }
 {
     match insn.op {
         Op::Branch => Some(target_if(true, insn.immediate, pc)),
