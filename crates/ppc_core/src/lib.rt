@@ -21,5 +21,9 @@ pub use bus::{Bus, Fault};
 pub use execution::{exec, exec_inline};
 pub use laws::{instruction_law, move_to_cr_law};
 pub use stepping::run_registers;
-pub use storing::{finish_load, finish_store, load_address, run_at, run_bus, store_address};
+pub use storage::offset;
+pub use storing::{
+    finish_load, finish_load_byte, finish_load_update, finish_store, finish_store_update,
+    load_address, run_at, run_bus, store_address,
+};
 pub use trap::Trap;

@@ -1,6 +1,7 @@
 //! Instructions that touch registers only, at an address that is kept beside the registers.
 
-ghost use Rattle.std.specs.Prelude.{◌≡◌, ◌+◌, ◌*◌, ◌/◌, ◌%◌, ◌^◌, if◌then◌else◌};
+ghost use Rattle.std.specs.Prelude.{◌≡◌, ◌≢◌, IfSome, ◌+◌, ◌*◌, ◌/◌, ◌%◌, ◌^◌, if◌then◌else◌};
+ghost use Rattle.ppc_word.specs.declared.op.Op.TheVariants as ops;
 ghost use Rattle.ppc_core.specs.Instructions.{exec_of};
 ghost use Rattle.ppc_core.specs.Stepping.{at_pc, MayStep};
 
@@ -14,14 +15,47 @@ use ppc_word::fields::{high_ui, si, spr, ui};
 use ppc_word::{Decoded, Op, bits_of};
 use wind_base::Regs;
 
-/// Executes an operation that goes to the next instruction, if it is a sum, a product or a
-/// comparison. None changes nothing.
-#[tactic(auto, unfolding(crate::specs::Instructions::exec_of, crate::specs::Instructions::effect_of, crate::specs::Arithmetic::with_carrying, crate::specs::Arithmetic::with_sum, crate::specs::Registers::with_checked_result, crate::specs::Registers::with_result, crate::specs::Registers::with_recorded, crate::specs::Registers::with_cr0, crate::specs::Registers::with_ov, crate::specs::Registers::with_ca, crate::specs::Registers::gpr, crate::specs::Registers::with_gpr, crate::specs::Registers::next, crate::specs::Registers::with_cr_field, crate::specs::Registers::so, crate::specs::Conditions::with_signed_order, crate::specs::Conditions::with_order, crate::specs::Logic::with_signed_shift, ppc_word::specs::Ops::fits))]
+// The address after a branch that may be taken: `displacement` from here, or the next instruction.
 #[inline(always)]
-fn run_arithmetic<B: Bus>(pc: u32, regs: &mut Regs, insn: Decoded) -> Option<u32>
-    ensures { MayStep (exec_of B.meaning (at_pc regs.old pc) insn.word) regs.old regs.new result }
+fn target_if(taken: bool, displacement: u32, pc: u32) -> u32
+    ensures { result ≡ (if taken then (pc + displacement) % 2 ^ 32 / 4 * 4 else (pc + 4) % 2 ^ 32) }
+{
+    if taken {
+        pc.wrapping_add(displacement) / 4 * 4
+    } else {
+        pc.wrapping_add(4)
+    }
+}
+
+/// Executes an operation that touches registers only, and returns the next address. None if the
+/// operation isn't one of these; then nothing changes. It has one arm for each such operation; with
+/// everything else inlined into it, this is a single jump.
+#[tactic(auto, unfolding(crate::specs::Instructions::exec_of, crate::specs::Instructions::effect_of, crate::specs::Branches::with_test_and_branch, crate::specs::Branches::with_branch, crate::specs::Arithmetic::with_carrying, crate::specs::Arithmetic::with_sum, crate::specs::Registers::with_checked_result, crate::specs::Registers::with_result, crate::specs::Registers::with_recorded, crate::specs::Registers::with_cr0, crate::specs::Registers::with_ov, crate::specs::Registers::with_ca, crate::specs::Registers::gpr, crate::specs::Registers::with_gpr, crate::specs::Registers::next, crate::specs::Registers::with_cr_field, crate::specs::Registers::so, crate::specs::Conditions::with_signed_order, crate::specs::Conditions::with_order, crate::specs::Logic::with_signed_shift, ppc_word::specs::Ops::fits))]
+#[inline(always)]
+pub fn run_registers<B: Bus>(pc: u32, regs: &mut Regs, insn: Decoded) -> Option<u32>
+    ensures step { MayStep (exec_of B.meaning (at_pc regs.old pc) insn.word) regs.old regs.new result }
+    ensures some { IfSome result (λ _. insn.op ≢ ops.Empty) }
 {
     match insn.op {
+        Op::Branch => Some(target_if(true, insn.immediate, pc)),
+        Op::BranchLink => {
+            regs.lr = pc.wrapping_add(4);
+            Some(target_if(true, insn.immediate, pc))
+        }
+        Op::BranchTrue => {
+            let n = insn.ra;
+            Some(target_if(bits_of(regs.cr, n, n) == 1, insn.immediate, pc))
+        }
+        Op::BranchFalse => {
+            let n = insn.ra;
+            Some(target_if(bits_of(regs.cr, n, n) == 0, insn.immediate, pc))
+        }
+        Op::BranchDecrement => {
+            regs.ctr = regs.ctr.wrapping_add(0xffff_ffff);
+            Some(target_if(regs.ctr != 0, insn.immediate, pc))
+        }
+        Op::BranchToLink => Some(regs.lr / 4 * 4),
+        Op::BranchToCount => Some(regs.ctr / 4 * 4),
         Op::LoadImmediate => {
             write(rt(insn), si(insn.word), regs);
             Some(pc.wrapping_add(4))
@@ -96,18 +130,6 @@ fn run_arithmetic<B: Bus>(pc: u32, regs: &mut Regs, insn: Decoded) -> Option<u32
             compare(in_ra(regs, insn), in_rb(regs, insn), regs, insn);
             Some(pc.wrapping_add(4))
         }
-        _ => None,
-    }
-}
-
-/// Executes an operation that goes to the next instruction, if it is one of logic, a shift or a move
-/// of a special register. None changes nothing.
-#[tactic(auto, unfolding(crate::specs::Instructions::exec_of, crate::specs::Instructions::effect_of, crate::specs::Arithmetic::with_carrying, crate::specs::Arithmetic::with_sum, crate::specs::Registers::with_checked_result, crate::specs::Registers::with_result, crate::specs::Registers::with_recorded, crate::specs::Registers::with_cr0, crate::specs::Registers::with_ov, crate::specs::Registers::with_ca, crate::specs::Registers::gpr, crate::specs::Registers::with_gpr, crate::specs::Registers::next, crate::specs::Registers::with_cr_field, crate::specs::Registers::so, crate::specs::Conditions::with_signed_order, crate::specs::Conditions::with_order, crate::specs::Logic::with_signed_shift, ppc_word::specs::Ops::fits))]
-#[inline(always)]
-fn run_logic<B: Bus>(pc: u32, regs: &mut Regs, insn: Decoded) -> Option<u32>
-    ensures { MayStep (exec_of B.meaning (at_pc regs.old pc) insn.word) regs.old regs.new result }
-{
-    match insn.op {
         Op::Andi => {
             record(ra(insn), in_rs(regs, insn) & ui(insn.word), regs);
             Some(pc.wrapping_add(4))
@@ -194,61 +216,4 @@ fn run_logic<B: Bus>(pc: u32, regs: &mut Regs, insn: Decoded) -> Option<u32>
         }
         _ => None,
     }
-}
-
-// The address after a branch that may be taken: `displacement` from here, or the next instruction.
-#[inline(always)]
-fn target_if(taken: bool, displacement: u32, pc: u32) -> u32
-    ensures { result ≡ (if taken then (pc + displacement) % 2 ^ 32 / 4 * 4 else (pc + 4) % 2 ^ 32) }
-{
-    if taken {
-        pc.wrapping_add(displacement) / 4 * 4
-    } else {
-        pc.wrapping_add(4)
-    }
-}
-
-/// Executes an operation that branches, if it is one. None changes nothing.
-#[tactic(auto, unfolding(crate::specs::Instructions::exec_of, crate::specs::Instructions::effect_of, crate::specs::Branches::with_test_and_branch, crate::specs::Branches::with_branch, ppc_word::specs::Ops::fits))]
-#[inline(always)]
-fn run_branch<B: Bus>(pc: u32, regs: &mut Regs, insn: Decoded) -> Option<u32>
-    ensures { MayStep (exec_of B.meaning (at_pc regs.old pc) insn.word) regs.old regs.new result }
-{
-    match insn.op {
-        Op::Branch => Some(target_if(true, insn.immediate, pc)),
-        Op::BranchLink => {
-            regs.lr = pc.wrapping_add(4);
-            Some(target_if(true, insn.immediate, pc))
-        }
-        Op::BranchTrue => {
-            let n = insn.ra;
-            Some(target_if(bits_of(regs.cr, n, n) == 1, insn.immediate, pc))
-        }
-        Op::BranchFalse => {
-            let n = insn.ra;
-            Some(target_if(bits_of(regs.cr, n, n) == 0, insn.immediate, pc))
-        }
-        Op::BranchDecrement => {
-            regs.ctr = regs.ctr.wrapping_add(0xffff_ffff);
-            Some(target_if(regs.ctr != 0, insn.immediate, pc))
-        }
-        Op::BranchToLink => Some(regs.lr / 4 * 4),
-        Op::BranchToCount => Some(regs.ctr / 4 * 4),
-        _ => None,
-    }
-}
-
-/// Executes an operation that touches registers only, and returns the next address. None if the
-/// operation isn't one of these; then nothing changes.
-#[inline(always)]
-pub fn run_registers<B: Bus>(pc: u32, regs: &mut Regs, insn: Decoded) -> Option<u32>
-    ensures { MayStep (exec_of B.meaning (at_pc regs.old pc) insn.word) regs.old regs.new result }
-{
-    if let Some(next) = run_branch::<B>(pc, regs, insn) {
-        return Some(next);
-    }
-    if let Some(next) = run_arithmetic::<B>(pc, regs, insn) {
-        return Some(next);
-    }
-    run_logic::<B>(pc, regs, insn)
 }

@@ -234,10 +234,10 @@ pub fn load_at<B: Bus>(
         pc regs.old (B.held bus.old) regs.new (B.held bus.new) result }
 {
     let at = address_for(address, regs, insn);
-    let Ok(datum) = read_datum(what, at, bus) else {
+    let Ok(value) = read_datum(what, at, bus) else {
         return Err(Trap::Access);
     };
-    registers::write(operands::rt(insn), taken_of(what, datum), regs);
+    registers::write(operands::rt(insn), taken_of(what, value), regs);
     set_base(address, at, regs, insn);
     Ok(pc.wrapping_add(4))
 }

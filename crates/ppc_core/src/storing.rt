@@ -10,7 +10,7 @@ ghost use Rattle.ppc_core.specs.Stepping.{at_pc, LeavesAt};
 
 use crate::bus::Bus;
 use crate::execution::exec;
-use crate::operands::rt;
+use crate::operands::{ra, rt};
 use crate::registers::{in_ra, in_rs, write};
 use crate::stepping::run_registers;
 use crate::storage::{Address, Load, Store, load_at, store_at};
@@ -63,6 +63,55 @@ pub fn finish_store<B: Bus>(pc: u32, regs: &Regs, insn: Decoded) -> u32
         ≡ Done (at_pc regs.now result) (B.meaning.stored b 4 at (register.in_rs regs.now insn.word)) }
 {
     let _ = insn;
+    pc.wrapping_add(4)
+}
+
+/// Ends `Lwzu` with the word that it read from its address, and returns the next address.
+#[tactic(auto, unfolding(crate::specs::Instructions::exec_of, crate::specs::Instructions::effect_of, crate::specs::Storage::load_of, crate::specs::Registers::gpr, crate::specs::Registers::with_gpr, crate::specs::Registers::next))]
+#[inline(always)]
+pub fn finish_load_update<B: Bus>(
+    at: u32,
+    datum: u32,
+    pc: u32,
+    regs: &mut Regs,
+    insn: Decoded,
+) -> u32
+    requires op { insn.op ≡ ops.Lwzu }
+    requires at { at ≡ storage.offset regs.old insn.word }
+    ensures { (b : B.Held)
+        → B.meaning.faults b 4 at ≡ false → B.meaning.answer b 4 at ≡ datum
+        → exec_of B.meaning (at_pc regs.old pc) insn.word b ≡ Done (at_pc regs.new result) (B.meaning.loaded b 4 at) }
+{
+    write(rt(insn), datum, regs);
+    write(ra(insn), at, regs);
+    pc.wrapping_add(4)
+}
+
+/// Ends `Stwu` after (RS) is written to its address, and returns the next address.
+#[tactic(auto, unfolding(crate::specs::Instructions::exec_of, crate::specs::Instructions::effect_of, crate::specs::Storage::store_of, crate::specs::Registers::gpr, crate::specs::Registers::with_gpr, crate::specs::Registers::next))]
+#[inline(always)]
+pub fn finish_store_update<B: Bus>(at: u32, pc: u32, regs: &mut Regs, insn: Decoded) -> u32
+    requires op { insn.op ≡ ops.Stwu }
+    requires at { at ≡ storage.offset regs.old insn.word }
+    ensures { (b : B.Held)
+        → B.meaning.faults b 4 at ≡ false
+        → exec_of B.meaning (at_pc regs.old pc) insn.word b
+        ≡ Done (at_pc regs.new result) (B.meaning.stored b 4 at (register.in_rs regs.old insn.word)) }
+{
+    write(ra(insn), at, regs);
+    pc.wrapping_add(4)
+}
+
+/// Ends `Lbz` with the byte that it read from its address, and returns the next address.
+#[tactic(auto, unfolding(crate::specs::Instructions::exec_of, crate::specs::Instructions::effect_of, crate::specs::Storage::load_of, crate::specs::Registers::gpr, crate::specs::Registers::with_gpr, crate::specs::Registers::next))]
+#[inline(always)]
+pub fn finish_load_byte<B: Bus>(datum: u32, pc: u32, regs: &mut Regs, insn: Decoded) -> u32
+    requires { insn.op ≡ ops.Lbz }
+    ensures { let at = storage.offset regs.old insn.word in (b : B.Held)
+        → B.meaning.faults b 1 at ≡ false → B.meaning.answer b 1 at ≡ datum
+        → exec_of B.meaning (at_pc regs.old pc) insn.word b ≡ Done (at_pc regs.new result) (B.meaning.loaded b 1 at) }
+{
+    write(rt(insn), datum, regs);
     pc.wrapping_add(4)
 }
 
