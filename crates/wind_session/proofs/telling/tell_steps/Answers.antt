@@ -31,8 +31,7 @@ loop-made-preserved-in-Done g c =
     record {
       run = λ said start n i first there on.
           let head = c.loop-made.invariant.run said start n i first there on in
-          let burst = burst_on _ _ head.0 start n (i + c.loop-made.made) _ first _ head.1 (g.T.Teller.tells c.burst-count.new.self) c.silent_law.ensures c.in_ok-count.count (i + (c.loop-made.made + c.in_ok-count.count)) (omega arith) (omega (arith, there, few)) _ c.in_ok-count.ensures.made (λ here told. c.in_ok-count.ensures.tells _ _ _ _ _ here told) in
-          (
+          let burst = burst_on _ _ head.0 start n (i + c.loop-made.made) _ first _ head.1 (g.T.Teller.tells c.burst-count.new.self) c.silent_law.ensures c.in_ok-count.count (i + (c.loop-made.made + c.in_ok-count.count)) (omega arith) (omega (arith, there, few)) _ c.in_ok-count.ensures.made (λ here told. c.in_ok-count.ensures.tells _ _ _ _ _ here told) in (
             saying head.0 (i + (c.loop-made.made + c.in_ok-count.count)) made.0,
             step_on _ _ head.0 start n _ _ first _ burst _ c.loop-made.invariant.keeps.0.0 _ _ (made.0, made.1, made.2, made.3) _ made.4 (omega (arith, there, few, c.if-made-most.false)) c.in-Ok.ensures.counted
                 (g.T.Teller.tells c.tell-put.new.self) _ (i + (c.loop-made.made + c.in_ok-count.count + 1)) (omega arith)
