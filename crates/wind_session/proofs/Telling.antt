@@ -1,5 +1,5 @@
 -- A run that is told, under way.
-use Rattle.std.proofs.Common.{◌≡◌, ℕ, ◌+◌, ◌<◌, ◌≤◌, List, Option, refl, sym, subst, arith}
+use Rattle.std.proofs.Common.{◌≡◌, ◌≢◌, ℕ, ◌+◌, ◌<◌, ◌≤◌, List, Option, refl, sym, subst, arith}
 use Rattle.kernel_world.specs.declared.reply.Reply.{Reply}
 use Rattle.wind_outside.specs.Files.{Files}
 use Rattle.wind_outside.specs.Requests.{Request}
@@ -10,8 +10,8 @@ use Rattle.board_player.specs.WindMachineRun.{Answers, after}
 use Rattle.board_player.specs.WindMachineSilent.{SilentSteps, SilentLaw}
 use Rattle.wind_session.specs.Modules.{Shelf}
 use Rattle.wind_session.specs.Outside.{Outside, outside, sink_of}
-use Rattle.wind_session.specs.Runs.{After, IsCutOff, IsHalt, IsPut, IsWritten, Made, Ran, TellsOr}
-use Rattle.wind_session.specs.Telling.{GoesOn, IsTold, IsToldInPart, Told, Underway}
+use Rattle.wind_session.specs.Runs.{After, Counted, IsCutOff, IsHalt, IsPut, IsWritten, Made, Ran, TellsOr}
+use Rattle.wind_session.specs.Telling.{CountsBytes, GoesOn, IsTold, IsToldInPart, Told, Underway}
 use Rattle.wind_session.specs.declared.run.RunEnd.{RunEnd}
 use Rattle.wind_session.specs.declared.run.RunEnd.TheVariants as ends
 use Rattle.wind_session.proofs.Bursts.{runs_on}
@@ -50,6 +50,30 @@ ran_told end shelf s t n old new told = record {
   made = subst (λ e. Made e shelf told.said s n told.k t old.requests new.requests) (sym told.tells.0) told.made;
   written = subst (λ e. IsWritten e told.said s told.k old new) (sym told.tells.0) told.tells.1;
 }
+
+-- ---- it was counted
+-- no put failed
+counts_or : (bytes : ℕ) (old new : SinkLog) (said : Answers) (s : State) (k : ℕ) (end : RunEnd) → TellsOr (CountsBytes bytes old new) (λ x u j. ⊥) end said s k → CountsBytes bytes old new said s k × (end ≢ ends.WriteFault)
+counts_or bytes old new said s k ends.WriteFault counts = absurd counts
+counts_or bytes old new said s k ends.Quiet counts = (counts, λ e. cc)
+counts_or bytes old new said s k ends.Limit counts = (counts, λ e. cc)
+counts_or bytes old new said s k ends.ReadFault counts = (counts, λ e. cc)
+counts_or bytes old new said s k ends.NoMemory counts = (counts, λ e. cc)
+
+module _ (bytes : ℕ) (old new : SinkLog) (end : RunEnd) (shelf : Shelf) (s t : State) (n : ℕ) (first last : Option (List Request)) (told : Told (IsTold (CountsBytes bytes old new) (λ said u k. ⊥) end s) shelf s n t first last) where
+  pub counted_told : Counted end shelf s n bytes t first last
+  counted_told =
+      let counts = counts_or bytes old new told.said s told.k told.end told.tells.1 in
+      record {
+        said = told.said;
+        k = told.k;
+        made = subst (λ e. Made e shelf told.said s n told.k t first last) (sym told.tells.0) told.made;
+        bytes_are = counts.0.1;
+        all_put = subst (λ e. e ≢ ends.WriteFault) (sym told.tells.0) counts.1;
+      }
+
+  pub untouched_told : new ≡ old
+  untouched_told = (counts_or bytes old new told.said s told.k told.end told.tells.1).0.0
 
 -- ---- a run under way
 module _ (Tells : SinkLog → SinkLog → Answers → State → ℕ → Type 0) (shelf : Shelf) (said : Answers) (start : State) (n i : ℕ) (u : State) (first mid : Outside) (on : Underway Tells shelf said start n i u first mid) where

@@ -16,6 +16,7 @@ use std::convert::Infallible;
 use wind_outside::{Device, Folder, Put, Sink};
 
 // Counts the bytes that the steps write, and puts nothing.
+#[derive(Drop)]
 struct ByteCount {
     bytes: u128,
 }

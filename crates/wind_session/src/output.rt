@@ -26,6 +26,7 @@ pub(crate) fn put_some<O: Sink>(out: &mut O, bytes: &[u8]) -> Put
 }
 
 /// Puts what each step writes.
+#[derive(Drop)]
 pub(crate) struct Output;
 
 impl Teller for Output {
