@@ -4,8 +4,7 @@ use Rattle.wind_outside.specs.Requests.{Request}
 use Rattle.wind_machine.specs.State.{State}
 use Rattle.wind_machine.specs.Run.{Answers, after}
 use Rattle.wind_session.specs.Modules.{Shelf}
-use Rattle.wind_session.specs.Runs.{After}
-use Rattle.wind_session.specs.Telling.{IsTold, Told}
+use Rattle.wind_session.specs.Telling.{After, IsTold, Told}
 use Rattle.wind_session.specs.declared.run.RunEnd.{RunEnd}
 use Rattle.wind_session.specs.declared.run.RunEnd.TheVariants as ends
 use Rattle.wind_session.proofs.RunLemmas.{stopped}

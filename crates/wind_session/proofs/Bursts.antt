@@ -12,7 +12,7 @@ use Rattle.board_player.specs.WindMachineSilent.{SilentSteps, SilentLaw}
 use Rattle.wind_session.specs.Modules.{Shelf, IsSaid}
 use Rattle.wind_session.specs.Pieces.{output_piece, pieces_of}
 use Rattle.wind_session.proofs.FetchLemmas.{unasked_requests}
-use Rattle.wind_session.specs.Runs.{After}
+use Rattle.wind_session.specs.Telling.{After}
 
 -- a number below i + k is below i, or not
 either_part : (i j : ℕ) → (j < i) ⊎ (i ≤ j)

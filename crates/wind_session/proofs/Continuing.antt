@@ -8,8 +8,8 @@ use Rattle.board_player.specs.WindMachineExtending.{IsRoom}
 use Rattle.wind_session.specs.Modules.{Shelf}
 use Rattle.wind_session.specs.Fetches.{requests_of}
 use Rattle.wind_session.specs.Outside.{Outside}
-use Rattle.wind_session.specs.Runs.{After, IsPut, Ran}
-use Rattle.wind_session.specs.Telling.{Underway}
+use Rattle.wind_session.specs.Runs.{IsPut, Ran}
+use Rattle.wind_session.specs.Telling.{After, Underway}
 use Rattle.wind_session.proofs.RunLemmas.{begun, closed, nothing_said}
 use Rattle.wind_session.proofs.AppendingLemmas.{appended_none}
 use Rattle.wind_session.proofs.FetchLemmas.{grows_none}

@@ -9,7 +9,8 @@ use Rattle.board_player.specs.WindMachineMachine.{IsOver, file_asked, machine_st
 use Rattle.board_player.specs.WindMachineRun.{Answers, after, IsPart}
 use Rattle.wind_session.specs.Modules.{Shelf, IsSaid, AreSaid}
 use Rattle.wind_session.specs.Fetches.{IsLastRequest, Stops, outcome_said, requests_of, step_request}
-use Rattle.wind_session.specs.Runs.{After, IsEnd, IsHalt, Made}
+use Rattle.wind_session.specs.Runs.{IsEnd, IsHalt, Made}
+use Rattle.wind_session.specs.Telling.{After}
 use Rattle.wind_session.proofs.FetchLemmas.{grows_both, grows_none}
 use Rattle.wind_session.proofs.Saying.{saying, state_now, part_now, answers_now, requests_now}
 use Rattle.wind_session.specs.declared.run.RunEnd.{RunEnd}

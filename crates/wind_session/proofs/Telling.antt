@@ -10,8 +10,8 @@ use Rattle.board_player.specs.WindMachineRun.{Answers, after}
 use Rattle.board_player.specs.WindMachineSilent.{SilentSteps, SilentLaw}
 use Rattle.wind_session.specs.Modules.{Shelf}
 use Rattle.wind_session.specs.Outside.{Outside, outside, sink_of}
-use Rattle.wind_session.specs.Runs.{After, Counted, IsCutOff, IsHalt, IsPut, IsWritten, Made, Ran, TellsOr}
-use Rattle.wind_session.specs.Telling.{CountsBytes, GoesOn, IsTold, IsToldInPart, Told, Underway}
+use Rattle.wind_session.specs.Runs.{Counted, IsCutOff, IsHalt, IsPut, IsWritten, Made, Ran, TellsOr}
+use Rattle.wind_session.specs.Telling.{After, CountsBytes, GoesOn, IsTold, IsToldInPart, Told, Underway}
 use Rattle.wind_session.specs.declared.run.RunEnd.{RunEnd}
 use Rattle.wind_session.specs.declared.run.RunEnd.TheVariants as ends
 use Rattle.wind_session.proofs.Bursts.{runs_on}

@@ -8,7 +8,7 @@ use Rattle.board_player.specs.WindMachineState.{State}
 use Rattle.board_player.specs.WindMachineMachine.{file_asked, IsOver, may_exhaust_memory}
 use Rattle.board_player.specs.WindMachineRun.{Answers, after, text, IsPart}
 use Rattle.wind_session.specs.Modules.{Shelf, AreSaid}
-use Rattle.wind_session.specs.Fetches.{Requests, requests_of}
+use Rattle.wind_session.specs.Fetches.{Requests}
 use Rattle.wind_session.specs.Outside.{Outside, sink_of}
 use Rattle.wind_session.specs.Pieces.{output_piece, pieces_of}
 use Rattle.wind_session.specs.declared.run.RunEnd.{RunEnd}
@@ -69,15 +69,6 @@ pub record Made (end : RunEnd) (shelf : Shelf) (said : Answers) (s : State) (n k
   pub state : board ≡ after said s k
   pub ended : IsEnd end said s n k
   pub fetches : Requests end shelf.name said s k old new
-
--- after i steps of a run of at most n, this is the board; the files that the steps needed were as the folder of modules
--- says, and each was fetched once
-pub record After (shelf : Shelf) (said : Answers) (s : State) (n i : ℕ) (board : State) (old now : Option (List Request)) : Type 0 where
-  pub counted : board.steps ≡ i
-  pub answers : AreSaid shelf said s i
-  pub part : IsPart said s n i
-  pub state : board ≡ after said s i
-  pub requests : GrowsBy old now (requests_of shelf.name said s i)
 
 -- the run left these bytes too
 pub record Ran (end : RunEnd) (shelf : Shelf) (s : State) (n : ℕ) (board : State) (old new : Outside) : Type 0 where

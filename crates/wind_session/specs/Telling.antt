@@ -1,14 +1,15 @@
 -- What is told of a run, step by step.
 use Rattle.std.specs.Prelude.{◌≡◌, ℕ, ◌+◌, ◌<◌, ◌≤◌, List, Option, length}
 use Rattle.kernel_world.specs.declared.reply.Reply.{Reply}
-use Rattle.wind_outside.specs.Requests.{Request}
+use Rattle.wind_outside.specs.Requests.{GrowsBy, Request}
 use Rattle.generated_session.specs.Puts.{SinkLog}
 use Rattle.board_player.specs.WindMachineState.{State}
 use Rattle.board_player.specs.WindMachineReplies.{step_reply}
-use Rattle.board_player.specs.WindMachineRun.{Answers, after, text}
-use Rattle.wind_session.specs.Modules.{Shelf}
+use Rattle.board_player.specs.WindMachineRun.{Answers, after, text, IsPart}
+use Rattle.wind_session.specs.Modules.{Shelf, AreSaid}
+use Rattle.wind_session.specs.Fetches.{requests_of}
 use Rattle.wind_session.specs.Outside.{Outside, sink_of}
-use Rattle.wind_session.specs.Runs.{After, Made, TellsOr}
+use Rattle.wind_session.specs.Runs.{Made, TellsOr}
 use Rattle.wind_session.specs.declared.run.RunEnd.{RunEnd}
 
 -- after i steps from s, the step from u to t was made, with this reply; of the files, the same was said at the steps
@@ -24,6 +25,15 @@ abbrev pub StepFrom : (State → Type 0) → (State → Type 0) → State → Ty
 StepFrom Reads Holds t = (u : State) × Reads u × (t.steps ≡ u.steps + 1) × Holds u
 
 -- ---- a run
+-- after i steps of a run of at most n, this is the board; the files that the steps needed were as the folder of modules
+-- says, and each was fetched once
+pub record After (shelf : Shelf) (said : Answers) (s : State) (n i : ℕ) (board : State) (old now : Option (List Request)) : Type 0 where
+  pub counted : board.steps ≡ i
+  pub answers : AreSaid shelf said s i
+  pub part : IsPart said s n i
+  pub state : board ≡ after said s i
+  pub requests : GrowsBy old now (requests_of shelf.name said s i)
+
 -- a run of at most n steps from this start has made i, which led to this board, and they were told
 pub record Underway (Tells : SinkLog → SinkLog → Answers → State → ℕ → Type 0) (shelf : Shelf) (said : Answers) (start : State) (n i : ℕ) (board : State) (first now : Outside) : Type 0 where
   pub run : After shelf said start n i board first.requests now.requests
