@@ -1,13 +1,10 @@
 -- A run that is told, under way.
-use Rattle.std.proofs.Common.{◌≡◌, ◌≢◌, ℕ, zero, suc, ◌+◌, ◌<◌, ◌≤◌, List, [], ◌++◌, Option, None, Some, Result, Ok, Err, inr, refl, sym, ap, ap₂, subst, ◌∙◌, arith, add-one}
+use Rattle.std.proofs.Common.{◌≡◌, ◌≢◌, ℕ, zero, suc, ◌+◌, ◌<◌, ◌≤◌, List, [], ◌++◌, Option, None, Result, Ok, Err, inr, refl, sym, ap, ap₂, subst, ◌∙◌, arith, add-one}
 use Rattle.std.specs.Prelude.{IfOk, OnOk}
 use Rattle.wind_outside.specs.Appending.{AppendedPrefix}
 use Rattle.wind_outside.specs.Requests.{Request}
-use Rattle.wind_session.specs.LiveLoadingSaid.{FileSaid}
 use Rattle.kernel_world.specs.declared.reply.Reply.{Reply}
 use Rattle.wind_machine.specs.State.{State}
-use Rattle.wind_machine.specs.Machine.{machine_step}
-use Rattle.wind_machine.specs.Replies.{step_reply}
 use Rattle.wind_machine.specs.Run.{Answers, after}
 use Rattle.wind_machine.specs.Silent.{SilentLaw, SilentSteps}
 use Rattle.wind_session.proofs.AppendingLemmas.{appended_none}

@@ -7,7 +7,7 @@ use Rattle.wind_outside.specs.Requests.{GrowsBy, Request}
 use Rattle.wind_outside.specs.declared.sink.Put.TheVariants as puts
 use Rattle.board_player.specs.WindMachineState.{State}
 use Rattle.board_player.specs.WindMachineMachine.{machine_step}
-use Rattle.board_player.specs.WindMachineRun.{Answers, after, text}
+use Rattle.board_player.specs.WindMachineRun.{Answers, after}
 use Rattle.board_player.specs.WindMachineSilent.{SilentSteps, SilentLaw}
 use Rattle.wind_session.specs.Modules.{Shelf, IsSaid}
 use Rattle.wind_session.specs.Pieces.{output_piece, pieces_of}

@@ -14,4 +14,4 @@ pub mod Bursts
 pub mod Continuing
 pub mod Growing
 pub mod Putting
-pub mod Telling
+pub mod ToldLemmas

@@ -1,5 +1,5 @@
 -- What the steps of a run wrote, as it is put, or counted.
-use Rattle.std.proofs.Common.{◌≡◌, ◌≢◌, ℕ, ◌+◌, ◌++◌, List, [], Option, refl, sym, ap, subst, ◌∙◌, add-one, length, length-append}
+use Rattle.std.proofs.Common.{◌≡◌, ◌≢◌, ℕ, ◌+◌, ◌++◌, List, [], Option, sym, ap, subst, ◌∙◌, add-one, length, length-append}
 use Rattle.std.specs.Prelude.{take}
 use Rattle.kernel_world.specs.declared.reply.Reply.{Reply}
 use Rattle.wind_outside.specs.Appending.{Appended, AppendedPrefix}
@@ -15,7 +15,7 @@ use Rattle.wind_session.specs.Telling.{CountsBytes, GoesOn}
 use Rattle.wind_session.proofs.AppendingLemmas.{appended_both}
 use Rattle.wind_session.proofs.Bursts.{silent_pieces}
 use Rattle.wind_session.proofs.FetchLemmas.{grows_both}
-use Rattle.wind_session.proofs.Saying.{pieces_before, pieces_on, state_after, text_before, text_on}
+use Rattle.wind_session.proofs.Saying.{pieces_before, pieces_on, text_before, text_on}
 
 -- ---- silent steps
 module _ (law : SilentLaw) (first now : SinkLog) (said : Answers) (s u t : State) (i k : ℕ) (here : u ≡ after said s i) (steps : SilentSteps k u t) where

@@ -4,7 +4,7 @@ use Rattle.wind_session.proofs.AppendingLemmas.{appended_none, rose_earlier}
 use Rattle.wind_session.proofs.RunLemmas.{begun}
 use Rattle.trace_session.specs.Traced.{HoldsPart}
 use Rattle.trace_session.proofs.Seeing.{not_lost, untold}
-use Rattle.wind_session.proofs.Telling.{given_up}
+use Rattle.wind_session.proofs.ToldLemmas.{given_up}
 use Rattle.trace_session.proofs.Telling.{last_given_up, last_told, lost_before, no_lines, none_waits}
 use Rattle.trace_session.proofs.forms.trace_board.Goals as goal
 

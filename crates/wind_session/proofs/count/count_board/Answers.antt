@@ -1,5 +1,5 @@
-use Rattle.std.proofs.Common.{arith, refl}
-use Rattle.wind_session.proofs.Telling.{counted_told, untouched_told}
+use Rattle.std.proofs.Common.{refl}
+use Rattle.wind_session.proofs.ToldLemmas.{counted_told, untouched_told}
 use Rattle.wind_session.proofs.count.count_board.Goals as goal
 
 pub tell_run-requires-clause-tells : goal.tell_run-requires-clause-tells

@@ -1,6 +1,6 @@
 use Rattle.std.proofs.Common.{refl}
 use Rattle.wind_session.proofs.Continuing.{resumed}
-use Rattle.wind_session.proofs.Telling.{ran_told}
+use Rattle.wind_session.proofs.ToldLemmas.{ran_told}
 use Rattle.wind_session.proofs.resuming.resume_board.Goals as goal
 
 -- the run that had reached its limit went on

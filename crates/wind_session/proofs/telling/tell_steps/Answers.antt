@@ -1,6 +1,6 @@
 use Rattle.std.proofs.Common.{◌≡◌, ◌+◌, ◌≤◌, subst, sym, ap, arith, refl}
 use Rattle.std.proofs.lemmas.Result.{err_from_is_err_and}
-use Rattle.generated_session.specs.Puts.{SinkLog}
+use Rattle.generated_session.specs.Puts.{SinkLog, sink_log}
 use Rattle.board_player.specs.WindMachineState.{State}
 use Rattle.board_player.specs.WindMachineExtending.{IsRoom}
 use Rattle.wind_session.specs.Modules.{Shelf}
@@ -11,7 +11,7 @@ use Rattle.wind_session.proofs.Continuing.{burst_counted, burst_room}
 use Rattle.wind_session.proofs.KeepingLemmas.{files_both, files_same}
 use Rattle.wind_session.proofs.RunLemmas.{at_limit, halted, halts_quiet}
 use Rattle.wind_session.proofs.Saying.{saying}
-use Rattle.wind_session.proofs.Telling.{at_count, burst_on, given_up, lost_on, step_on, told_end, told_halt, untold_on}
+use Rattle.wind_session.proofs.ToldLemmas.{at_count, burst_on, given_up, lost_on, step_on, told_end, told_halt, untold_on}
 use Rattle.wind_session.proofs.telling.tell_steps.Goals as goal
 
 -- before the first further step
@@ -132,7 +132,7 @@ returns-in_err-count-clause-given_up g c =
     let p = err_from_is_err_and c.from_residual.result c.from_residual.ensures.1 in
     rw p.1 (λ said start n i first there on.
     let head = c.loop-made.invariant.run said start n i first there on in
-    given_up _ shelf head.0 start _ n (i + c.loop-made.made) (i + c.loop-made.made + made.0) _ _ (c.part_law.ensures _ _ _ _ _ _ (λ j below. refl) head.1.told) (omega arith)
+    given_up (g.T.Teller.part (sink_of first) (sink_log g.O.Sink c.loop-made.out)) shelf head.0 start _ n (i + c.loop-made.made) (i + c.loop-made.made + made.0) _ _ (c.part_law.ensures _ _ _ _ _ _ (λ j below. refl) head.1.told) (omega arith)
     (runs_on c.silent_law.ensures shelf _ start n _ _ _ _ head.1.run made.0 (omega (arith, there, made.1)) _ made.2))
 
 pub returns-in_err-count-clause-steps : goal.returns-in_err-count-clause-steps
@@ -150,7 +150,7 @@ returns-in_err-before-clause-given_up g c =
     rw p.1 (λ said start n i first there on.
     let head = c.loop-made.invariant.run said start n i first there on in
     let burst = burst_on _ shelf head.0 start n (i + c.loop-made.made) _ first _ head.1 (g.T.Teller.tells c.burst.new.self) c.silent_law.ensures c.in_ok-count.count (i + (c.loop-made.made + c.in_ok-count.count)) (omega arith) (omega (arith, there, few)) _ c.in_ok-count.ensures.made (λ here told. c.in_ok-count.ensures.tells _ _ _ _ _ here told) in
-    given_up _ shelf head.0 start _ n (i + c.loop-made.made) _ _ _ (c.part_law.ensures _ _ _ _ _ _ (λ j below. refl) head.1.told) (omega arith) burst.run)
+    given_up (g.T.Teller.part (sink_of first) (sink_log g.O.Sink c.loop-made.out)) shelf head.0 start _ n (i + c.loop-made.made) _ _ _ (c.part_law.ensures _ _ _ _ _ _ (λ j below. refl) head.1.told) (omega arith) burst.run)
 
 pub returns-in_err-before-clause-steps : goal.returns-in_err-before-clause-steps
 returns-in_err-before-clause-steps g c = omega (arith, burst_counted c.silent_law.ensures _ _ c.in_ok-count.count c.in_ok-count.ensures.made, c.loop-made.invariant.counted, c.in_ok-count.ensures.within)
@@ -169,7 +169,7 @@ returns-in_err-put-clause-given_up g c =
     let head = c.loop-made.invariant.run said start n i first there on in
     let burst = burst_on _ shelf head.0 start n (i + c.loop-made.made) _ first _ head.1 (g.T.Teller.tells c.burst.new.self) c.silent_law.ensures c.in_ok-count.count (i + (c.loop-made.made + c.in_ok-count.count)) (omega arith) (omega (arith, there, few)) _ c.in_ok-count.ensures.made (λ here told. c.in_ok-count.ensures.tells _ _ _ _ _ here told) in
     untold_on _ shelf head.0 start n _ _ first _ burst _ c.loop-made.invariant.keeps.0.0 _ _ (made.0, made.1, made.2, made.3) _ made.4 (omega (arith, there, few, c.if-made-most.false)) c.in-Ok.ensures.counted
-    _ (i + c.loop-made.made) (omega arith)
+    (g.T.Teller.part (sink_of first) (sink_log g.O.Sink c.tell.new.out)) (i + c.loop-made.made) (omega arith)
     (λ same. subst (λ (now : SinkLog). g.T.Teller.part (sink_of first) now (saying head.0 (i + (c.loop-made.made + c.in_ok-count.count)) made.0) start (i + c.loop-made.made)) (sym c.in_err-put.ensures.given_up)
     (c.part_law.ensures _ _ head.0 _ start (i + c.loop-made.made) same head.1.told)))
 

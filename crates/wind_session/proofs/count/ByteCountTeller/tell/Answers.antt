@@ -1,4 +1,3 @@
-use Rattle.std.proofs.Common.{◌+◌, ap, arith, length}
 use Rattle.wind_session.proofs.Putting.{count_on}
 use Rattle.wind_session.proofs.count.ByteCountTeller.tell.Goals as goal
 
