@@ -1,7 +1,5 @@
-use Rattle.std.proofs.Common.{subst}
-use Rattle.generated_session.specs.Puts.{SinkLog, sink_log}
-use Rattle.wind_session.specs.Headline.{IsSummed}
-use Rattle.wind_session.proofs.LeftLemmas.{left_put, left_summed}
+use Rattle.generated_session.specs.Puts.{sink_log}
+use Rattle.wind_session.proofs.LeftLemmas.{left_put, left_summed, summed_from}
 use Rattle.wind_session.proofs.PlanLemmas.{few_rounds}
 use Rattle.wind_session.proofs.playing.played.Goals as goal
 
@@ -17,7 +15,7 @@ pub returns-in-Generated-clause-left : goal.returns-in-Generated-clause-left
 returns-in-Generated-clause-left g c = (
   c.count_board-tally.result.end,
   left_summed c.args.command.now.limit c.count_board-tally.result.bytes _ _ _ _ _ _ c.count_board-tally.ensures.counted c.sum_up.result (sink_log g.O.Sink c.args.out.now) (sink_log g.O.Sink c.sum_up.new.out) _ c.in-Generated.rounds c.in-Generated.is
-      (subst (λ (log : SinkLog). IsSummed c.count_board-tally.result.end c.sum_up.result _ log (sink_log g.O.Sink c.sum_up.new.out)) c.count_board-tally.ensures.untouched c.sum_up.ensures.summed),
+      (summed_from c.count_board-tally.result.end c.sum_up.result _ _ _ _ c.count_board-tally.ensures.untouched c.sum_up.ensures.summed),
 )
 
 pub sum_up-requires-clause-rounds : goal.sum_up-requires-clause-rounds
