@@ -1,5 +1,5 @@
 -- Laws on the runs of the wind machine.
-use Rattle.std.proofs.Common.{◌≡◌, ℕ, suc, ◌+◌, ◌<◌, List, [], ◌++◌, Option, Some, refl, sym, ◌∙◌, ap, subst, arith, add-one}
+use Rattle.std.proofs.Common.{◌≡◌, ℕ, suc, ◌+◌, ◌<◌, List, [], Option, Some, refl, sym, ◌∙◌, ap, subst, arith, add-one}
 use Rattle.std.proofs.lemmas.List.{append-nil}
 use Rattle.wind_outside.specs.Files.{Files}
 use Rattle.wind_outside.specs.Requests.{GrowsBy, Request}

@@ -1,4 +1,4 @@
-use Rattle.std.proofs.Common.{◌≡◌, ◌+◌, ◌≤◌, subst, sym, ap, arith, refl}
+use Rattle.std.proofs.Common.{◌+◌, ◌≤◌, subst, sym, ap, arith, refl}
 use Rattle.std.proofs.lemmas.Result.{err_from_is_err_and}
 use Rattle.generated_session.specs.Puts.{SinkLog, sink_log}
 use Rattle.board_player.specs.WindMachineState.{State}
