@@ -10,6 +10,7 @@ use Rattle.wind_session.specs.Headline.{IsComplete, IsPlayed, status_of}
 use Rattle.wind_session.specs.Keeping.{Around, FolderFailed, SinkFailed}
 use Rattle.wind_session.specs.Modules.{Shelf}
 use Rattle.wind_session.specs.Outside.{Outside}
+use Rattle.wind_session.specs.Telling.{Told}
 use Rattle.wind_session.specs.declared.run.RunEnd.{RunEnd}
 use Rattle.wind_session.specs.declared.run.RunEnd.TheVariants as ends
 use Rattle.wind_session.specs.declared.ending.Status.{Status}
@@ -17,7 +18,6 @@ use Rattle.wind_session.specs.declared.ending.Status.TheVariants as status
 use Rattle.wind_session.proofs.InputLemmas.{made_there}
 use Rattle.board_changes.specs.Spans.{SpanState}
 use Rattle.trace_session.specs.Forms.{TellsForm, TellsLess}
-use Rattle.trace_session.specs.Traced.{Traced}
 use Rattle.trace_session.specs.declared.forms.Form.{Form}
 use Rattle.trace_session.specs.Headline.{IsLeft}
 
@@ -60,7 +60,7 @@ module _ (first : List Request) (old : Outside) (mid : Option (List Request)) (g
   there = record old { requests = option_map (λ xs. xs ++ first) old.requests }
 
   traced_there : (Tells : Answers → ℕ → RunEnd → Type 0) (shelf : Shelf) (start : State) (limit : ℕ) (board : State) (new : Option (List Request))
-      → Traced Tells shelf start limit board mid new → Traced Tells shelf start limit board there.requests new
+      → Told Tells shelf start limit board mid new → Told Tells shelf start limit board there.requests new
   traced_there Tells shelf start limit board new traced = record {
     said = traced.said;
     k = traced.k;

@@ -1,23 +1,20 @@
 -- A run that is told, under way.
-use Rattle.std.proofs.Common.{◌≡◌, ◌≢◌, ℕ, zero, suc, ◌+◌, ◌<◌, ◌≤◌, List, [], ◌++◌, Option, None, Some, Result, Ok, Err, inr, refl, sym, ap, ap₂, subst, ◌∙◌, arith, add-one}
+use Rattle.std.proofs.Common.{◌≡◌, ◌≢◌, ℕ, zero, suc, ◌+◌, ◌<◌, ◌≤◌, List, [], ◌++◌, Option, None, Result, Ok, Err, inr, refl, sym, ap, ap₂, subst, ◌∙◌, arith, add-one}
 use Rattle.std.specs.Prelude.{IfOk, OnOk}
 use Rattle.wind_outside.specs.Appending.{AppendedPrefix}
 use Rattle.wind_outside.specs.Requests.{Request}
-use Rattle.wind_session.specs.LiveLoadingSaid.{FileSaid}
 use Rattle.kernel_world.specs.declared.reply.Reply.{Reply}
 use Rattle.wind_machine.specs.State.{State}
-use Rattle.wind_machine.specs.Machine.{machine_step}
-use Rattle.wind_machine.specs.Replies.{step_reply}
 use Rattle.wind_machine.specs.Run.{Answers, after}
 use Rattle.wind_machine.specs.Silent.{SilentLaw, SilentSteps}
 use Rattle.wind_session.proofs.AppendingLemmas.{appended_none}
 use Rattle.wind_session.specs.Modules.{Shelf}
-use Rattle.wind_session.specs.Runs.{IsHalt, Made}
+use Rattle.wind_session.specs.Runs.{TellsOr}
+use Rattle.wind_session.specs.Telling.{GoesOn, IsTold, Told}
 use Rattle.wind_session.specs.declared.run.RunEnd.{RunEnd}
 use Rattle.wind_session.specs.declared.run.RunEnd.TheVariants as ends
 use Rattle.wind_session.proofs.Continuing.{burst_counted}
-use Rattle.wind_session.proofs.RunLemmas.{After, at_halt, closed}
-use Rattle.wind_session.proofs.Saying.{Agree, as_before, said_now, same_after, saying, state_now}
+use Rattle.wind_session.proofs.Saying.{Agree, same_after, state_after, state_before}
 use Rattle.board_trace.specs.Before.{before_step}
 use Rattle.board_trace.specs.Runs.{Line, lines_of, step_lines, with_lines}
 use Rattle.board_trace.specs.Snapshots.{snapshot_of}
@@ -25,8 +22,7 @@ use Rattle.board_trace.specs.Views.{SnapshotState}
 use Rattle.trace_text.specs.Lines.{lines_text}
 use Rattle.trace_text.specs.Pages.{Ends, PageState, count_in}
 use Rattle.trace_session.specs.Spans.{looked_at, spans_after}
-use Rattle.trace_session.specs.Telling.{GoesOn, IsTold, IsToldInPart, TellsOr}
-use Rattle.trace_session.specs.Traced.{HoldsLines, HoldsPart, HoldsSteps, IsPutOf, TellsEvents, TellsPart, Traced, last_line_of}
+use Rattle.trace_session.specs.Traced.{HoldsLines, HoldsPart, HoldsSteps, IsPutOf, TellsEvents, TellsPart, last_line_of}
 use Rattle.trace_session.proofs.Puts.{prefix_more, prefix_put}
 
 -- ---- the same is said at the first steps
@@ -47,60 +43,18 @@ same_spans a b s (suc k) same =
     ∙ ap (λ spans. looked_at (before_step (after b s k)) spans (after b s (suc k))) (same_spans a b s k (shorter a b k same))
 
 -- ---- one step more
--- after i steps another one was made, given what was said of its file
-pub goes_on : (shelf : Shelf) (said : Answers) (s u t : State) (reply : Option Reply) (i : ℕ) (x : FileSaid) → u ≡ after said s i → machine_step x u ≡ Some t → reply ≡ step_reply x u
-    → GoesOn said (saying said i x) s u t reply i
-goes_on shelf said s u t reply i x here step replied = record {
-  same = as_before said i x;
-  from = here;
-  to = state_now shelf said s u t i x here step ∙ ap (after (saying said i x) s) (sym (add-one i));
-  replied = replied ∙ ap (λ y. step_reply y u) (sym (said_now said i x));
-}
-
 module _ (said next : Answers) (s u t : State) (reply : Option Reply) (i : ℕ) (on : GoesOn said next s u t reply i) where
-  start : u ≡ after next s i
-  start = on.from ∙ same_after said next s i on.same
-
-  stop : t ≡ after next s (suc i)
-  stop = on.to ∙ ap (after next s) (add-one i)
-
   pub lines_now : with_lines (step_lines (next i) u t) (lines_of said s i) ≡ lines_of next s (i + 1)
   lines_now =
-      ap₂ (λ (a b : State). with_lines (step_lines (next i) a b) (lines_of said s i)) start stop
+      ap₂ (λ (a b : State). with_lines (step_lines (next i) a b) (lines_of said s i)) (state_before said next s u t reply i on) (state_after said next s u t reply i on)
       ∙ ap (with_lines (step_lines (next i) (after next s i) (after next s (suc i)))) (same_lines said next s i on.same)
       ∙ ap (lines_of next s) (sym (add-one i))
 
   pub spans_now : looked_at (before_step u) (spans_after said s i) t ≡ spans_after next s (i + 1)
   spans_now =
-      ap₂ (λ (a b : State). looked_at (before_step a) (spans_after said s i) b) start stop
+      ap₂ (λ (a b : State). looked_at (before_step a) (spans_after said s i) b) (state_before said next s u t reply i on) (state_after said next s u t reply i on)
       ∙ ap (λ spans. looked_at (before_step (after next s i)) spans (after next s (suc i))) (same_spans said next s i on.same)
       ∙ ap (spans_after next s) (sym (add-one i))
-
--- ---- the run may stop after any step
-pub stopped : (shelf : Shelf) (said : Answers) (s u : State) (n i : ℕ) (old mid : Option (List Request)) → After shelf said s n i u old mid → Made ends.WriteFault shelf said s n i u old mid
-stopped shelf said s u n i old mid run = closed shelf said s u n i old mid run ends.WriteFault tt refl
-
--- the run was given up after k steps, and what is told of its first i is left
-pub given_up : (Part : Option (List ℕ) → Option (List ℕ) → Answers → State → ℕ → Type 0) (first now : Option (List ℕ)) (shelf : Shelf) (said : Answers) (s t : State) (n i k : ℕ) (old last : Option (List Request))
-    → Part first now said s i → i ≤ k → After shelf said s n k t old last → Traced (IsToldInPart (Part first now) s) shelf s n t old last
-given_up Part first now shelf said s t n i k old last part h run = record {
-  said = said;
-  k = k;
-  end = ends.WriteFault;
-  made = stopped shelf said s t n k old last run;
-  tells = (i, h, part);
-}
-
--- it ended, and its steps were told
-pub told_end : (Tells Lost : Answers → State → ℕ → Type 0) (end : RunEnd) (shelf : Shelf) (said : Answers) (s t : State) (n k : ℕ) (old last : Option (List Request)) → Made end shelf said s n k t old last
-    → TellsOr Tells Lost end said s k → Traced (IsTold Tells Lost end s) shelf s n t old last
-told_end Tells Lost end shelf said s t n k old last made tells = record { said = said; k = k; end = end; made = made; tells = (refl, tells) }
-
--- no further step was made
-pub told_halt : (Tells Lost : Answers → State → ℕ → Type 0) (end : RunEnd) (shelf : Shelf) (said : Answers) (s t u : State) (n k : ℕ) (old last : Option (List Request)) → IsHalt end u → Made end shelf said s n k t old last
-    → Tells said s k → Traced (IsTold Tells Lost end s) shelf s n t old last
-told_halt Tells Lost end shelf said s t u n k old last halt made tells =
-    told_end Tells Lost end shelf said s t n k old last made (at_halt (λ e. TellsOr Tells Lost e said s k) u end halt tells tells tells)
 
 -- ---- by how the run ended
 module _ (Tells Lost : Answers → State → ℕ → Type 0) (said : Answers) (s : State) (k : ℕ) where
@@ -144,12 +98,12 @@ ready_on (Ok k) u t waited waits snapshot law few steps more same = (same, omega
 
 -- ---- the last line
 module _ (shelf : Shelf) (s board : State) (n : ℕ) (old mid : Option (List Request)) (first now : Option (List ℕ)) (page : PageState) (end : RunEnd)
-    (ran : Traced (IsTold (HoldsSteps first now page) (HoldsPart first now) end s) shelf s n board old mid) where
+    (ran : Told (IsTold (HoldsSteps first now page) (HoldsPart first now) end s) shelf s n board old mid) where
   abbrev lines : List Line
   lines = lines_of ran.said s ran.k
 
   -- a put failed before it
-  pub lost_before : end ≡ ends.WriteFault → Traced (TellsEvents end s first now) shelf s n board old mid
+  pub lost_before : end ≡ ends.WriteFault → Told (TellsEvents end s first now) shelf s n board old mid
   lost_before e = record {
     said = ran.said;
     k = ran.k;
@@ -164,7 +118,7 @@ module _ (shelf : Shelf) (s board : State) (n : ℕ) (old mid : Option (List Req
 
     -- it was put, or that put failed
     pub last_told : (new : Option (List ℕ)) (result : RunEnd) → ((ls : List Line) → HoldsLines first now page ls → IsPutOf (lines_text ls ++ last_line_of end board) result end first new)
-        → Traced (TellsEvents result s first new) shelf s n board old mid
+        → Told (TellsEvents result s first new) shelf s n board old mid
     last_told new result puts = record {
       said = ran.said;
       k = ran.k;
@@ -176,7 +130,7 @@ module _ (shelf : Shelf) (s board : State) (n : ℕ) (old mid : Option (List Req
     }
 
     -- memory ran out for it
-    pub last_given_up : (new : Option (List ℕ)) → new ≡ now → Traced (TellsPart s first new) shelf s n board old mid
+    pub last_given_up : (new : Option (List ℕ)) → new ≡ now → Told (TellsPart s first new) shelf s n board old mid
     last_given_up new same = record {
       said = ran.said;
       k = ran.k;

@@ -11,6 +11,7 @@ use Rattle.wind_session.specs.Headline.{IsNotPlayed, shelf_of, status_of}
 use Rattle.wind_session.specs.Keeping.{Around}
 use Rattle.wind_session.specs.Modules.{Shelf}
 use Rattle.wind_session.specs.Outside.{Outside, with_inputs}
+use Rattle.wind_session.specs.Telling.{Told}
 use Rattle.wind_session.specs.Plan.{Plan, Start, IsPlan}
 use Rattle.wind_session.specs.declared.run.RunEnd.{RunEnd}
 use Rattle.wind_session.specs.declared.ending.Status.{Status}
@@ -19,15 +20,14 @@ use Rattle.wind_session.specs.declared.ending.Stand.{Stand}
 use Rattle.wind_session.specs.declared.ending.Stand.TheVariants as stands
 use Rattle.board_changes.specs.Spans.{SpanState}
 use Rattle.trace_session.specs.Forms.{TellsForm, TellsLess}
-use Rattle.trace_session.specs.Traced.{Traced}
 use Rattle.trace_session.specs.declared.forms.Form.{Form}
 use Rattle.trace_session.specs.Command.{TraceState, session_of}
 
 -- the status is that of the run, or of a failed put; or memory ran out for the trace
 abbrev pub IsLeft : Form → Option SpanState → Status → Shelf → State → ℕ → State → Outside → Outside → Type 0
 IsLeft form spans s shelf start limit board old new =
-    ((result : RunEnd) × (s ≡ status_of result) × Traced (TellsForm form spans result start old.bytes new.bytes) shelf start limit board old.requests new.requests)
-    ⊎ ((s ≡ status.NoMemory) × Traced (TellsLess form start old.bytes new.bytes) shelf start limit board old.requests new.requests)
+    ((result : RunEnd) × (s ≡ status_of result) × Told (TellsForm form spans result start old.bytes new.bytes) shelf start limit board old.requests new.requests)
+    ⊎ ((s ≡ status.NoMemory) × Told (TellsLess form start old.bytes new.bytes) shelf start limit board old.requests new.requests)
 
 -- a command was played for a trace on this board: the wind machine's, started with the console, the events of the tick
 -- file, these devices, and the rule and kind of the command, and given the files of modules that it needed

@@ -3,7 +3,6 @@ pub mod Forms
 pub mod Laws
 pub mod Spans
 pub mod Steps
-pub mod Telling
 pub mod Traced
 pub mod Command
 pub mod Headline

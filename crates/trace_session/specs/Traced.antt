@@ -1,11 +1,8 @@
 -- What a traced run leaves.
 use Rattle.std.specs.Prelude.{◌≡◌, ◌⊎◌, ℕ, ◌≤◌, List, ◌++◌, Option, length, codes}
 use Rattle.wind_outside.specs.Appending.{Appended, AppendedPrefix}
-use Rattle.wind_outside.specs.Requests.{Request}
 use Rattle.wind_machine.specs.State.{State}
 use Rattle.wind_machine.specs.Run.{Answers, after}
-use Rattle.wind_session.specs.Modules.{Shelf}
-use Rattle.wind_session.specs.Runs.{Made}
 use Rattle.wind_session.specs.declared.run.RunEnd.{RunEnd}
 use Rattle.wind_session.specs.declared.run.RunEnd.TheVariants as ends
 use Rattle.board_trace.specs.Runs.{Line, lines_of}
@@ -16,15 +13,6 @@ use Rattle.trace_session.specs.Spans.{spans_after, spans_of}
 use Rattle.trace_text.specs.Ending.{last_line}
 use Rattle.trace_text.specs.Lines.{lines_text}
 use Rattle.trace_text.specs.Pages.{Ends, PageState, count_in}
-
--- a run of at most n steps from s ended after k steps, and left this board; what is told of it is said of the files'
--- answers, of k and of how the run ended
-pub record Traced (Tells : Answers → ℕ → RunEnd → Type 0) (shelf : Shelf) (s : State) (n : ℕ) (board : State) (old new : Option (List Request)) : Type 0 where
-  pub said : Answers
-  pub k : ℕ
-  pub end : RunEnd
-  pub made : Made end shelf said s n k board old new
-  pub tells : Tells said k end
 
 -- ---- lines
 -- what the last line says of how a run ended

@@ -12,16 +12,15 @@ ghost use Rattle.wind_session.specs.declared.run.RunEnd.TheVariants as ends;
 ghost use Rattle.trace_session.specs.Traced.{HoldsLines, IsPutOf, last_line_of};
 
 use crate::laws::silent_lines_law;
-use crate::run::Teller;
 use crate::tracer::Tracer;
 use board_trace::BeforeStep;
 use std::alloc::Global;
-use trace_state::last_actor;
+use trace_state::{last_actor, look_before};
 use trace_text::Page;
 use wind_base::NoMemory;
 use wind_machine::silent_law;
 use wind_outside::{Device, Put, Sink};
-use wind_session::{Board, RunEnd};
+use wind_session::{Board, RunEnd, Teller};
 
 // A page is put once it has this many bytes.
 const PAGE_BYTES: usize = 65_536;
@@ -90,14 +89,21 @@ fn burst(board: &mut Board, tracer: &mut Tracer, most: u64) -> Result<u64, NoMem
 }
 
 impl Teller for Tracer {
-    ghost use Rattle.board_trace.specs.Views.{snapshot_state};
+    ghost use Rattle.std.specs.Prelude.{◌≡◌};
+    ghost use Rattle.board_trace.specs.{Before.before_step, Views.snapshot_state};
     ghost use Rattle.trace_session.specs.Traced.{HoldsPart, HoldsSteps, IsReady};
 
-    ghost tells = { λ t first now. HoldsSteps first now t.page };
+    type Before = BeforeStep;
 
-    ghost lost = { HoldsPart };
+    type Error = NoMemory;
 
-    ghost part = { HoldsPart };
+    ghost reads = { λ before s. before ≡ before_step s };
+
+    ghost tells = { λ t first now. HoldsSteps first.bytes now.bytes t.page };
+
+    ghost lost = { λ first now. HoldsPart first.bytes now.bytes };
+
+    ghost part = { λ first now. HoldsPart first.bytes now.bytes };
 
     ghost ready = { λ t. IsReady (snapshot_state t.reader.before) t.page };
 
@@ -108,13 +114,17 @@ impl Teller for Tracer {
         burst(board, self, most)
     }
 
+    fn look_before(&self, board: &Board) -> Result<BeforeStep, NoMemory> {
+        look_before(board)
+    }
+
     fn tell<O: Sink>(
         &mut self,
         board: &Board,
-        before_step: &BeforeStep,
+        before: &BeforeStep,
         out: &mut O,
     ) -> Result<Put, NoMemory> {
-        self.add_step(board, before_step)?;
+        self.add_step(board, before)?;
         Ok(put_full(&mut self.page, out))
     }
 }

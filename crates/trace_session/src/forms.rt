@@ -3,15 +3,13 @@
 ghost use Rattle.std.specs.Prelude.{◌≡◌, ◌≤◌, IfOk, OnErr};
 ghost use Rattle.wind_base.specs.Limits.{most_steps};
 ghost use Rattle.wind_outside.specs.Counts.{Rose};
-ghost use Rattle.wind_session.specs.Keeping.{KeepsFiles};
+ghost use Rattle.wind_session.specs.{Keeping.KeepsFiles, Telling.Told};
 ghost use Rattle.wind_session.specs.BoardPlayerSeen.{seen};
 ghost use Rattle.wind_session.specs.declared.run.RunEnd.TheVariants as ends;
 ghost use Rattle.trace_session.specs.Forms.{TellsForm, TellsLess};
-ghost use Rattle.trace_session.specs.Traced.{Traced};
 
 use crate::events::tell_end;
 use crate::observer::Observer;
-use crate::run::tell_run;
 use crate::timeline::put_text;
 use crate::tracer::Tracer;
 use board_changes::Spans;
@@ -19,7 +17,7 @@ use std::alloc::Global;
 use trace_state::state_text;
 use wind_base::NoMemory;
 use wind_outside::{Device, Folder, Sink};
-use wind_session::{Board, RunEnd, count_board};
+use wind_session::{Board, RunEnd, count_board, tell_run};
 
 /// The form in which a run is told.
 #[derive(Clone, Copy, Debug, PartialEq, Eq)]
@@ -58,11 +56,11 @@ pub fn trace_board<F: Folder, O: Sink>(
 ) -> Result<TracedRun, NoMemory>
     requires fresh { (seen ⟦<dyn Device as Device>⟧ board.old).steps ≡ 0 }
     requires bound { limit ≤ most_steps }
-    ensures told { IfOk result (λ t. Traced
+    ensures told { IfOk result (λ t. Told
         (TellsForm form t.spans t.end (seen ⟦<dyn Device as Device>⟧ board.old) (O.bytes out.old) (O.bytes out.new))
         (record { files = F.files folder.old; name = modules.now }) (seen ⟦<dyn Device as Device>⟧ board.old) limit
         (seen ⟦<dyn Device as Device>⟧ board.new) (F.requests folder.old) (F.requests folder.new)) }
-    ensures given_up { OnErr result (Traced
+    ensures given_up { OnErr result (Told
         (TellsLess form (seen ⟦<dyn Device as Device>⟧ board.old) (O.bytes out.old) (O.bytes out.new))
         (record { files = F.files folder.old; name = modules.now }) (seen ⟦<dyn Device as Device>⟧ board.old) limit
         (seen ⟦<dyn Device as Device>⟧ board.new) (F.requests folder.old) (F.requests folder.new)) }
@@ -96,7 +94,7 @@ pub fn trace_board<F: Folder, O: Sink>(
             Ok(TracedRun { end, spans })
         }
         Form::State => {
-            let end = count_board(alloc, board, folder, modules, limit).end;
+            let end = count_board(alloc, board, folder, modules, out, limit).end;
             let text = state_text(alloc, board)?;
             let end = put_text(out, &text, end);
             Ok(TracedRun { end, spans: None })

@@ -11,7 +11,6 @@ mod observer;
 mod playing;
 mod program;
 mod reader;
-mod run;
 mod timeline;
 mod tracer;
 

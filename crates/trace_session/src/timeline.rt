@@ -5,15 +5,23 @@ ghost use Rattle.wind_outside.specs.Counts.{Rose};
 ghost use Rattle.wind_session.specs.declared.run.RunEnd.TheVariants as ends;
 
 use crate::observer::Observer;
-use crate::run::Teller;
 use board_trace::BeforeStep;
+use trace_state::look_before;
 use wind_base::NoMemory;
 use wind_machine::silent_law;
 use wind_outside::{Put, Sink};
-use wind_session::{Board, RunEnd};
+use wind_session::{Board, RunEnd, Teller};
 
 impl Teller for Observer {
+    ghost use Rattle.std.specs.Prelude.{◌≡◌};
+    ghost use Rattle.board_trace.specs.Before.{before_step};
     ghost use Rattle.trace_session.specs.Traced.{SeesSteps};
+
+    type Before = BeforeStep;
+
+    type Error = NoMemory;
+
+    ghost reads = { λ before s. before ≡ before_step s };
 
     ghost tells = { λ o first now. SeesSteps o.spans };
 
@@ -30,13 +38,17 @@ impl Teller for Observer {
         Ok(board.burst(most))
     }
 
+    fn look_before(&self, board: &Board) -> Result<BeforeStep, NoMemory> {
+        look_before(board)
+    }
+
     fn tell<O: Sink>(
         &mut self,
         board: &Board,
-        before_step: &BeforeStep,
+        before: &BeforeStep,
         _: &mut O,
     ) -> Result<Put, NoMemory> {
-        self.look(board, before_step)?;
+        self.look(board, before)?;
         Ok(Put::Done)
     }
 }

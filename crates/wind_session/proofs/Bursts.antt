@@ -7,12 +7,12 @@ use Rattle.wind_outside.specs.Requests.{GrowsBy, Request}
 use Rattle.wind_outside.specs.declared.sink.Put.TheVariants as puts
 use Rattle.board_player.specs.WindMachineState.{State}
 use Rattle.board_player.specs.WindMachineMachine.{machine_step}
-use Rattle.board_player.specs.WindMachineRun.{Answers, after, text}
+use Rattle.board_player.specs.WindMachineRun.{Answers, after}
 use Rattle.board_player.specs.WindMachineSilent.{SilentSteps, SilentLaw}
 use Rattle.wind_session.specs.Modules.{Shelf, IsSaid}
 use Rattle.wind_session.specs.Pieces.{output_piece, pieces_of}
 use Rattle.wind_session.proofs.FetchLemmas.{unasked_requests}
-use Rattle.wind_session.proofs.RunLemmas.{After}
+use Rattle.wind_session.specs.Telling.{After}
 
 -- a number below i + k is below i, or not
 either_part : (i j : ℕ) → (j < i) ⊎ (i ≤ j)
@@ -42,12 +42,8 @@ runs_on law shelf said s n i u old mid run k h t steps =
     step j below (inl less) = run.part.steps j less
     step j below (inr more) = (law said s u t i k run.state steps).made j more below
 
--- they write nothing
-pub as_written : SilentLaw → (shelf : Shelf) (said : Answers) (s : State) (n i : ℕ) (u : State) (old mid : Option (List Request)) → After shelf said s n i u old mid → (k : ℕ) (t : State) → SilentSteps k u t → text said s i ≡ text said s (i + k)
-as_written law shelf said s n i u old mid run k t steps = sym (law said s u t i k run.state steps).text_is
-
--- so they add no piece
-silent_pieces : SilentLaw → (said : Answers) (s u : State) (i : ℕ) → u ≡ after said s i → (k : ℕ) (t : State) → SilentSteps k u t → pieces_of said s (i + k) ≡ pieces_of said s i
+-- they write nothing, so they add no piece
+pub silent_pieces : SilentLaw → (said : Answers) (s u : State) (i : ℕ) → u ≡ after said s i → (k : ℕ) (t : State) → SilentSteps k u t → pieces_of said s (i + k) ≡ pieces_of said s i
 silent_pieces law said s u i here zero t steps = let end : i + 0 ≡ i = omega arith in ap (pieces_of said s) end
 silent_pieces law said s u i here (suc k) t steps =
     let n = i + k in
@@ -58,6 +54,3 @@ silent_pieces law said s u i here (suc k) t steps =
     ∙ ap (λ o. pieces_of said s n ++ output_piece o puts.Done) steps.2.silent
     ∙ append-nil (pieces_of said s n)
     ∙ silent_pieces law said s u i here k steps.0 steps.1
-
-pub as_put : SilentLaw → (shelf : Shelf) (said : Answers) (s : State) (n i : ℕ) (u : State) (old mid : Option (List Request)) → After shelf said s n i u old mid → (k : ℕ) (t : State) → SilentSteps k u t → pieces_of said s i ≡ pieces_of said s (i + k)
-as_put law shelf said s n i u old mid run k t steps = sym (silent_pieces law said s u i run.state k t steps)

@@ -17,7 +17,7 @@ use Rattle.board_player.specs.WindMachineRun.{Answers, after}
 use Rattle.board_player.specs.WindMachineExtending.{More, more_of, longer, extended, bytes_asked, bytes_at, IsUndemanded, IsLater, DemandStays, Setup, booted, IsFed, Grows, GrowsLaw}
 use Rattle.wind_session.specs.Modules.{Shelf}
 use Rattle.wind_session.specs.Fetches.{outcome_said, requests_of, step_request}
-use Rattle.wind_session.specs.Outside.{Outside}
+use Rattle.wind_session.specs.Outside.{Outside, sink_of}
 use Rattle.wind_session.specs.Pieces.{output_piece, pieces_of}
 use Rattle.wind_session.specs.Runs.{IsPut, Ran}
 use Rattle.wind_session.specs.Live.{TypedLaw}
@@ -46,7 +46,7 @@ longer_ran shelf setup console schedule m board old now ran grown =
     let k = ran.k in
     let begun = booted setup console schedule in
     let start = booted setup (console ++ m.bytes) (longer m schedule) in
-    let put : IsPut said begun k old now = ran.written in
+    let put : IsPut (sink_of old) (sink_of now) said begun k = ran.written in
     let requests : requests_of shelf.name said start k ≡ requests_of shelf.name said begun k = same_requests shelf.name said begun start k grown.begins.files in
     let pieces : pieces_of said start k ≡ pieces_of said begun k = same_pieces said m begun start k grown.begins.states in
     record {

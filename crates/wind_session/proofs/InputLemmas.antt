@@ -11,9 +11,8 @@ use Rattle.wind_session.specs.declared.command.Source.TheVariants as sources
 use Rattle.wind_session.specs.Headline.{IsLeft}
 use Rattle.wind_session.specs.Modules.{Shelf}
 use Rattle.wind_session.specs.Outside.{Outside}
-use Rattle.wind_session.specs.Runs.{IsPut, IsWritten, Made}
+use Rattle.wind_session.specs.Runs.{Made}
 use Rattle.wind_session.specs.declared.run.RunEnd.{RunEnd}
-use Rattle.wind_session.specs.declared.run.RunEnd.TheVariants as ends
 use Rattle.wind_session.specs.declared.ending.Status.{Status}
 use Rattle.wind_session.proofs.FetchLemmas.{grows_from}
 
@@ -39,16 +38,6 @@ module _ (first : List Request) (old : Outside) (mid : Option (List Request)) (g
     };
   }
 
-  put_there : (said : Answers) (s : State) (k : ℕ) (new : Outside) → IsPut said s k here new → IsPut said s k there new
-  put_there said s k new put = record { gained = put.gained; pieces = put.pieces }
-
-  written_there : (end : RunEnd) (said : Answers) (s : State) (k : ℕ) (new : Outside) → IsWritten end said s k here new → IsWritten end said s k there new
-  written_there ends.WriteFault said s k new cut = record { before = cut.before; last = cut.last; wrote = cut.wrote; part = cut.part; gained = cut.gained; pieces = cut.pieces }
-  written_there ends.Quiet said s k new put = put_there said s k new put
-  written_there ends.Limit said s k new put = put_there said s k new put
-  written_there ends.ReadFault said s k new put = put_there said s k new put
-  written_there ends.NoMemory said s k new put = put_there said s k new put
-
   left_there : (source : Source) (s : Status) (end : RunEnd) (shelf : Shelf) (start : State) (limit : ℕ) (board : State) (new : Outside) → IsLeft source s end shelf start limit board here new → IsLeft source s end shelf start limit board there new
   left_there sources.Files s end shelf start limit board new (is, ran) = (
     is,
@@ -56,7 +45,7 @@ module _ (first : List Request) (old : Outside) (mid : Option (List Request)) (g
       said = ran.said;
       k = ran.k;
       made = made_there end shelf ran.said start limit ran.k board new.requests ran.made;
-      written = written_there end ran.said start ran.k new ran.written;
+      written = ran.written;
     },
   )
   left_there (sources.Generated n) s end shelf start limit board new sums = record {

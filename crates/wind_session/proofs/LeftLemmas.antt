@@ -36,6 +36,10 @@ summed_none ends.Quiet s texts old new up own same = absurd (cc)
 summed_none ends.Limit s texts old new up own same = absurd (cc)
 summed_none ends.WriteFault s texts old new up own same = absurd (cc)
 
+-- nothing was put before them
+pub summed_from : (end : RunEnd) (s : Status) (texts : List (List ℕ)) (old mid new : SinkLog) → mid ≡ old → IsSummed end s texts mid new → IsSummed end s texts old new
+summed_from end s texts old mid new same h = subst (λ log. IsSummed end s texts log new) same h
+
 module _ (n bytes steps ticks k tick number : ℕ) (end : RunEnd) (s : Status) (some : is_given_up end ≡ false) (is_steps : steps ≡ k) (is_ticks : ticks ≡ tick) (own : s ≡ status_of end) (is_number : number ≡ status_number s) (old new : SinkLog) where
   own_texts : summary_texts n bytes steps ticks number ≡ summary_texts n bytes k tick (status_number (status_of end))
   own_texts =

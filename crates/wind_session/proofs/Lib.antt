@@ -13,3 +13,5 @@ pub mod AppendingLemmas
 pub mod Bursts
 pub mod Continuing
 pub mod Growing
+pub mod Putting
+pub mod ToldLemmas

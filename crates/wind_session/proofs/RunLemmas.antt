@@ -1,34 +1,20 @@
 -- Laws on the runs of the wind machine.
-use Rattle.std.proofs.Common.{◌≡◌, ◌≢◌, ℕ, suc, ◌+◌, ◌<◌, List, [], ◌++◌, Option, Some, refl, sym, ◌∙◌, ap, subst, arith, add-one, length, length-append}
-use Rattle.std.specs.Prelude.{take}
+use Rattle.std.proofs.Common.{◌≡◌, ℕ, suc, ◌+◌, ◌<◌, List, [], Option, Some, refl, sym, ◌∙◌, ap, subst, arith, add-one}
 use Rattle.std.proofs.lemmas.List.{append-nil}
 use Rattle.wind_outside.specs.Files.{Files}
-use Rattle.wind_outside.specs.Requests.{GrowsBy, Request, Piece}
-use Rattle.wind_outside.specs.Appending.{Appended, AppendedPrefix}
-use Rattle.wind_outside.specs.declared.sink.Put.TheVariants as puts
+use Rattle.wind_outside.specs.Requests.{GrowsBy, Request}
 use Rattle.board_player.specs.LiveLoadingSaid.{FileSaid, Missing}
 use Rattle.board_player.specs.WindMachineState.{State}
 use Rattle.board_player.specs.WindMachineMachine.{IsOver, file_asked, machine_step}
-use Rattle.board_player.specs.WindMachineRun.{Answers, after, text, IsPart}
+use Rattle.board_player.specs.WindMachineRun.{Answers, after, IsPart}
 use Rattle.wind_session.specs.Modules.{Shelf, IsSaid, AreSaid}
 use Rattle.wind_session.specs.Fetches.{IsLastRequest, Stops, outcome_said, requests_of, step_request}
-use Rattle.wind_session.specs.Outside.{outside}
-use Rattle.wind_session.specs.Pieces.{output_piece, pieces_of}
-use Rattle.wind_session.specs.Runs.{IsEnd, IsHalt, Made, Ran}
+use Rattle.wind_session.specs.Runs.{IsEnd, IsHalt, Made}
+use Rattle.wind_session.specs.Telling.{After}
 use Rattle.wind_session.proofs.FetchLemmas.{grows_both, grows_none}
-use Rattle.wind_session.proofs.Saying.{saying, state_now, part_now, answers_now, text_now, same_before, requests_now, pieces_now, same_pieces_before}
-use Rattle.wind_session.proofs.AppendingLemmas.{appended_both}
+use Rattle.wind_session.proofs.Saying.{saying, state_now, part_now, answers_now, requests_now}
 use Rattle.wind_session.specs.declared.run.RunEnd.{RunEnd}
 use Rattle.wind_session.specs.declared.run.RunEnd.TheVariants as ends
-
--- after i steps of a run of at most n, this is the board, and the files that the steps needed were as the folder
--- of modules says
-pub record After (shelf : Shelf) (said : Answers) (s : State) (n i : ℕ) (board : State) (old mid : Option (List Request)) : Type 0 where
-  pub counted : board.steps ≡ i
-  pub answers : AreSaid shelf said s i
-  pub part : IsPart said s n i
-  pub state : board ≡ after said s i
-  pub requests : GrowsBy old mid (requests_of shelf.name said s i)
 
 -- ---- before the first step nothing is said
 pub nothing_said : Answers
@@ -67,11 +53,7 @@ at_halt P u ends.ReadFault halt quiet unread exhausted = unread
 at_halt P u ends.WriteFault halt quiet unread exhausted = absurd halt
 at_halt P u ends.NoMemory halt quiet unread exhausted = exhausted
 
--- so the run isn't cut off
-pub not_cut : (u : State) (end : RunEnd) → IsHalt end u → end ≢ ends.WriteFault
-not_cut u end halt = at_halt (λ e. e ≢ ends.WriteFault) u end halt (λ e. cc) (λ e. cc) (λ e. cc)
-
--- and if it is quiet, no step is left
+-- if it is quiet, no step is left
 pub halts_quiet : (u : State) (end : RunEnd) → IsHalt end u → end ≡ ends.Quiet → IsOver u
 halts_quiet u end halt quiet = subst (λ (e : RunEnd). IsHalt e u) quiet halt
 
@@ -105,48 +87,6 @@ module _ (shelf : Shelf) (said : Answers) (s u : State) (n i : ℕ) (first mid :
     pub further : i < n → t.steps ≡ u.steps + 1 → After shelf said_on s n (i + 1) t first last
     further h count = subst (λ k. After shelf said_on s n k t first last) (sym (add-one i)) (one_more h count)
 
-    pub text_on : (old mid new : Option (List ℕ)) → Appended old mid (text said s i) → Appended mid new t.world.output → Appended old new (text said_on s (i + 1))
-    text_on old mid new appended more =
-        subst (λ k. Appended old new (text said_on s k)) (sym (add-one i))
-        (subst (Appended old new) (sym (text_now shelf said s u t i made.0 run.state made.2)) (appended_both old mid new (text said s i) t.world.output appended more))
-
-    pub pieces_on : (old now new : Option (List Piece)) → GrowsBy old now (pieces_of said s i) → GrowsBy now new (output_piece t.world.output puts.Done) → GrowsBy old new (pieces_of said_on s (i + 1))
-    pieces_on old now new appended more =
-        subst (λ k. GrowsBy old new (pieces_of said_on s k)) (sym (add-one i))
-        (subst (GrowsBy old new) (sym (pieces_now shelf said s u t i made.0 run.state made.2)) (grows_both old now new (pieces_of said s i) (output_piece t.world.output puts.Done) appended more))
-
-    -- the steps wrote this many more bytes
-    pub bytes_on : (bytes : ℕ) → bytes ≡ length (text said s i) → bytes + length t.world.output ≡ length (text said_on s (i + 1))
-    bytes_on bytes appended =
-        ap (λ m. m + length t.world.output) appended
-        ∙ sym (length-append (text said s i) t.world.output)
-        ∙ ap length (sym (text_now shelf said s u t i made.0 run.state made.2))
-        ∙ ap (λ k. length (text said_on s k)) (sym (add-one i))
-
-    -- a put that failed after it cut the run off
-    pub cut_off : i < n → t.steps ≡ u.steps + 1 → (old now new : Option (List ℕ)) (old_pieces now_pieces new_pieces : Option (List Piece))
-        → Appended old now (text said s i) → AppendedPrefix now new t.world.output → t.world.output ≢ []
-        → GrowsBy old_pieces now_pieces (pieces_of said s i) → GrowsBy now_pieces new_pieces (output_piece t.world.output puts.Failed)
-        → Ran ends.WriteFault shelf s n t (outside first old old_pieces) (outside last new new_pieces)
-    cut_off h count old now new old_pieces now_pieces new_pieces appended part some put failed =
-        let on = one_more h count in
-        record {
-          said = said_on;
-          k = suc i;
-          made = closed shelf said_on s t n (suc i) first last on ends.WriteFault tt refl;
-          written = record {
-            before = i;
-            last = refl;
-            wrote = subst (λ (v : State). v.world.output ≢ []) on.state some;
-            part = part.0;
-            gained = subst (λ (v : State). Appended old new (text said_on s i ++ take part.0 v.world.output)) on.state
-                (subst (λ w. Appended old new (w ++ take part.0 t.world.output)) (same_before shelf said s u t i made.0 run.state made.2) (appended_both old now new (text said s i) _ appended part.1));
-            pieces = subst (λ (v : State). GrowsBy old_pieces new_pieces (pieces_of said_on s i ++ output_piece v.world.output puts.Failed)) on.state
-                (subst (λ w. GrowsBy old_pieces new_pieces (w ++ output_piece t.world.output puts.Failed)) (same_pieces_before shelf said s u t i made.0 run.state made.2)
-                (grows_both old_pieces now_pieces new_pieces (pieces_of said s i) (output_piece t.world.output puts.Failed) put failed));
-          };
-        }
-
   -- after i steps no further one was made, and nothing changed
   pub halted : (t : State) (last : Option (List Request)) → t ≡ u → i < n → (end : RunEnd) → IsHalt end u → Stops end shelf.name (file_asked u) mid last → Made end shelf said s n i t first last
   halted t last same h end halt stops = record {
@@ -165,3 +105,7 @@ module _ (shelf : Shelf) (said : Answers) (s u : State) (n i : ℕ) (first mid :
   -- as many steps as the limit were made
   pub at_limit : i ≡ n → Made ends.Limit shelf said s n i u first mid
   at_limit e = closed shelf said s u n i first mid run ends.Limit e refl
+
+  -- the run may stop after any step
+  pub stopped : Made ends.WriteFault shelf said s n i u first mid
+  stopped = closed shelf said s u n i first mid run ends.WriteFault tt refl

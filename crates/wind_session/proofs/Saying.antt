@@ -1,15 +1,18 @@
--- What is said at one step more.
-use Rattle.std.proofs.Common.{◌≡◌, ℕ, List, zero, suc, ◌<◌, cond, eqb, ◌++◌, Some, IsSome, refl, sym, ap, ◌∙◌, subst, arith, below_more, add-one}
+-- What is said at one step more, and what is told of it.
+use Rattle.std.proofs.Common.{◌≡◌, ℕ, ◌+◌, List, Option, zero, suc, ◌<◌, cond, eqb, ◌++◌, Some, IsSome, refl, sym, ap, ◌∙◌, subst, arith, below_more, add-one}
 use Rattle.std.specs.Prelude.{unwrap_or}
 use Rattle.std.proofs.lemmas.Bool.{eq-eqb, ne_eqb}
+use Rattle.kernel_world.specs.declared.reply.Reply.{Reply}
 use Rattle.board_player.specs.LiveLoadingSaid.{FileSaid}
 use Rattle.board_player.specs.WindMachineState.{State}
 use Rattle.board_player.specs.WindMachineMachine.{file_asked, machine_step}
+use Rattle.board_player.specs.WindMachineReplies.{step_reply}
 use Rattle.board_player.specs.WindMachineRun.{Answers, after, text, IsPart}
 use Rattle.wind_outside.specs.declared.sink.Put.TheVariants as puts
 use Rattle.wind_session.specs.Modules.{Shelf, IsSaid, AreSaid}
 use Rattle.wind_session.specs.Fetches.{outcome_said, requests_of, step_request}
 use Rattle.wind_session.specs.Pieces.{output_piece, pieces_of}
+use Rattle.wind_session.specs.Telling.{GoesOn}
 
 -- the same is said at the first steps
 abbrev pub Agree : Answers → Answers → ℕ → Type 0
@@ -89,24 +92,47 @@ module _ (shelf : Shelf) (said : Answers) (s u t : State) (i : ℕ) (x : FileSai
           subst (λ (v : State). IsSaid shelf v (now j)) (same_after said now s j (λ k less. as_before said i x k (omega (arith, less, below))))
           (subst (IsSaid shelf (after said s j)) (as_before said i x j below) (appended_now j below))
 
-  pub text_now : text now s (suc i) ≡ text said s i ++ t.world.output
-  text_now =
-      ap (λ w. w ++ (after now s (suc i)).world.output) (sym (same_text said now s i (as_before said i x)))
-      ∙ ap (λ (v : State). text said s i ++ v.world.output) (sym state_now)
-
-  pub same_before : text said s i ≡ text now s i
-  same_before = same_text said now s i (as_before said i x)
-
   pub requests_now : requests_of shelf.name now s (suc i) ≡ requests_of shelf.name said s i ++ step_request shelf.name (file_asked u) (outcome_said x)
   requests_now =
       ap (λ r. r ++ step_request shelf.name (file_asked (after now s i)) (outcome_said (now i))) (sym (same_requests shelf.name said now s i (as_before said i x)))
       ∙ ap (λ (v : State). requests_of shelf.name said s i ++ step_request shelf.name (file_asked v) (outcome_said (now i))) (sym (here ∙ still))
       ∙ ap (λ y. requests_of shelf.name said s i ++ step_request shelf.name (file_asked u) (outcome_said y)) (said_now said i x)
 
-  pub pieces_now : pieces_of now s (suc i) ≡ pieces_of said s i ++ output_piece t.world.output puts.Done
-  pieces_now =
-      ap (λ p. p ++ output_piece (after now s (suc i)).world.output puts.Done) (sym (same_pieces said now s i (as_before said i x)))
-      ∙ ap (λ (v : State). pieces_of said s i ++ output_piece v.world.output puts.Done) (sym state_now)
+-- ---- a step more was made after i steps
+-- of the files, the same is said before it
+pub goes_on : (shelf : Shelf) (said : Answers) (s u t : State) (reply : Option Reply) (i : ℕ) (x : FileSaid) → u ≡ after said s i → machine_step x u ≡ Some t → reply ≡ step_reply x u
+    → GoesOn said (saying said i x) s u t reply i
+goes_on shelf said s u t reply i x here step replied = record {
+  same = as_before said i x;
+  from = here;
+  to = state_now shelf said s u t i x here step ∙ ap (after (saying said i x) s) (sym (add-one i));
+  replied = replied ∙ ap (λ y. step_reply y u) (sym (said_now said i x));
+}
 
-  pub same_pieces_before : pieces_of said s i ≡ pieces_of now s i
-  same_pieces_before = same_pieces said now s i (as_before said i x)
+module _ (said next : Answers) (s u t : State) (reply : Option Reply) (i : ℕ) (on : GoesOn said next s u t reply i) where
+  -- the states before it and after it
+  pub state_before : u ≡ after next s i
+  state_before = on.from ∙ same_after said next s i on.same
+
+  pub state_after : t ≡ after next s (suc i)
+  state_after = on.to ∙ ap (after next s) (add-one i)
+
+  -- what the steps before it wrote, and their pieces
+  pub text_before : text said s i ≡ text next s i
+  text_before = same_text said next s i on.same
+
+  pub pieces_before : pieces_of said s i ≡ pieces_of next s i
+  pieces_before = same_pieces said next s i on.same
+
+  -- and with its output
+  pub text_on : text said s i ++ t.world.output ≡ text next s (i + 1)
+  text_on =
+      ap (λ w. w ++ t.world.output) text_before
+      ∙ ap (λ (v : State). text next s i ++ v.world.output) state_after
+      ∙ ap (text next s) (sym (add-one i))
+
+  pub pieces_on : pieces_of said s i ++ output_piece t.world.output puts.Done ≡ pieces_of next s (i + 1)
+  pieces_on =
+      ap (λ p. p ++ output_piece t.world.output puts.Done) pieces_before
+      ∙ ap (λ (v : State). pieces_of next s i ++ output_piece v.world.output puts.Done) state_after
+      ∙ ap (pieces_of next s) (sym (add-one i))

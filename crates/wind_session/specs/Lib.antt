@@ -13,6 +13,7 @@ pub mod Plan
 pub mod Program
 pub mod Runs
 pub mod Status
+pub mod Telling
 pub mod Texts
 pub mod Words
 pub use Rattle.board_player.specs.Seen as BoardPlayerSeen

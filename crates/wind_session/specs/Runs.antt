@@ -3,12 +3,13 @@ use Rattle.std.specs.Prelude.{◌≡◌, ◌≢◌, ℕ, suc, ◌<◌, List, [],
 use Rattle.wind_outside.specs.Appending.{Appended}
 use Rattle.wind_outside.specs.Requests.{GrowsBy, Request}
 use Rattle.wind_outside.specs.declared.sink.Put.TheVariants as puts
+use Rattle.generated_session.specs.Puts.{SinkLog}
 use Rattle.board_player.specs.WindMachineState.{State}
 use Rattle.board_player.specs.WindMachineMachine.{file_asked, IsOver, may_exhaust_memory}
 use Rattle.board_player.specs.WindMachineRun.{Answers, after, text, IsPart}
 use Rattle.wind_session.specs.Modules.{Shelf, AreSaid}
 use Rattle.wind_session.specs.Fetches.{Requests}
-use Rattle.wind_session.specs.Outside.{Outside}
+use Rattle.wind_session.specs.Outside.{Outside, sink_of}
 use Rattle.wind_session.specs.Pieces.{output_piece, pieces_of}
 use Rattle.wind_session.specs.declared.run.RunEnd.{RunEnd}
 use Rattle.wind_session.specs.declared.run.RunEnd.TheVariants as ends
@@ -28,7 +29,7 @@ IsEnd end said s n k = (k < n) × IsHalt end (after said s k)
 
 -- the last of k steps wrote something; the sink gained a part of it, after all that the steps before wrote, and the
 -- put of its piece failed
-pub record IsCutOff (said : Answers) (s : State) (k : ℕ) (old new : Outside) : Type 0 where
+pub record IsCutOff (old new : SinkLog) (said : Answers) (s : State) (k : ℕ) : Type 0 where
   pub before : ℕ
   pub last : k ≡ suc before
   pub wrote : (after said s k).world.output ≢ []
@@ -37,17 +38,21 @@ pub record IsCutOff (said : Answers) (s : State) (k : ℕ) (old new : Outside) :
   pub pieces : GrowsBy old.pieces new.pieces (pieces_of said s before ++ output_piece (after said s k).world.output puts.Failed)
 
 -- all that k steps wrote was put, one piece for each step that wrote anything
-pub record IsPut (said : Answers) (s : State) (k : ℕ) (old new : Outside) : Type 0 where
+pub record IsPut (old new : SinkLog) (said : Answers) (s : State) (k : ℕ) : Type 0 where
   pub gained : Appended old.bytes new.bytes (text said s k)
   pub pieces : GrowsBy old.pieces new.pieces (pieces_of said s k)
 
+-- of the steps of a run that ended like this, the first holds, or the second if a put failed
+abbrev pub TellsOr : (Answers → State → ℕ → Type 0) → (Answers → State → ℕ → Type 0) → RunEnd → Answers → State → ℕ → Type 0
+TellsOr Tells Lost ends.WriteFault said s k = Lost said s k
+TellsOr Tells Lost ends.Quiet said s k = Tells said s k
+TellsOr Tells Lost ends.Limit said s k = Tells said s k
+TellsOr Tells Lost ends.ReadFault said s k = Tells said s k
+TellsOr Tells Lost ends.NoMemory said s k = Tells said s k
+
 -- what the sink has gained after k steps: all that they wrote, unless a put failed
 abbrev pub IsWritten : RunEnd → Answers → State → ℕ → Outside → Outside → Type 0
-IsWritten ends.WriteFault said s k old new = IsCutOff said s k old new
-IsWritten ends.Quiet said s k old new = IsPut said s k old new
-IsWritten ends.Limit said s k old new = IsPut said s k old new
-IsWritten ends.ReadFault said s k old new = IsPut said s k old new
-IsWritten ends.NoMemory said s k old new = IsPut said s k old new
+IsWritten end said s k old new = TellsOr (IsPut (sink_of old) (sink_of new)) (IsCutOff (sink_of old) (sink_of new)) end said s k
 
 -- the run was given up: a file could not be read, or memory ran out
 abbrev pub is_given_up : RunEnd → Bool

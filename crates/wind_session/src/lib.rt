@@ -3,15 +3,18 @@
 #![tactic(auto)]
 
 mod command;
+mod count;
 mod ending;
 mod laws;
 mod modules;
 mod opening;
+mod output;
 mod paths;
 mod playing;
 mod report;
 mod resuming;
 mod run;
+mod telling;
 
 pub use board_player::{Board, instant_law};
 pub use command::{
@@ -19,6 +22,7 @@ pub use command::{
     command_of_matches, matches_of, number_of, option, valid, value_of, with_board_options,
     with_session_options,
 };
+pub use count::{Tally, count_board};
 pub use ending::{Ending, Stand, Status, Which};
 pub use laws::{growing_law, words_law};
 pub use modules::step;
@@ -27,4 +31,5 @@ pub use paths::path_in;
 pub use playing::{Inputs, inputs_of, play};
 pub use report::{put_pieces, tell, tell_no_memory, tell_usage};
 pub use resuming::resume_board;
-pub use run::{RunEnd, Tally, count_board, run_board};
+pub use run::{RunEnd, run_board};
+pub use telling::{Teller, tell_run, tell_steps};

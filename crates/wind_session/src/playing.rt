@@ -15,9 +15,10 @@ ghost use Rattle.wind_session.specs.declared.ending.Stand.TheVariants as stands;
 ghost use Rattle.wind_session.specs.declared.command.Source.TheVariants as sources;
 
 use crate::command::{Command, CommandErr, PROGRAM, Source, command_of};
+use crate::count::{Tally, count_board};
 use crate::ending::{Ending, Stand, Status, Which};
 use crate::report::{tell, tell_no_memory, tell_usage};
-use crate::run::{RunEnd, Tally, count_board, run_board};
+use crate::run::{RunEnd, run_board};
 use board_player::{Board, instant_law};
 use generated_session::Summary;
 use std::alloc::Global;
@@ -203,7 +204,7 @@ fn played<F: Folder, O: Sink>(
             Status::from(end)
         }
         Source::Generated(rounds) => {
-            let tally = count_board(alloc, board, folder, command.modules, command.limit);
+            let tally = count_board(alloc, board, folder, command.modules, out, command.limit);
             sum_up(rounds, board, tally, out)
         }
     }

@@ -7,11 +7,12 @@ ghost use Rattle.board_player.specs.{Seen.seen, WindMachineState.State, WindMach
 ghost use Rattle.wind_session.specs.{Keeping.KeepsFiles, Outside.{Outside, outside}, Runs.Ran};
 ghost use Rattle.wind_session.specs.declared.run.RunEnd.TheVariants as ends;
 
-use crate::modules::step;
-use crate::run::{RunEnd, put_some};
-use board_player::{Board, extend_law, silent_law};
+use crate::output::Output;
+use crate::run::RunEnd;
+use crate::telling::tell_steps;
+use board_player::Board;
 use std::alloc::Global;
-use wind_outside::{Device, Folder, Put, Sink};
+use wind_outside::{Device, Folder, Sink};
 
 /// Makes at most `most` further steps, and puts what each of them writes. The modules that the
 /// steps need are fetched from the folder. If the board has made all its steps in a run that
@@ -41,22 +42,6 @@ pub fn resume_board<F: Folder, O: Sink>(
     ensures fault { result ≡ ends.WriteFault → Rose (O.faults out.old) (O.faults out.new) }
     ensures keeps { KeepsFiles ⟦<F as Folder>⟧ ⟦<O as Sink>⟧ folder.old out.old folder.new out.new }
 {
-    silent_law();
-    extend_law();
-    let mut made = 0;
-    while made < most {
-        made += board.burst(most - made);
-        if made == most {
-            return RunEnd::Limit;
-        }
-        match step(alloc, board, folder, modules) {
-            Ok(()) => made += 1,
-            Err(end) => return end,
-        }
-        match put_some(out, board.output()) {
-            Put::Done => {}
-            Put::Failed => return RunEnd::WriteFault,
-        }
-    }
-    RunEnd::Limit
+    let Ok(end) = tell_steps(alloc, board, folder, modules, out, most, &mut Output);
+    end
 }

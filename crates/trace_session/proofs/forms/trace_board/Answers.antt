@@ -4,7 +4,8 @@ use Rattle.wind_session.proofs.AppendingLemmas.{appended_none, rose_earlier}
 use Rattle.wind_session.proofs.RunLemmas.{begun}
 use Rattle.trace_session.specs.Traced.{HoldsPart}
 use Rattle.trace_session.proofs.Seeing.{not_lost, untold}
-use Rattle.trace_session.proofs.Telling.{given_up, last_given_up, last_told, lost_before, no_lines, none_waits}
+use Rattle.wind_session.proofs.ToldLemmas.{given_up}
+use Rattle.trace_session.proofs.Telling.{last_given_up, last_told, lost_before, no_lines, none_waits}
 use Rattle.trace_session.proofs.forms.trace_board.Goals as goal
 
 -- ---- lines
@@ -12,7 +13,7 @@ use Rattle.trace_session.proofs.forms.trace_board.Goals as goal
 pub returns-in_err-tracer-in-Events-clause-given_up : goal.returns-in_err-tracer-in-Events-clause-given_up
 returns-in_err-tracer-in-Events-clause-given_up g c =
     let p = err_from_is_err_and c.from_residual.result c.from_residual.ensures.1 in
-    rw (p.1, c.in-Events.is) (given_up HoldsPart _ _ _ _ _ _ c.args.limit 0 0 _ _ (0, appended_none _) (omega arith) (begun _ _ c.args.limit _ c.requires.fresh))
+    rw (p.1, c.in-Events.is) (given_up (HoldsPart _ _) _ _ _ _ c.args.limit 0 0 _ _ (0, appended_none _) (omega arith) (begun _ _ c.args.limit _ c.requires.fresh))
 
 pub tell_run-requires-clause-tells : goal.tell_run-requires-clause-tells
 tell_run-requires-clause-tells g c = λ said. no_lines _ _ c.in_ok-tracer-in-Events.ensures.page

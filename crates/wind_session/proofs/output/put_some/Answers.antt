@@ -5,7 +5,7 @@ use Rattle.wind_outside.specs.declared.sink.Put.{Put}
 use Rattle.wind_outside.specs.declared.sink.Put.TheVariants as puts
 use Rattle.wind_session.specs.Pieces.{output_piece}
 use Rattle.wind_session.proofs.FetchLemmas.{grows_none}
-use Rattle.wind_session.proofs.run.put_some.Goals as goal
+use Rattle.wind_session.proofs.output.put_some.Goals as goal
 
 -- the piece of an output, which is empty or not
 no_piece : (bytes : List ℕ) (outcome : Put) → (length bytes == 0) ≡ true → output_piece bytes outcome ≡ []
