@@ -14,7 +14,9 @@ ghost use Rattle.board_actors.specs.{Instructions.{ExecutesMany, MayRun}, Runnin
 use board_bus::BoardBus;
 use board_mem::{PAGE, WORDS};
 use live_loading::{Actor, World};
-use ppc_core::{finish_load, load_address, run_bus, run_registers};
+use ppc_core::{
+    finish_load, finish_load_byte, finish_load_update, load_address, offset, run_bus, run_registers,
+};
 use ppc_word::{Decoded, Op};
 use wind_base::Regs;
 use wind_outside::Device;
@@ -44,8 +46,35 @@ fn copied(entry: &Decoded) -> Decoded
     }
 }
 
-// Executes a decoded word that uses registers, and of the bus at most a word of RAM, and returns
-// the next address. None if it needs more, or if it is empty; then nothing changes.
+// Executes a load from RAM, of one of the rows that load most. None if the instruction is another,
+// or if the bytes aren't all in RAM; then nothing changes.
+#[inline(always)]
+fn run_load(pc: u32, regs: &mut Regs, insn: Decoded, bus: &BoardBus) -> Option<u32>
+    ensures some { IfSome result (λ _. insn.op ≢ ops.Empty) }
+    ensures step { MatchOption result (regs.new ≡ regs.old)
+        (λ next. exec_of board_meaning (at_pc regs.old pc) insn.word (bus_seen ⟦<dyn Device as Device>⟧ bus.now)
+        ≡ Done (at_pc regs.new next) (bus_seen ⟦<dyn Device as Device>⟧ bus.now)) }
+{
+    match insn.op {
+        Op::LoadWord => {
+            let word = bus.ram.read32(load_address(regs, insn))?;
+            Some(finish_load::<BoardBus>(word, pc, regs, insn))
+        }
+        Op::Lwzu => {
+            let at = offset(regs, insn);
+            let word = bus.ram.read32(at)?;
+            Some(finish_load_update::<BoardBus>(at, word, pc, regs, insn))
+        }
+        Op::Lbz => {
+            let byte = bus.ram.read8(offset(regs, insn))?;
+            Some(finish_load_byte::<BoardBus>(byte, pc, regs, insn))
+        }
+        _ => None,
+    }
+}
+
+// Executes an instruction that needs no more of the bus than to read RAM, of the rows of
+// `run_registers` and `run_load`. None if it is another; then nothing changes.
 #[inline(always)]
 fn run_reading(pc: u32, regs: &mut Regs, insn: Decoded, bus: &BoardBus) -> Option<u32>
     ensures some { IfSome result (λ _. insn.op ≢ ops.Empty) }
@@ -53,19 +82,10 @@ fn run_reading(pc: u32, regs: &mut Regs, insn: Decoded, bus: &BoardBus) -> Optio
         (λ next. exec_of board_meaning (at_pc regs.old pc) insn.word (bus_seen ⟦<dyn Device as Device>⟧ bus.now)
         ≡ Done (at_pc regs.new next) (bus_seen ⟦<dyn Device as Device>⟧ bus.now)) }
 {
-    if insn.op == Op::Empty {
-        return None;
-    }
     if let Some(next) = run_registers::<BoardBus>(pc, regs, insn) {
         return Some(next);
     }
-    match insn.op {
-        Op::LoadWord => {
-            let word = bus.ram.read32(load_address(regs, insn))?;
-            Some(finish_load::<BoardBus>(word, pc, regs, insn))
-        }
-        _ => None,
-    }
+    run_load(pc, regs, insn, bus)
 }
 
 // The decoded word, if it isn't empty.
@@ -80,7 +100,7 @@ fn known(insn: Decoded) -> Option<Decoded>
 }
 
 // Executes instructions from an address on as long as they are in its page and need no more of the
-// bus than a word of RAM, at most `most`.
+// bus than to read RAM, at most `most`.
 #[inline(always)]
 fn run_in_page(start: u32, regs: &mut Regs, bus: &BoardBus, most: u64) -> Straight
     requires { Unit {0} }
