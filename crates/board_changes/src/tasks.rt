@@ -1,6 +1,6 @@
 //! The changes of tasks.
 
-ghost use Rattle.std.specs.Prelude.{◌≡◌, ◌++◌, OnOk, option_copied};
+ghost use Rattle.std.specs.Prelude.{◌≡◌, ◌++◌, OnOk, true, is_some, option_copied};
 ghost use Rattle.board_changes.specs.Listed.{listed};
 ghost use Rattle.board_changes.specs.Tasks.{suspension_changes, priority_changes, kept_changes, changes_of, live_changes, deletion, deletions, task_changes};
 
@@ -38,6 +38,20 @@ fn priority_change(before: &TaskView, after: &TaskView) -> Option<Change>
     })
 }
 
+// Whether a task has the same priority, suspension and wake, and waits if it did before.
+#[inline(always)]
+fn is_quiet(before: &TaskView, after: &TaskView) -> bool
+    ensures pri { result ≡ true → before.now.pri ≡ after.now.pri }
+    ensures suspended { result ≡ true → before.now.suspended ≡ after.now.suspended }
+    ensures wake { result ≡ true → before.now.wake ≡ after.now.wake }
+    ensures wait { result ≡ true → is_some before.now.wait ≡ is_some after.now.wait }
+{
+    before.pri == after.pri
+        && before.suspended == after.suspended
+        && before.wake == after.wake
+        && before.wait.is_some() == after.wait.is_some()
+}
+
 // Adds the changes of a task that lives before and after.
 fn add_kept_changes(
     list: &mut Vec<Change>,
@@ -47,6 +61,9 @@ fn add_kept_changes(
 ) -> Result<(), NoMemory>
     ensures { OnOk result (list.new.items ≡ list.old.items ++ kept_changes results before.now after.now) }
 {
+    if is_quiet(before, after) {
+        return Ok(());
+    }
     add_if(list, wait_change(results, before, after))?;
     let suspension = suspension_change(after.id, before.suspended, after.suspended);
     add_if(list, suspension)?;
