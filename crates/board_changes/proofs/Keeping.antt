@@ -1,34 +1,15 @@
 -- Spans that go on: the tasks are the same and look the same.
-use Rattle.std.proofs.Common.{◌≡◌, ℕ, ◌<◌, ◌≤◌, Bool, true, false, cond, eqb, ltb, List, [], ◌∷◌, ◌++◌, map, Option, Some, None, refl, sym, ap, ap₂, subst, ◌∙◌, append_assoc, arith}
+use Rattle.std.proofs.Common.{◌≡◌, ℕ, ◌<◌, true, cond, eqb, ltb, List, [], ◌∷◌, ◌++◌, map, Option, refl, sym, ap, ap₂, subst, ◌∙◌, append_assoc, arith}
 use Rattle.std.specs.Prelude.{◌&&◌}
-use Rattle.std.proofs.lemmas.Bool.{and_parts, eqb-true, eq-eqb, ltb-true, ne_eqb}
+use Rattle.std.proofs.lemmas.Bool.{and_parts, eqb-true, ltb-true}
 use Rattle.std.proofs.lemmas.List.{append-nil}
-use Rattle.id_table.specs.Records.{of_id}
 use Rattle.board_changes.specs.Looks.{look_of, is_same}
 use Rattle.board_changes.specs.Spans.{SpanState, all_ends, all_kept, ended, ends, goes_on, going_after, is_kept, observed, open_task, opened}
 use Rattle.board_changes.specs.Views.{task_id}
 use Rattle.board_changes.specs.declared.spans.Open.{Open}
 use Rattle.board_changes.specs.declared.spans.Span.{Span}
 use Rattle.board_changes.specs.declared.view.TaskView.{TaskView}
-
-module _ {X : Type 0} (id : X → ℕ) where
-  -- ids up to a number
-  abbrev AreUpTo : ℕ → List X → Type 0
-  AreUpTo n [] = Unit {0}
-  AreUpTo n (x ∷ xs) = (id x ≤ n) × AreUpTo n xs
-
-  -- the first item above them is found
-  first_above : (before after : List X) (x : X) (low n : ℕ) → AreUpTo low before → low < n → id x ≡ n → of_id id (before ++ x ∷ after) n ≡ Some x
-  first_above [] after x low n all up same = ap (λ b. cond b (Some x) (of_id id after n)) (eq-eqb (id x) n same)
-  first_above (p ∷ ps) after x low n all up same =
-      let under : id p ≤ low = all.0 in
-      ap (λ b. cond b (Some p) (of_id id (ps ++ x ∷ after) n)) (ne_eqb (id p) n (λ q. omega arith))
-      ∙ first_above ps after x low n all.1 up same
-
-  -- with it, ids are up to its id
-  one_above : (before : List X) (x : X) (low : ℕ) → AreUpTo low before → low < id x → AreUpTo (id x) (before ++ x ∷ [])
-  one_above [] x low all up = (omega arith, tt)
-  one_above (p ∷ ps) x low all up = (let under : id p ≤ low = all.0 in omega arith, one_above ps x low all.1 up)
+use Rattle.board_changes.proofs.Above.{AreUpTo, first_above, one_above}
 
 module _ (runner : Option ℕ) where
   -- what a first pair shows

@@ -1,2 +1,4 @@
 pub mod Walking
+mod Above
 mod Keeping
+mod Quiet

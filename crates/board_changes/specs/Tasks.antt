@@ -1,7 +1,8 @@
 -- What a step changes of tasks, from the views before and after it.
-use Rattle.std.specs.Prelude.{ℕ, Bool, true, false, ◌==◌, ◌&&◌, if◌then◌else◌, List, [], ◌∷◌, ◌++◌, Option, None, Some}
+use Rattle.std.specs.Prelude.{ℕ, Bool, true, false, ◌==◌, ◌&&◌, nat_lt, if◌then◌else◌, List, [], ◌∷◌, ◌++◌, Option, None, Some, is_some}
 use Rattle.wind_base.specs.Limits.{error_word}
 use Rattle.id_table.specs.Records.{of_id}
+use Rattle.board_changes.specs.Looks.{same_flag}
 use Rattle.board_changes.specs.Views.{task_id}
 use Rattle.board_changes.specs.declared.awaited.Awaited.{Awaited}
 use Rattle.board_changes.specs.declared.awaited.Awaited.TheVariants as awaited
@@ -62,6 +63,27 @@ suspension_changes who true true = []
 -- the priority changes; by inheritance, if the normal priority is the same
 abbrev pub priority_changes : TaskView → TaskView → List Change
 priority_changes b t = if b.pri == t.pri then [] else changes.Priority t.id b.pri t.pri (b.normal == t.normal) ∷ []
+
+-- ---- tasks of which no change is told
+-- two ticks are the same, or both are none
+abbrev pub same_tick : Option ℕ → Option ℕ → Bool
+same_tick None None = true
+same_tick (Some a) (Some b) = a == b
+same_tick None (Some b) = false
+same_tick (Some a) None = false
+
+-- one task has the same priority, suspension and wake, and waits if it did before
+abbrev pub is_quiet : TaskView → TaskView → Bool
+is_quiet b t =
+    b.id == t.id && (b.pri == t.pri && (same_flag b.suspended t.suspended
+    && (same_flag (is_some b.wait) (is_some t.wait) && same_tick b.wake t.wake)))
+
+-- the tasks are the same, by ids that rise above a number, and quiet
+abbrev pub all_quiet : ℕ → List TaskView → List TaskView → Bool
+all_quiet low [] [] = true
+all_quiet low [] (t ∷ ts) = false
+all_quiet low (b ∷ bs) [] = false
+all_quiet low (b ∷ bs) (t ∷ ts) = nat_lt low b.id && (is_quiet b t && all_quiet b.id bs ts)
 
 -- ---- one task, and all tasks
 -- a task that lives before and after the step

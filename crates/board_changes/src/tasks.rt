@@ -1,8 +1,8 @@
 //! The changes of tasks.
 
-ghost use Rattle.std.specs.Prelude.{◌≡◌, ◌++◌, OnOk, true, is_some, option_copied};
+ghost use Rattle.std.specs.Prelude.{◌≡◌, ◌++◌, OnOk, true, option_copied};
 ghost use Rattle.board_changes.specs.Listed.{listed};
-ghost use Rattle.board_changes.specs.Tasks.{suspension_changes, priority_changes, kept_changes, changes_of, live_changes, deletion, deletions, task_changes};
+ghost use Rattle.board_changes.specs.Tasks.{all_quiet, is_quiet as is_quiet_lem, same_tick as same_tick_lem, suspension_changes, priority_changes, kept_changes, changes_of, live_changes, deletion, deletions, task_changes};
 
 use crate::change::Change;
 use crate::list::{add, add_if};
@@ -38,18 +38,44 @@ fn priority_change(before: &TaskView, after: &TaskView) -> Option<Change>
     })
 }
 
-// Whether a task has the same priority, suspension and wake, and waits if it did before.
-#[inline(always)]
-fn is_quiet(before: &TaskView, after: &TaskView) -> bool
-    ensures pri { result ≡ true → before.now.pri ≡ after.now.pri }
-    ensures suspended { result ≡ true → before.now.suspended ≡ after.now.suspended }
-    ensures wake { result ≡ true → before.now.wake ≡ after.now.wake }
-    ensures wait { result ≡ true → is_some before.now.wait ≡ is_some after.now.wait }
+// Whether two ticks are the same, or both are none.
+fn same_tick(one: Option<u64>, other: Option<u64>) -> bool
+    ensures { result ≡ same_tick_lem one other }
 {
-    before.pri == after.pri
+    match (one, other) {
+        (None, None) => true,
+        (Some(one), Some(other)) => one == other,
+        (None, Some(_)) | (Some(_), None) => false,
+    }
+}
+
+// Whether these are views of one task of which no change is told.
+fn is_quiet(before: &TaskView, after: &TaskView) -> bool
+    ensures { result ≡ is_quiet_lem before.now after.now }
+{
+    before.id == after.id
+        && before.pri == after.pri
         && before.suspended == after.suspended
-        && before.wake == after.wake
         && before.wait.is_some() == after.wait.is_some()
+        && same_tick(before.wake, after.wake)
+}
+
+// Whether no change of a task is told: the tasks are the same, by rising id, and quiet.
+fn are_quiet(before: &[TaskView], after: &[TaskView]) -> bool
+    ensures { result ≡ true → all_quiet 0 before.now after.now ≡ true }
+{
+    if before.len() != after.len() {
+        return false;
+    }
+    let mut last = 0;
+    for place in 0..before.len() {
+        let who = before[place].id.get();
+        if who <= last || !is_quiet(&before[place], &after[place]) {
+            return false;
+        }
+        last = who;
+    }
+    true
 }
 
 // Adds the changes of a task that lives before and after.
@@ -61,9 +87,6 @@ fn add_kept_changes(
 ) -> Result<(), NoMemory>
     ensures { OnOk result (list.new.items ≡ list.old.items ++ kept_changes results before.now after.now) }
 {
-    if is_quiet(before, after) {
-        return Ok(());
-    }
     add_if(list, wait_change(results, before, after))?;
     let suspension = suspension_change(after.id, before.suspended, after.suspended);
     add_if(list, suspension)?;
@@ -138,6 +161,9 @@ pub fn add_task_changes(
 ) -> Result<(), NoMemory>
     ensures { OnOk result (list.new.items ≡ list.old.items ++ task_changes results before.now after.now) }
 {
+    if are_quiet(before, after) {
+        return Ok(());
+    }
     let views = Views { before, after };
     add_live(list, results, &views)?;
     add_deletions(list, &views)
