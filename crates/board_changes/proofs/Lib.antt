@@ -2,3 +2,5 @@ pub mod Walking
 mod Above
 mod Keeping
 mod Quiet
+mod Tiling
+mod Running
