@@ -4,3 +4,4 @@ mod Keeping
 mod Quiet
 mod Tiling
 mod Running
+pub mod Replaying

@@ -1,11 +1,12 @@
 -- Tasks of which no change is told.
 use Rattle.std.proofs.Common.{◌≡◌, ℕ, ◌<◌, Bool, true, false, cond, eqb, ltb, List, [], ◌∷◌, ◌++◌, Option, None, Some, refl, sym, ap, ap₂, subst, ◌∙◌, append_assoc, arith}
-use Rattle.std.specs.Prelude.{◌&&◌, is_some}
+use Rattle.std.specs.Prelude.{◌&&◌, ◌||◌, not}
 use Rattle.std.proofs.lemmas.Bool.{and_parts, eqb-true, ltb-true}
 use Rattle.board_changes.specs.Looks.{same_flag}
-use Rattle.board_changes.specs.Tasks.{all_quiet, changes_of, deletion, deletions, is_quiet, kept_changes, live_changes, priority_changes, same_tick, sleep_changes, suspension_changes, task_changes, wait_cases}
+use Rattle.board_changes.specs.Tasks.{all_quiet, changes_of, deletion, deletions, is_quiet, kept_changes, live_changes, normal_changes, other_wait, priority_changes, same_tick, same_wait, sleep_changes, suspension_changes, task_changes, wait_cases}
 use Rattle.board_changes.specs.Views.{task_id}
 use Rattle.board_changes.specs.declared.awaited.Awaited.{Awaited}
+use Rattle.board_changes.specs.declared.change.Change.{Change}
 use Rattle.board_changes.specs.declared.change.Change.TheVariants as changes
 use Rattle.board_changes.specs.declared.view.TaskView.{TaskView}
 use Rattle.board_changes.proofs.Above.{AreUpTo, first_above, one_above}
@@ -23,11 +24,12 @@ no_suspension who true false same = absurd (cc)
 no_suspension who false true same = absurd (cc)
 
 module _ (results : Bool) where
-  no_wait : (b t : TaskView) (v w : Option Awaited) → same_flag (is_some v) (is_some w) ≡ true → same_tick b.wake t.wake ≡ true → wait_cases results b t v w ≡ []
+  no_wait : (b t : TaskView) (v w : Option Awaited) → same_wait v w ≡ true → same_tick b.wake t.wake ≡ true → wait_cases results b t v w ≡ []
   no_wait b t None None same wake = no_sleep t.id b.wake t.wake wake
   no_wait b t None (Some w) same wake = absurd (cc)
   no_wait b t (Some v) None same wake = absurd (cc)
-  no_wait b t (Some v) (Some w) same wake = refl
+  no_wait b t (Some v) (Some w) same wake =
+      ap (λ x. cond (x && same_tick b.wake t.wake) [] (other_wait results t v w)) same ∙ ap (λ x. cond x [] (other_wait results t v w)) wake
 
   -- what a first pair shows
   record FirstQuiet (low : ℕ) (b t : TaskView) (bs ts : List TaskView) : Type 0 where
@@ -40,18 +42,21 @@ module _ (results : Bool) where
   first_quiet low b t bs ts quiet =
       let both = and_parts (ltb low b.id) (is_quiet b t && all_quiet b.id bs ts) quiet in
       let later = and_parts (is_quiet b t) (all_quiet b.id bs ts) both.1 in
-      let waits = same_flag (is_some b.wait) (is_some t.wait) && same_tick b.wake t.wake in
+      let waits = same_wait b.wait t.wait && same_tick b.wake t.wake in
       let suspended = same_flag b.suspended t.suspended in
-      let id = and_parts (eqb b.id t.id) (eqb b.pri t.pri && (suspended && waits)) later.0 in
-      let pri = and_parts (eqb b.pri t.pri) (suspended && waits) id.1 in
-      let other = and_parts suspended waits pri.1 in
-      let wait = and_parts (same_flag (is_some b.wait) (is_some t.wait)) (same_tick b.wake t.wake) other.1 in
+      let id = and_parts (eqb b.id t.id) (eqb b.pri t.pri && (eqb b.normal t.normal && (suspended && waits))) later.0 in
+      let pri = and_parts (eqb b.pri t.pri) (eqb b.normal t.normal && (suspended && waits)) id.1 in
+      let normal = and_parts (eqb b.normal t.normal) (suspended && waits) pri.1 in
+      let other = and_parts suspended waits normal.1 in
+      let wait = and_parts (same_wait b.wait t.wait) (same_tick b.wake t.wake) other.1 in
+      let set : List Change = changes.Normal t.id t.normal ∷ [] in
       record {
         up = ltb-true low b.id both.0;
         same = eqb-true b.id t.id id.0;
         none =
-            ap₂ (λ xs ys. xs ++ (ys ++ priority_changes b t)) (no_wait b t b.wait t.wait wait.0 wait.1) (no_suspension t.id b.suspended t.suspended other.0)
-            ∙ ap (λ x. cond x [] (changes.Priority t.id b.pri t.pri (eqb b.normal t.normal) ∷ [])) pri.0;
+            ap₂ (λ xs ys. xs ++ (ys ++ (priority_changes b t ++ normal_changes b t))) (no_wait b t b.wait t.wait wait.0 wait.1) (no_suspension t.id b.suspended t.suspended other.0)
+            ∙ ap (λ x. cond x [] (changes.Priority t.id b.pri t.pri (eqb b.normal t.normal) ∷ []) ++ normal_changes b t) pri.0
+            ∙ ap (λ x. cond (x || (not (eqb b.pri t.pri) && eqb t.pri t.normal)) [] set) normal.0;
         rest = later.1;
       }
 

@@ -7,3 +7,4 @@ pub mod Watchdogs
 pub mod Modules
 pub mod Walks
 pub mod Tiling
+pub mod Replay

@@ -1,13 +1,13 @@
 //! The changes of tasks.
 
-ghost use Rattle.std.specs.Prelude.{◌≡◌, ◌++◌, OnOk, true, option_copied};
+ghost use Rattle.std.specs.Prelude.{◌≡◌, ◌++◌, OnOk, true, None, option_copied};
 ghost use Rattle.board_changes.specs.Listed.{listed};
-ghost use Rattle.board_changes.specs.Tasks.{all_quiet, is_quiet as is_quiet_lem, same_tick as same_tick_lem, suspension_changes, priority_changes, kept_changes, changes_of, live_changes, deletion, deletions, task_changes};
+ghost use Rattle.board_changes.specs.Tasks.{all_quiet, is_quiet as is_quiet_lem, newborn as newborn_lem, normal_changes, suspension_changes, priority_changes, kept_changes, changes_of, live_changes, deletion, deletions, task_changes};
 
 use crate::change::Change;
 use crate::list::{add, add_if};
 use crate::view::{TaskView, Views};
-use crate::waits::wait_change;
+use crate::waits::{add_wait_changes, same_tick, same_wait};
 use crate::walk::{START, found};
 use id_table::Ident;
 use wind_base::NoMemory;
@@ -38,15 +38,17 @@ fn priority_change(before: &TaskView, after: &TaskView) -> Option<Change>
     })
 }
 
-// Whether two ticks are the same, or both are none.
-fn same_tick(one: Option<u64>, other: Option<u64>) -> bool
-    ensures { result ≡ same_tick_lem one other }
+// The change of a task's normal priority, unless that of its priority tells it.
+fn normal_change(before: &TaskView, after: &TaskView) -> Option<Change>
+    ensures { listed result ≡ normal_changes before.now after.now }
 {
-    match (one, other) {
-        (None, None) => true,
-        (Some(one), Some(other)) => one == other,
-        (None, Some(_)) | (Some(_), None) => false,
+    if before.normal == after.normal || (before.pri != after.pri && after.pri == after.normal) {
+        return None;
     }
+    Some(Change::Normal {
+        who: after.id,
+        to: after.normal,
+    })
 }
 
 // Whether these are views of one task of which no change is told.
@@ -55,8 +57,9 @@ fn is_quiet(before: &TaskView, after: &TaskView) -> bool
 {
     before.id == after.id
         && before.pri == after.pri
+        && before.normal == after.normal
         && before.suspended == after.suspended
-        && before.wait.is_some() == after.wait.is_some()
+        && same_wait(&before.wait, &after.wait)
         && same_tick(before.wake, after.wake)
 }
 
@@ -87,10 +90,40 @@ fn add_kept_changes(
 ) -> Result<(), NoMemory>
     ensures { OnOk result (list.new.items ≡ list.old.items ++ kept_changes results before.now after.now) }
 {
-    add_if(list, wait_change(results, before, after))?;
+    add_wait_changes(list, results, before, after)?;
     let suspension = suspension_change(after.id, before.suspended, after.suspended);
     add_if(list, suspension)?;
-    add_if(list, priority_change(before, after))
+    add_if(list, priority_change(before, after))?;
+    add_if(list, normal_change(before, after))
+}
+
+// The view of a new task: it is ready, and its priority is its normal one.
+fn newborn(view: &TaskView) -> TaskView
+    ensures { result ≡ newborn_lem view.now }
+{
+    TaskView {
+        id: view.id,
+        name: view.name.copied(),
+        pri: view.pri,
+        normal: view.pri,
+        wait: None,
+        wake: None,
+        suspended: false,
+        answer: view.answer,
+        errno: view.errno,
+    }
+}
+
+// Adds that a task is spawned, and what changed of it since.
+fn add_spawn(list: &mut Vec<Change>, results: bool, after: &TaskView) -> Result<(), NoMemory>
+    ensures { OnOk result (list.new.items ≡ list.old.items ++ changes_of results None after.now) }
+{
+    let spawned = Change::Spawned {
+        who: after.id,
+        pri: after.pri,
+    };
+    add(list, spawned)?;
+    add_kept_changes(list, results, &newborn(after), after)
 }
 
 // Adds the changes of a task that lives after a step.
@@ -105,13 +138,7 @@ fn add_changes_of(
 {
     match before {
         Some(before) => add_kept_changes(list, results, before, after),
-        None => add(
-            list,
-            Change::Spawned {
-                who: after.id,
-                pri: after.pri,
-            },
-        ),
+        None => add_spawn(list, results, after),
     }
 }
 

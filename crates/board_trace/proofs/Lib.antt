@@ -1,3 +1,4 @@
 mod Ending
 pub mod Naming
 pub mod Replying
+mod Replaying

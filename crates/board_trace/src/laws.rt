@@ -1,6 +1,6 @@
 //! What follows from the definitions of a trace alone.
 
-ghost use Rattle.board_trace.specs.Laws.{ReplyLaw, ErrorLaw, WaitEndLaw};
+ghost use Rattle.board_trace.specs.Laws.{ReplyLaw, ErrorLaw, StepReplayLaw, WaitEndLaw};
 
 /// The law of replies: the happenings of a step tell exactly one call if the step makes one, with
 /// the reply of that call. So a line tells a refusal exactly if the call was refused, with its
@@ -18,4 +18,11 @@ pub fn error_law()
 /// is one, the end is told with that answer and that error.
 pub fn wait_end_law()
     ensures { WaitEndLaw }
+{}
+
+/// The law of replay: in a step that isn't one instruction, whether a task lives, its wait, wake and
+/// suspension, its priority and its normal priority after the step follow from those before it and
+/// the changes of the task that are told.
+pub fn step_replay_law()
+    ensures { StepReplayLaw }
 {}
