@@ -2,3 +2,4 @@ mod Ending
 pub mod Naming
 pub mod Replying
 mod Replaying
+mod Observing

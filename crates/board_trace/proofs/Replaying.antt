@@ -8,6 +8,7 @@ use Rattle.kernel_world.specs.declared.call.Call.{Call}
 use Rattle.kernel_world.specs.declared.call.Call.TheVariants as calls
 use Rattle.kernel_world.specs.declared.reply.Reply.{Reply}
 use Rattle.kernel_world.specs.declared.reply.Reply.TheVariants.{Answer, Refusal, Later, Gone}
+use Rattle.wind_machine.specs.Laws.{StepLaw}
 use Rattle.wind_machine.specs.Replies.{step_reply}
 use Rattle.wind_machine.specs.State.{State}
 use Rattle.wind_machine.specs.declared.next.Next.{Next}
@@ -19,6 +20,7 @@ use Rattle.board_changes.specs.Spans.{view_of}
 use Rattle.board_changes.specs.Tasks.{task_changes}
 use Rattle.board_changes.specs.Watchdogs.{watchdog_changes}
 use Rattle.board_changes.proofs.Replaying.{modules_untold, replays, told_append, watchdogs_untold}
+use Rattle.board_trace.proofs.Observing.{good_distinct}
 use Rattle.board_trace.specs.Before.{before_step, mutex_named}
 use Rattle.board_trace.specs.Laws.{StepReplayLaw, change_in, changes_told}
 use Rattle.board_trace.specs.Level.{is_exception, exception_told, is_abort, faults, routine_ends, may_begin, begins, routines}
@@ -172,9 +174,9 @@ of_tasks n tick who before after =
     ∙ ap (λ cs. told_of who tasks ++ cs) (told_append who watchdogs mods ∙ ap₂ (λ p q. p ++ q) (watchdogs_untold who tick before.watchdogs after.watchdogs) (modules_untold who before.modules after.modules))
     ∙ append-nil (told_of who tasks)
 
-pub step_replays : StepReplayLaw
+pub step_replays : StepLaw → StepReplayLaw
 unfolding happenings
-step_replays said s t who stands one other =
+step_replays keeps said s t who is_early good makes stands =
     let c = before_step s in
     let r = after_step c (step_reply said s) t in
     let before = snapshot_of s.world in
@@ -183,4 +185,4 @@ step_replays said s t who stands one other =
     ap (λ b. replayed (told_of who (changes_told (cond b (switches before.last after.last ++ instruction_of c.actor) (step_happenings c before after r t.world.output)))) life) stands
     ∙ ap (λ cs. replayed (told_of who cs) life) (all_told c before after r t.world.output)
     ∙ ap (λ cs. replayed cs life) (of_tasks c.next r.tick who before after)
-    ∙ replays (not (is_hearing c.next)) before.tasks after.tasks who one other
+    ∙ replays (not (is_hearing c.next)) before.tasks after.tasks who (good_distinct s good) (good_distinct t (keeps said s t is_early good makes))
