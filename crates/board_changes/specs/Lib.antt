@@ -6,3 +6,5 @@ pub mod Tasks
 pub mod Watchdogs
 pub mod Modules
 pub mod Walks
+pub mod Tiling
+pub mod Replay

@@ -1,5 +1,5 @@
 -- The spans of a run: for each task the times from and to which it has the same look.
-use Rattle.std.specs.Prelude.{ℕ, ◌==◌, nat_lt, if◌then◌else◌, List, [], ◌∷◌, ◌++◌, map, Option, None, Some, find}
+use Rattle.std.specs.Prelude.{ℕ, ◌==◌, ◌&&◌, Bool, true, false, nat_lt, if◌then◌else◌, List, [], ◌∷◌, ◌++◌, map, Option, None, Some, find}
 use Rattle.board_changes.specs.declared.view.TaskView.{TaskView}
 use Rattle.board_changes.specs.Looks.{look_of, is_same}
 use Rattle.board_changes.specs.declared.look.Look.{Look}
@@ -31,6 +31,17 @@ goes_on (Some o) who time look = if is_same o.look look then o else opened who t
 -- the span of a task after a moment
 abbrev pub going_after : List Open → ℕ → Option ℕ → TaskView → Open
 going_after going time runner t = goes_on (going_of going t.id) t.id time (look_of runner t)
+
+-- a span goes on with this view: it is of the same task, which looks the same
+abbrev pub is_kept : Option ℕ → Open → TaskView → Bool
+is_kept runner o t = o.who == t.id && is_same o.look (look_of runner t)
+
+-- every span goes on, and no other begins: the tasks are the same, by ids that rise above a number, and look the same
+abbrev pub all_kept : Option ℕ → ℕ → List Open → List TaskView → Bool
+all_kept runner low [] [] = true
+all_kept runner low [] (t ∷ ts) = false
+all_kept runner low (o ∷ os) [] = false
+all_kept runner low (o ∷ os) (t ∷ ts) = nat_lt low o.who && (is_kept runner o t && all_kept runner o.who os ts)
 
 -- a span has ended at this time; one of no time is left out
 abbrev pub ended : Open → ℕ → List Span

@@ -1,7 +1,8 @@
 -- What a step changes of tasks, from the views before and after it.
-use Rattle.std.specs.Prelude.{ℕ, Bool, true, false, ◌==◌, ◌&&◌, if◌then◌else◌, List, [], ◌∷◌, ◌++◌, Option, None, Some}
+use Rattle.std.specs.Prelude.{ℕ, Bool, true, false, ◌==◌, ◌&&◌, ◌||◌, not, nat_lt, if◌then◌else◌, List, [], ◌∷◌, ◌++◌, Option, None, Some}
 use Rattle.wind_base.specs.Limits.{error_word}
 use Rattle.id_table.specs.Records.{of_id}
+use Rattle.board_changes.specs.Looks.{same_flag}
 use Rattle.board_changes.specs.Views.{task_id}
 use Rattle.board_changes.specs.declared.awaited.Awaited.{Awaited}
 use Rattle.board_changes.specs.declared.awaited.Awaited.TheVariants as awaited
@@ -40,13 +41,52 @@ sleep_changes who None (Some tick) = changes.Sleeps who tick ∷ []
 sleep_changes who (Some old) None = changes.Wakes who ∷ []
 sleep_changes who (Some old) (Some tick) = if old == tick then [] else changes.Sleeps who tick ∷ []
 
--- a wait begins or ends; a task that waits for nothing may begin or end to sleep; a task that waits makes no call, so
--- it waits for the same as before
+-- the kinds of waits have different numbers
+abbrev pub kind_of : Awaited → ℕ
+kind_of (awaited.Semaphore id) = 0
+kind_of (awaited.Mutex id) = 1
+kind_of (awaited.Receiving id) = 2
+kind_of (awaited.Sending id) = 3
+kind_of (awaited.Deletion id) = 4
+kind_of awaited.Console = 5
+
+-- the id of what is waited for; 0 for the console
+abbrev pub id_of : Awaited → ℕ
+id_of (awaited.Semaphore id) = id
+id_of (awaited.Mutex id) = id
+id_of (awaited.Receiving id) = id
+id_of (awaited.Sending id) = id
+id_of (awaited.Deletion id) = id
+id_of awaited.Console = 0
+
+-- two tasks wait for the same
+abbrev pub same_awaited : Awaited → Awaited → Bool
+same_awaited object other = kind_of object == kind_of other && id_of object == id_of other
+
+-- two tasks wait for the same, or neither waits
+abbrev pub same_wait : Option Awaited → Option Awaited → Bool
+same_wait None None = true
+same_wait (Some object) (Some other) = same_awaited object other
+same_wait None (Some other) = false
+same_wait (Some object) None = false
+
+-- two ticks are the same, or both are none
+abbrev pub same_tick : Option ℕ → Option ℕ → Bool
+same_tick None None = true
+same_tick (Some a) (Some b) = a == b
+same_tick None (Some b) = false
+same_tick (Some a) None = false
+
+-- a wait for one thing ends, and one for another begins
+abbrev pub other_wait : Bool → TaskView → Awaited → Awaited → List Change
+other_wait results t old object = ends results t old ∷ begins t object ∷ []
+
+-- a wait begins, or ends, also for another; a task that waits for nothing may begin or end to sleep
 abbrev pub wait_cases : Bool → TaskView → TaskView → Option Awaited → Option Awaited → List Change
 wait_cases results b t None None = sleep_changes t.id b.wake t.wake
 wait_cases results b t None (Some object) = begins t object ∷ []
-wait_cases results b t (Some object) None = ends results t object ∷ []
-wait_cases results b t (Some object) (Some same) = []
+wait_cases results b t (Some object) None = ends results t object ∷ sleep_changes t.id None t.wake
+wait_cases results b t (Some old) (Some object) = if same_awaited old object && same_tick b.wake t.wake then [] else other_wait results t old object
 
 abbrev pub wait_changes : Bool → TaskView → TaskView → List Change
 wait_changes results b t = wait_cases results b t b.wait t.wait
@@ -63,14 +103,39 @@ suspension_changes who true true = []
 abbrev pub priority_changes : TaskView → TaskView → List Change
 priority_changes b t = if b.pri == t.pri then [] else changes.Priority t.id b.pri t.pri (b.normal == t.normal) ∷ []
 
+-- the normal priority changes, and the change of the priority doesn't tell it: the priority is the same as before, or is
+-- another one
+abbrev pub normal_changes : TaskView → TaskView → List Change
+normal_changes b t =
+    if b.normal == t.normal || (not (b.pri == t.pri) && t.pri == t.normal) then [] else changes.Normal t.id t.normal ∷ []
+
+-- ---- tasks of which no change is told
+-- one task has the same priorities, suspension, wait and wake
+abbrev pub is_quiet : TaskView → TaskView → Bool
+is_quiet b t =
+    b.id == t.id && (b.pri == t.pri && (b.normal == t.normal && (same_flag b.suspended t.suspended
+    && (same_wait b.wait t.wait && same_tick b.wake t.wake))))
+
+-- the tasks are the same, by ids that rise above a number, and quiet
+abbrev pub all_quiet : ℕ → List TaskView → List TaskView → Bool
+all_quiet low [] [] = true
+all_quiet low [] (t ∷ ts) = false
+all_quiet low (b ∷ bs) [] = false
+all_quiet low (b ∷ bs) (t ∷ ts) = nat_lt low b.id && (is_quiet b t && all_quiet b.id bs ts)
+
 -- ---- one task, and all tasks
 -- a task that lives before and after the step
 abbrev pub kept_changes : Bool → TaskView → TaskView → List Change
-kept_changes results b t = wait_changes results b t ++ (suspension_changes t.id b.suspended t.suspended ++ priority_changes b t)
+kept_changes results b t =
+    wait_changes results b t ++ (suspension_changes t.id b.suspended t.suspended ++ (priority_changes b t ++ normal_changes b t))
+
+-- a new task is ready, and its priority is its normal one
+abbrev pub newborn : TaskView → TaskView
+newborn t = record t { normal = t.pri; wait = None; wake = None; suspended = false }
 
 -- a task that lives after the step
 abbrev pub changes_of : Bool → Option TaskView → TaskView → List Change
-changes_of results None t = changes.Spawned t.id t.pri ∷ []
+changes_of results None t = changes.Spawned t.id t.pri ∷ kept_changes results (newborn t) t
 changes_of results (Some b) t = kept_changes results b t
 
 -- the tasks that live after the step, in their order

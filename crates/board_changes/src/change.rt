@@ -56,12 +56,17 @@ pub enum Change {
     Resumed {
         who: Ident,
     },
-    /// A task's priority changes, by inheritance or because its normal priority was set.
+    /// A task's priority changes, by inheritance or because its normal priority was set to it.
     Priority {
         who: Ident,
         from: Pri,
         to: Pri,
         inherited: bool,
+    },
+    /// A task's normal priority is set, and its priority is another one.
+    Normal {
+        who: Ident,
+        to: Pri,
     },
     /// A watchdog is started, and is due at this tick.
     Started {

@@ -5,6 +5,7 @@
 
 mod awaited;
 mod change;
+mod laws;
 mod list;
 mod look;
 mod modules;
@@ -17,6 +18,7 @@ mod watchdogs;
 
 pub use awaited::Awaited;
 pub use change::Change;
+pub use laws::{replay_law, spans_law};
 pub use look::{Look, Standing, look_of};
 pub use modules::add_module_changes;
 pub use spans::{Open, Span, Spans};

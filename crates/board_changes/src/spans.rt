@@ -1,7 +1,7 @@
 //! The spans of a run.
 
-ghost use Rattle.std.specs.Prelude.{◌≡◌, ◌++◌, [], OnOk, map, option_copied};
-ghost use Rattle.board_changes.specs.Spans.{all_ended, all_ends, closed, ended, ends, goes_on as goes_on_lem, observed, open_task, going_after as going_after_lem, view_of as view_of_lem};
+ghost use Rattle.std.specs.Prelude.{◌≡◌, ◌++◌, [], OnOk, map, option_copied, true};
+ghost use Rattle.board_changes.specs.Spans.{all_ended, all_ends, all_kept, closed, ended, ends, goes_on as goes_on_lem, is_kept as is_kept_lem, observed, open_task, going_after as going_after_lem, view_of as view_of_lem};
 ghost use Rattle.board_changes.specs.Views.{task_id};
 ghost use Rattle.board_changes.specs.Walks.{HasPassed};
 
@@ -68,6 +68,32 @@ struct Moment<'a> {
     time: u128,
     views: &'a [TaskView],
     runner: Option<Ident>,
+}
+
+// Whether a span goes on with this view: it is of the same task, which looks the same.
+fn is_kept(span: &Open, runner: Option<Ident>, view: &TaskView) -> bool
+    ensures { result ≡ is_kept_lem runner span.now view.now }
+{
+    span.who == view.id && is_same(span.look, look_of(runner, view))
+}
+
+// Whether every span goes on, and no other begins: the tasks are the same, by rising id, and look
+// the same.
+fn are_kept(going: &[Open], moment: &Moment) -> bool
+    ensures { result ≡ true → all_kept moment.now.runner 0 going.now moment.now.views.now ≡ true }
+{
+    if going.len() != moment.views.len() {
+        return false;
+    }
+    let mut last = 0;
+    for place in 0..going.len() {
+        let who = going[place].who.get();
+        if who <= last || !is_kept(&going[place], moment.runner, &moment.views[place]) {
+            return false;
+        }
+        last = who;
+    }
+    true
 }
 
 // The view of a task, sought from where the walk stands.
@@ -203,6 +229,9 @@ impl Spans {
             views,
             runner,
         };
+        if are_kept(&self.going, &moment) {
+            return Ok(());
+        }
         self.next.clear();
         collect_going(&mut self.next, &self.going, &moment)?;
         add_ends(&mut self.done, &moment, &self.going)?;

@@ -1,13 +1,13 @@
 //! The changes of tasks.
 
-ghost use Rattle.std.specs.Prelude.{◌≡◌, ◌++◌, OnOk, option_copied};
+ghost use Rattle.std.specs.Prelude.{◌≡◌, ◌++◌, OnOk, true, None, option_copied};
 ghost use Rattle.board_changes.specs.Listed.{listed};
-ghost use Rattle.board_changes.specs.Tasks.{suspension_changes, priority_changes, kept_changes, changes_of, live_changes, deletion, deletions, task_changes};
+ghost use Rattle.board_changes.specs.Tasks.{all_quiet, is_quiet as is_quiet_lem, newborn as newborn_lem, normal_changes, suspension_changes, priority_changes, kept_changes, changes_of, live_changes, deletion, deletions, task_changes};
 
 use crate::change::Change;
 use crate::list::{add, add_if};
 use crate::view::{TaskView, Views};
-use crate::waits::wait_change;
+use crate::waits::{add_wait_changes, same_tick, same_wait};
 use crate::walk::{START, found};
 use id_table::Ident;
 use wind_base::NoMemory;
@@ -38,6 +38,49 @@ fn priority_change(before: &TaskView, after: &TaskView) -> Option<Change>
     })
 }
 
+// The change of a task's normal priority, unless that of its priority tells it.
+fn normal_change(before: &TaskView, after: &TaskView) -> Option<Change>
+    ensures { listed result ≡ normal_changes before.now after.now }
+{
+    if before.normal == after.normal || (before.pri != after.pri && after.pri == after.normal) {
+        return None;
+    }
+    Some(Change::Normal {
+        who: after.id,
+        to: after.normal,
+    })
+}
+
+// Whether these are views of one task of which no change is told.
+fn is_quiet(before: &TaskView, after: &TaskView) -> bool
+    ensures { result ≡ is_quiet_lem before.now after.now }
+{
+    before.id == after.id
+        && before.pri == after.pri
+        && before.normal == after.normal
+        && before.suspended == after.suspended
+        && same_wait(&before.wait, &after.wait)
+        && same_tick(before.wake, after.wake)
+}
+
+// Whether no change of a task is told: the tasks are the same, by rising id, and quiet.
+fn are_quiet(before: &[TaskView], after: &[TaskView]) -> bool
+    ensures { result ≡ true → all_quiet 0 before.now after.now ≡ true }
+{
+    if before.len() != after.len() {
+        return false;
+    }
+    let mut last = 0;
+    for place in 0..before.len() {
+        let who = before[place].id.get();
+        if who <= last || !is_quiet(&before[place], &after[place]) {
+            return false;
+        }
+        last = who;
+    }
+    true
+}
+
 // Adds the changes of a task that lives before and after.
 fn add_kept_changes(
     list: &mut Vec<Change>,
@@ -47,10 +90,40 @@ fn add_kept_changes(
 ) -> Result<(), NoMemory>
     ensures { OnOk result (list.new.items ≡ list.old.items ++ kept_changes results before.now after.now) }
 {
-    add_if(list, wait_change(results, before, after))?;
+    add_wait_changes(list, results, before, after)?;
     let suspension = suspension_change(after.id, before.suspended, after.suspended);
     add_if(list, suspension)?;
-    add_if(list, priority_change(before, after))
+    add_if(list, priority_change(before, after))?;
+    add_if(list, normal_change(before, after))
+}
+
+// The view of a new task: it is ready, and its priority is its normal one.
+fn newborn(view: &TaskView) -> TaskView
+    ensures { result ≡ newborn_lem view.now }
+{
+    TaskView {
+        id: view.id,
+        name: view.name.copied(),
+        pri: view.pri,
+        normal: view.pri,
+        wait: None,
+        wake: None,
+        suspended: false,
+        answer: view.answer,
+        errno: view.errno,
+    }
+}
+
+// Adds that a task is spawned, and what changed of it since.
+fn add_spawn(list: &mut Vec<Change>, results: bool, after: &TaskView) -> Result<(), NoMemory>
+    ensures { OnOk result (list.new.items ≡ list.old.items ++ changes_of results None after.now) }
+{
+    let spawned = Change::Spawned {
+        who: after.id,
+        pri: after.pri,
+    };
+    add(list, spawned)?;
+    add_kept_changes(list, results, &newborn(after), after)
 }
 
 // Adds the changes of a task that lives after a step.
@@ -65,13 +138,7 @@ fn add_changes_of(
 {
     match before {
         Some(before) => add_kept_changes(list, results, before, after),
-        None => add(
-            list,
-            Change::Spawned {
-                who: after.id,
-                pri: after.pri,
-            },
-        ),
+        None => add_spawn(list, results, after),
     }
 }
 
@@ -121,6 +188,9 @@ pub fn add_task_changes(
 ) -> Result<(), NoMemory>
     ensures { OnOk result (list.new.items ≡ list.old.items ++ task_changes results before.now after.now) }
 {
+    if are_quiet(before, after) {
+        return Ok(());
+    }
     let views = Views { before, after };
     add_live(list, results, &views)?;
     add_deletions(list, &views)

@@ -1,8 +1,8 @@
 //! Searches by id along a list: each goes on where the one before it stopped. Over a list by rising
 //! id, searches for rising ids read it once together.
 
-ghost use Rattle.std.specs.Prelude.{◌≡◌, ◌≤◌, ℕ, length, option_copied};
-ghost use Rattle.id_table.specs.Records.{of_id};
+ghost use Rattle.std.specs.Prelude.{◌≡◌, ◌≤◌, ℕ, true, length, option_copied};
+ghost use Rattle.id_table.specs.Records.{StandsAt, of_id};
 ghost use Rattle.board_changes.specs.Walks.{HasPassed};
 
 use id_table::Ident;
@@ -56,8 +56,8 @@ fn going_on<V: Identified>(list: &[V], walk: Walk, id: u32) -> usize
     if id < walk.bound { 0 } else { walk.place }
 }
 
-/// The first item with this id, sought from where the walk stands.
-pub(crate) fn found<'a, V: Identified>(list: &'a [V], walk: &mut Walk, id: Ident) -> Option<&'a V>
+// The first item with this id, sought from where the walk stands.
+fn sought<'a, V: Identified>(list: &'a [V], walk: &mut Walk, id: Ident) -> Option<&'a V>
     requires { HasPassed V.number list.now walk.old.place walk.old.bound }
     ensures value { option_copied result ≡ of_id V.number list.now id }
     ensures passed { HasPassed V.number list.now walk.new.place walk.new.bound }
@@ -69,4 +69,34 @@ pub(crate) fn found<'a, V: Identified>(list: &'a [V], walk: &mut Walk, id: Ident
         bound: id.get(),
     };
     first_of(&list[place..], id)
+}
+
+// Whether the walk stands at an item with this id, and has passed lower ids only.
+#[inline(always)]
+fn stands_at<V: Identified>(list: &[V], walk: Walk, id: Ident) -> bool
+    ensures at { result ≡ true → StandsAt V.number list.now id walk.place }
+    ensures bound { result ≡ true → walk.bound ≤ id }
+{
+    if id.get() < walk.bound || walk.place >= list.len() {
+        return false;
+    }
+    list[walk.place].ident() == id
+}
+
+/// The first item with this id, sought from where the walk stands.
+#[inline(always)]
+pub(crate) fn found<'a, V: Identified>(list: &'a [V], walk: &mut Walk, id: Ident) -> Option<&'a V>
+    requires { HasPassed V.number list.now walk.old.place walk.old.bound }
+    ensures value { option_copied result ≡ of_id V.number list.now id }
+    ensures passed { HasPassed V.number list.now walk.new.place walk.new.bound }
+{
+    let place = walk.place;
+    if !stands_at(list, *walk, id) {
+        return sought(list, walk, id);
+    }
+    *walk = Walk {
+        place: place + 1,
+        bound: id.get() + 1,
+    };
+    Some(&list[place])
 }

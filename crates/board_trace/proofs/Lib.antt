@@ -1,3 +1,5 @@
 mod Ending
 pub mod Naming
 pub mod Replying
+mod Replaying
+mod Observing

@@ -1,23 +1,31 @@
 -- What follows from the definitions of a trace alone.
-use Rattle.std.specs.Prelude.{◌≡◌, ℕ, ◌<◌, ◌==◌, true, if◌then◌else◌, List, [], ◌∷◌, ◌++◌, length, Option, None, Some}
+use Rattle.std.specs.Prelude.{◌≡◌, ℕ, ◌<◌, ◌==◌, true, false, if◌then◌else◌, List, [], ◌∷◌, ◌++◌, length, Option, None, Some, IfSome}
+use Rattle.std.specs.Option.{option_map}
 use Rattle.wind_base.specs.Errno.{errno_number}
 use Rattle.wind_base.specs.Limits.{error_word}
 use Rattle.wind_base.specs.declared.errno.Errno.{Errno}
+use Rattle.tick_file.specs.Laws.{IsEarly}
 use Rattle.task_block.specs.declared.task.Task.{Task}
 use Rattle.wind_core.specs.Moves.{answered, errno_after}
 use Rattle.kernel_world.specs.declared.objects.Objects.{Objects}
 use Rattle.kernel_world.specs.declared.reply.Reply.{Reply}
 use Rattle.wind_machine.specs.LiveLoadingSaid.{FileSaid}
+use Rattle.wind_machine.specs.Events.{next_event}
+use Rattle.wind_machine.specs.Good.{Good}
+use Rattle.wind_machine.specs.Machine.{machine_step}
 use Rattle.wind_machine.specs.State.{State}
 use Rattle.wind_machine.specs.Replies.{step_reply}
+use Rattle.board_changes.specs.Replay.{Life, life_of, replayed, told_of}
+use Rattle.board_changes.specs.Spans.{view_of}
 use Rattle.board_changes.specs.Tasks.{has_result, wait_changes}
 use Rattle.board_changes.specs.declared.awaited.Awaited.{Awaited}
 use Rattle.board_changes.specs.declared.change.Change.{Change}
 use Rattle.board_changes.specs.declared.change.Change.TheVariants as changes
 use Rattle.board_changes.specs.declared.view.TaskView.{TaskView}
+use Rattle.board_trace.specs.Before.{before_step}
 use Rattle.board_trace.specs.Errors.{errno_named}
-use Rattle.board_trace.specs.Snapshots.{view_in}
-use Rattle.board_trace.specs.Steps.{happenings}
+use Rattle.board_trace.specs.Snapshots.{snapshot_of, view_in}
+use Rattle.board_trace.specs.Steps.{happenings, is_instruction}
 use Rattle.board_trace.specs.declared.happening.Happening.{Happening}
 use Rattle.board_trace.specs.declared.happening.Happening.TheVariants as told
 
@@ -39,6 +47,26 @@ listed (Some r) = r ∷ []
 -- if the call was refused, with its error
 abbrev pub ReplyLaw : Type 0
 ReplyLaw = (said : FileSaid) (s t : State) → replies_in (happenings said s t) ≡ listed (step_reply said s)
+
+-- the changes that happenings tell
+abbrev pub change_in : Happening → List Change
+change_in (told.Changed c) = c ∷ []
+change_in h = []
+
+abbrev pub changes_told : List Happening → List Change
+changes_told [] = []
+changes_told (h ∷ hs) = change_in h ++ changes_told hs
+
+-- the life of a task in a state; None if it doesn't live
+abbrev pub life_in : State → ℕ → Option Life
+life_in s who = option_map life_of (view_of (snapshot_of s.world).tasks who)
+
+-- in each step that isn't one instruction, from a state with the invariant, a task's life after the step follows from that
+-- before it and the changes of the task that are told
+abbrev pub StepReplayLaw : Type 0
+StepReplayLaw = (said : FileSaid) (s t : State) (who : ℕ) → IfSome (next_event s) IsEarly → Good s → machine_step said s ≡ Some t
+    → is_instruction (before_step s) t.world.output ≡ false
+    → replayed (told_of who (changes_told (happenings said s t))) (life_in s who) ≡ life_in t who
 
 -- each error is found by its number
 abbrev pub ErrorLaw : Type 0

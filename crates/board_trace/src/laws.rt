@@ -1,6 +1,10 @@
 //! What follows from the definitions of a trace alone.
 
-ghost use Rattle.board_trace.specs.Laws.{ReplyLaw, ErrorLaw, WaitEndLaw};
+ghost use Rattle.board_trace.specs.Laws.{ReplyLaw, ErrorLaw, StepReplayLaw, WaitEndLaw};
+ghost use Rattle.board_trace.specs.Observed.{RunOneRunsLaw, RunTilingLaw};
+
+use board_changes::spans_law;
+use wind_machine::{extend_law, run_law, step_law};
 
 /// The law of replies: the happenings of a step tell exactly one call if the step makes one, with
 /// the reply of that call. So a line tells a refusal exactly if the call was refused, with its
@@ -19,3 +23,25 @@ pub fn error_law()
 pub fn wait_end_law()
     ensures { WaitEndLaw }
 {}
+
+/// The law of replay: in each step that isn't one instruction, from a state with the invariant,
+/// whether a task lives, its wait, wake and suspension, its priority and its normal priority after
+/// the step follow from those before it and the changes of the task that are told.
+pub fn step_replay_law()
+    ensures { StepReplayLaw }
+{
+    step_law();
+}
+
+/// The law of a run's spans, for every console file, tick file and list of devices, under both rules
+/// of inheritance and on both boards: at each time before the end, the spans of a task say once how
+/// it looked when it was last observed, if it lived then, and nothing if it didn't. At most one task
+/// runs at a time.
+pub fn run_spans_law()
+    ensures tiles { RunTilingLaw }
+    ensures one { RunOneRunsLaw }
+{
+    run_law();
+    extend_law();
+    spans_law();
+}

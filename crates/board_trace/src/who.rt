@@ -49,7 +49,8 @@ fn subject_change(change: &Change) -> Subject
         | Change::Wakes { who }
         | Change::Suspended { who }
         | Change::Resumed { who }
-        | Change::Priority { who, .. } => Subject::Task(who.get()),
+        | Change::Priority { who, .. }
+        | Change::Normal { who, .. } => Subject::Task(who.get()),
         Change::Started { .. }
         | Change::Fired { .. }
         | Change::Cancelled { .. }

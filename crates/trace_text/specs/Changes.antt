@@ -61,6 +61,9 @@ failed_text object errno = end_text object ++ (codes ": " ++ (signed error_word 
 abbrev pub priority_text : ℕ → ℕ → Bool → List ℕ
 priority_text from to inherited = codes "priority " ++ (decimal from ++ (codes " -> " ++ (decimal to ++ inherited_text inherited)))
 
+abbrev pub normal_text : ℕ → List ℕ
+normal_text to = codes "normal priority " ++ decimal to
+
 -- ---- what is said of a watchdog or a module
 abbrev pub object_text : List ℕ → ℕ → List ℕ → List ℕ
 object_text kind id what = kind ++ (decimal id ++ what)
@@ -81,6 +84,7 @@ change_text (changes.Wakes who) = codes "wakes"
 change_text (changes.Suspended who) = codes "is suspended"
 change_text (changes.Resumed who) = codes "is resumed"
 change_text (changes.Priority who from to inherited) = priority_text from to inherited
+change_text (changes.Normal who to) = normal_text to
 change_text (changes.Started watchdog due) = started_text watchdog due
 change_text (changes.Fired watchdog) = object_text (codes "watchdog ") watchdog (codes " fires")
 change_text (changes.Cancelled watchdog) = object_text (codes "watchdog ") watchdog (codes " is cancelled")

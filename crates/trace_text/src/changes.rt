@@ -3,7 +3,7 @@
 ghost use Rattle.std.specs.Prelude.{◌≡◌, ◌++◌, OnOk};
 ghost use Rattle.std.specs.Fmt.{decimal};
 ghost use Rattle.board_trace.specs.Errors.{errno_named as errno_named_lem};
-ghost use Rattle.trace_text.specs.Changes.{awaited_text, change_text, end_text, error_text, failed_text, inherited_text, object_text, priority_text, served_text, sleeps_text, spawned_text, started_text, until_text, until_tick_text, waits_text};
+ghost use Rattle.trace_text.specs.Changes.{awaited_text, change_text, end_text, error_text, failed_text, inherited_text, normal_text, object_text, priority_text, served_text, sleeps_text, spawned_text, started_text, until_text, until_tick_text, waits_text};
 
 use crate::pieces::{add, add_decimal, add_hex, add_signed, add_with};
 use board_changes::{Awaited, Change};
@@ -109,6 +109,13 @@ fn add_priority(text: &mut Vec<u8>, from: Pri, to: Pri, inherited: bool) -> Resu
     add_inherited(text, inherited)
 }
 
+// Adds the new normal priority.
+fn add_normal(text: &mut Vec<u8>, to: Pri) -> Result<(), NoMemory>
+    ensures { OnOk result (text.new.items ≡ text.old.items ++ normal_text to) }
+{
+    add_with(text, b"normal priority ", u64::from(to.get()))
+}
+
 // Adds that something begins for as long as until a tick.
 fn add_waits(text: &mut Vec<u8>, object: Awaited, until: Option<u64>) -> Result<(), NoMemory>
     ensures { OnOk result (text.new.items ≡ text.old.items ++ waits_text object until) }
@@ -170,6 +177,7 @@ pub(crate) fn add_change(text: &mut Vec<u8>, change: &Change) -> Result<(), NoMe
             inherited,
             ..
         } => add_priority(text, from, to, inherited),
+        Change::Normal { to, .. } => add_normal(text, to),
         Change::Started { watchdog, due } => add_started(text, watchdog, due),
         Change::Fired { watchdog } => add_object(text, b"watchdog ", watchdog, b" fires"),
         Change::Cancelled { watchdog } => {
