@@ -1,10 +1,10 @@
 -- Instructions, one after the other.
 use Rattle.std.proofs.Common.{◌≡◌, ℕ, ◌+◌, ◌-◌, ◌*◌, ◌/◌, ◌%◌, ◌<◌, ◌≤◌, ◌&&◌, ◌==◌, Bool, true, false, cond, eqb, List, length, Option, None, Some, Result, refl, sym, ap, ap₂, ◌∙◌, subst, zero, suc, add-one, add-zero, add-suc, get_or, Ok, Err, inl, inr, arith}
-use Rattle.std.specs.Prelude.{is_err, unwrap_or, nat_le, if◌then◌else◌}
+use Rattle.std.specs.Prelude.{MatchOption, is_err, unwrap_or, nat_le, if◌then◌else◌}
 use Rattle.std.proofs.lemmas.Bool.Decides.{nat_tests}
 use Rattle.wind_base.specs.Limits.{gate_bytes}
-use Rattle.wind_base.specs.Boards.{board_rules}
 use Rattle.wind_base.specs.Gates.{gate_at, gate_of}
+use Rattle.wind_base.specs.Boards.{board_rules}
 use Rattle.wind_base.specs.declared.regs.Regs.{Regs}
 use Rattle.ppc_core.specs.Instructions.{exec_of}
 use Rattle.ppc_core.specs.Outcomes.{Outcome, Done, Trapped, Leaves}
@@ -13,6 +13,7 @@ use Rattle.ppc_word.specs.declared.decoded.Decoded.{Decoded}
 use Rattle.ppc_word.specs.declared.op.Op.TheVariants as ops
 use Rattle.ppc_core.specs.Stepping.{at_pc, LeavesAt}
 use Rattle.board_mem.specs.Code.{Agrees, AreWords}
+use Rattle.board_actors.specs.declared.instructions.Stretch.{Stretch}
 use Rattle.board_bus.specs.BusState.{BusState}
 use Rattle.board_mem.specs.Memory.{number_at, read}
 use Rattle.board_bus.specs.Access.{board_meaning, fetched}
@@ -22,7 +23,7 @@ use Rattle.live_loading.specs.KernelWorldActors.{found_regs}
 use Rattle.live_loading.specs.KernelWorldActor.{Actor}
 use Rattle.wind_machine.specs.Processor.{bus_of, regs_of}
 use Rattle.wind_machine.proofs.Executing.{IfDone, executing_lasts, sizes_last}
-use Rattle.board_actors.specs.Instructions.{ExecutesMany, MayRun, executed_to}
+use Rattle.board_actors.specs.Instructions.{ExecutesMany, IsNext, MayRun, executed_to}
 use Rattle.board_actors.specs.Running.{RanMany}
 
 -- no gate is below the first
@@ -93,22 +94,22 @@ append_many start k zero r m after b c bus first rest =
 append_many start k (suc j) r m after b c bus first rest =
     subst (λ (n : ℕ). ExecutesMany start n r b after bus) (sym (add-suc k j)) (rest.0, rest.1, append_many start k j r m rest.0 b c rest.1 first rest.2, rest.3)
 
--- instructions that leave the bus were executed after others
-pub runs_on : (k j : ℕ) (r m after : Regs) (b c : BusState) → RunsBelow k r b m c → ((start : ℕ) → length c.ram ≤ start → ExecutesMany start j m c after c) → RunsBelow (k + j) r b after c
-runs_on k j r m after b c runs many = record {
-  many = λ start above. append_many start k j r m after b c c (runs.many start above) (many start (let size = runs.size in omega (arith, size, above)));
-  size = runs.size;
-}
+-- a decoded word that isn't empty is the one that can be fetched
+pub next_is : (d : Decoded) (b : BusState) (pc : ℕ) → IsNext d b pc → (d.op ≡ ops.Empty → ⊥) → fetched b pc ≡ Some d.word
+next_is d b pc (inl empty) some = absurd (some empty)
+next_is d b pc (inr word) some = word
 
--- an entry that isn't empty is the word that can be fetched
-pub fetched_entry : (b : BusState) (pc page k : ℕ) (entries : List Decoded) (e d : Decoded) → AreWords entries b.ram page → pc / 4096 ≡ page → pc % 4 ≡ 0 → k ≡ pc % 4096 / 4 → k < length entries
-    → e ≡ get_or entries k e → d ≡ e → (d.op ≡ ops.Empty → ⊥) → fetched b pc ≡ Some d.word
-fetched_entry b pc page k entries e d words is_page aligned place within entry copy some =
+-- an entry of its page is empty, or the word that can be fetched
+pub entry_next : (b : BusState) (pc page k : ℕ) (entries : List Decoded) (e d : Decoded) → AreWords entries b.ram page → pc / 4096 ≡ page → pc % 4 ≡ 0 → k ≡ pc % 4096 / 4 → k < length entries
+    → e ≡ get_or entries k e → d ≡ e → IsNext d b pc
+entry_next b pc page k entries e d words is_page aligned place within entry copy =
     let test : (pc % 4 == 0) ≡ true = grind (arith, nat_tests) in
     let at : 4096 * page + 4 * k ≡ pc = omega arith in
     let agrees : Agrees d b.ram (4096 * page + 4 * k) = subst (λ (x : Decoded). Agrees x b.ram (4096 * page + 4 * k)) (sym entry ∙ sym copy) (words k e within) in
-    let word : read 4 b.ram (4096 * page + 4 * k) ≡ Some d.word = elim agrees [ inl empty ↦ absurd (some empty) | inr is ↦ is ] in
-    ap (λ (t : Bool). if t then read 4 b.ram pc else None) test ∙ ap (read 4 b.ram) (sym at) ∙ word
+    elim agrees [
+      | inl empty ↦ inl empty
+      | inr word ↦ inr (ap (λ (t : Bool). if t then read 4 b.ram pc else None) test ∙ ap (read 4 b.ram) (sym at) ∙ word)
+    ]
 
 -- an instruction that left the bus and an address is executed
 pub may_run : (pc word next : ℕ) (old regs : Regs) (b held bus : BusState) → fetched b pc ≡ Some word → held ≡ b → LeavesAt (exec_of board_meaning (at_pc old pc) word held) pc old held regs bus (Ok next) → MayRun pc old b regs bus (Some next)
@@ -128,7 +129,35 @@ pub entry_ran : (k pc page place next : ℕ) (r m after : Regs) (b c bus : BusSt
     → pc / 4096 ≡ page → pc % 4 ≡ 0 → place ≡ pc % 4096 / 4 → place < length entries → e ≡ get_or entries place e → d ≡ e → (d.op ≡ ops.Empty → ⊥)
     → exec_of board_meaning (at_pc m pc) d.word c ≡ Done (at_pc after next) bus → RunsBelow (k + 1) r b (at_pc after next) bus
 entry_ran k pc page place next r m after b c bus entries e d runs words is_page aligned is within entry copy some done =
-    one_more_at k d.word pc next r m after b c bus runs (fetched_entry c pc page place entries e d words is_page aligned is within entry copy some) done
+    one_more_at k d.word pc next r m after b c bus runs (next_is d c pc (entry_next c pc page place entries e d words is_page aligned is within entry copy) some) done
+
+-- a stretch that is longer by the next instruction, if that was executed
+pub record IsStretch (s : Stretch) (k : ℕ) (r : Regs) (b : BusState) (after : Regs) (bus : BusState) : Type 0 where
+  pub runs : RunsBelow s.made r b (at_pc after s.pc) bus
+  pub most : s.made ≤ k + 1
+  pub some : s.stopped ≡ false → 0 < s.made
+
+pub stretched : (k pc : ℕ) (r m after : Regs) (b c bus : BusState) (next : Option ℕ) (s : Stretch) → RunsBelow k r b (at_pc m pc) c → MayRun pc m c after bus next
+    → MatchOption next (s ≡ record { pc = pc; made = k; stopped = true }) (λ n. s ≡ record { pc = n; made = k + 1; stopped = false }) → IsStretch s k r b after bus
+stretched k pc r m after b c bus None s runs may is =
+    subst (λ (x : Stretch). IsStretch x k r b after bus) (sym is) (record { runs = ran_none k pc r m after b c bus runs may; most = omega arith; some = λ e. absurd (cc) })
+stretched k pc r m after b c bus (Some n) s runs may is =
+    subst (λ (x : Stretch). IsStretch x k r b after bus) (sym is) (record { runs = ran_next k pc n r m after b c bus runs may; most = omega arith; some = λ e. omega arith })
+
+-- an instruction that left the bus is executed, by its decoded word
+pub may_run_next : (pc next : ℕ) (d : Decoded) (old regs : Regs) (b bus : BusState) → IsNext d b pc → (d.op ≡ ops.Empty → ⊥) → LeavesAt (exec_of board_meaning (at_pc old pc) d.word b) pc old b regs bus (Ok next) → MayRun pc old b regs bus (Some next)
+may_run_next pc next d old regs b bus is some left = may_run pc d.word next old regs b b bus (next_is d b pc is some) refl left
+
+-- instructions were executed after others
+pub runs_after : (k j : ℕ) (r m after : Regs) (b c bus : BusState) → RunsBelow k r b m c → ((start : ℕ) → length c.ram ≤ start → ExecutesMany start j m c after bus) → length bus.ram ≡ length c.ram → RunsBelow (k + j) r b after bus
+runs_after k j r m after b c bus runs many size = record {
+  many = λ start above. append_many start k j r m after b c bus (runs.many start above) (many start (let was = runs.size in omega (arith, was, above)));
+  size = size ∙ runs.size;
+}
+
+-- no instruction was executed
+pub runs_none : (r : Regs) (b : BusState) → RunsBelow 0 r b r b
+runs_none r b = record { many = λ gates below. (refl, refl); size = refl }
 
 -- the actor, which is this one, has executed k instructions
 pub ran_many : (w : WorldState) (who a : Actor) → who ≡ a → (k : ℕ) (old regs : Regs) (bus : BusState) → found_regs w.kern w.watch.level a ≡ Some old

@@ -1,11 +1,13 @@
 -- Instructions of one actor, one after the other.
-use Rattle.std.specs.Prelude.{◌≡◌, ℕ, zero, suc, Option, None, Some}
+use Rattle.std.specs.Prelude.{◌≡◌, ◌⊎◌, ℕ, zero, suc, Option, None, Some}
 use Rattle.wind_base.specs.Gates.{gate_at}
 use Rattle.wind_base.specs.declared.regs.Regs.{Regs}
 use Rattle.ppc_core.specs.Instructions.{exec_of}
 use Rattle.ppc_core.specs.Outcomes.{Outcome, Done, Trapped}
 use Rattle.ppc_core.specs.Stepping.{at_pc}
 use Rattle.board_bus.specs.BusState.{BusState}
+use Rattle.ppc_word.specs.declared.decoded.Decoded.{Decoded}
+use Rattle.ppc_word.specs.declared.op.Op.TheVariants as ops
 use Rattle.board_bus.specs.Access.{board_meaning, fetched}
 use Rattle.live_loading.specs.KernelWorldState.{WorldState}
 use Rattle.live_loading.specs.KernelWorldActor.{Actor}
@@ -44,3 +46,7 @@ MayRun pc r b after bus (Some next) = (word : ℕ) × (fetched b pc ≡ Some wor
 -- the world with these registers of the actor, and this bus
 abbrev pub executed_to : WorldState → Actor → Regs → BusState → WorldState
 executed_to w who regs bus = with_bus (with_regs w who regs) bus
+
+-- a decoded word is empty, or the word that can be fetched at an address
+abbrev pub IsNext : Decoded → BusState → ℕ → Type 0
+IsNext d b pc = (d.op ≡ ops.Empty) ⊎ (fetched b pc ≡ Some d.word)

@@ -1,6 +1,6 @@
 //! Instructions of one actor, one after the other, with nothing in between.
 
-ghost use Rattle.std.specs.Prelude.{◌≡◌, ◌≢◌, ℕ, ◌≤◌, length, Some, IfSome, MatchOption};
+ghost use Rattle.std.specs.Prelude.{◌≡◌, ◌≢◌, ℕ, ◌≤◌, ◌<◌, ◌+◌, ◌^◌, false, true, length, Some, IfSome, MatchOption};
 ghost use Rattle.wind_base.specs.Boards.{board_rules};
 ghost use Rattle.ppc_word.specs.declared.op.Op.TheVariants as ops;
 ghost use Rattle.ppc_core.specs.Instructions.{exec_of};
@@ -9,26 +9,18 @@ ghost use Rattle.ppc_core.specs.Stepping.{at_pc};
 ghost use Rattle.board_bus.specs.Access.{board_meaning, fetched};
 ghost use Rattle.board_bus.specs.Seen.{bus_seen};
 ghost use Rattle.live_loading.specs.KernelWorldSeen.{world_seen};
-ghost use Rattle.board_actors.specs.{Instructions.{ExecutesMany, MayRun}, Running.{IsThere, RanMany}};
+ghost use Rattle.board_actors.specs.{Instructions.{ExecutesMany, IsNext, MayRun}, Running.{IsThere, RanMany}};
 
 use board_bus::BoardBus;
 use board_mem::{PAGE, WORDS};
 use live_loading::{Actor, World};
 use ppc_core::{
-    finish_load, finish_load_byte, finish_load_update, load_address, offset, run_bus, run_registers,
+    exec, finish_load, finish_load_byte, finish_load_update, load_address, offset, run_bus,
+    run_registers,
 };
 use ppc_word::{Decoded, Op};
 use wind_base::Regs;
 use wind_outside::Device;
-
-// The instructions of one page that were executed: the next address, their number, and the decoded
-// word at that address, if it is the next to be executed and needs the bus.
-#[derive(Drop)]
-struct Straight {
-    pc: u32,
-    made: u64,
-    insn: Option<Decoded>,
-}
 
 // A copy of an entry, field by field, so that only the fields that an instruction needs are read.
 #[inline(always)]
@@ -44,6 +36,70 @@ fn copied(entry: &Decoded) -> Decoded
         immediate: entry.immediate,
         word: entry.word,
     }
+}
+
+// What was executed of a page: the next address, the number of instructions, and whether the
+// instruction there can't be fetched or causes an exception.
+#[derive(Drop)]
+struct Stretch {
+    pc: u32,
+    made: u64,
+    stopped: bool,
+}
+
+// The decoded word at an address. None if it can't be fetched, or is no instruction.
+#[inline(always)]
+fn decoded(pc: u32, bus: &mut BoardBus) -> Option<Decoded>
+    requires { Unit {0} }
+    ensures bus { bus_seen ⟦<dyn Device as Device>⟧ bus.new ≡ bus_seen ⟦<dyn Device as Device>⟧ bus.old }
+    ensures word { IfSome result
+        (λ d. fetched (bus_seen ⟦<dyn Device as Device>⟧ bus.old) pc ≡ Some d.word) }
+{
+    bus.ram.decode_at(pc)
+}
+
+// Executes the instruction at an address whose word isn't decoded yet, and returns the next address.
+// None if its word can't be fetched, is no instruction, or causes an exception; then nothing changes
+// but, perhaps, `regs.pc`, which isn't read.
+#[cold]
+#[inline(never)]
+fn run_undecoded(pc: u32, regs: &mut Regs, bus: &mut BoardBus) -> Option<u32>
+    requires { Unit {0} }
+    ensures { MayRun pc regs.old (bus_seen ⟦<dyn Device as Device>⟧ bus.old) regs.new
+        (bus_seen ⟦<dyn Device as Device>⟧ bus.new) result }
+{
+    let insn = decoded(pc, bus)?;
+    regs.pc = pc;
+    match exec(regs, insn.word, bus) {
+        Ok(()) => Some(regs.pc),
+        Err(_) => None,
+    }
+}
+
+// Whether an entry isn't empty.
+#[inline(always)]
+fn is_decoded(insn: Decoded) -> bool
+    ensures { result ≡ true → insn.op ≢ ops.Empty }
+{
+    insn.op != Op::Empty
+}
+
+// Executes the instruction at an address, whose decoded word is known or empty, and returns the
+// next address. None if its word can't be fetched, is no instruction, or causes an exception; then
+// nothing changes but, perhaps, `regs.pc`, which isn't read.
+#[inline(always)]
+fn run_with_bus(pc: u32, regs: &mut Regs, insn: Decoded, bus: &mut BoardBus) -> Option<u32>
+    requires { IsNext insn (bus_seen ⟦<dyn Device as Device>⟧ bus.old) pc }
+    ensures { MayRun pc regs.old (bus_seen ⟦<dyn Device as Device>⟧ bus.old) regs.new
+        (bus_seen ⟦<dyn Device as Device>⟧ bus.new) result }
+{
+    if is_decoded(insn) {
+        return match run_bus(pc, regs, insn, bus) {
+            Ok(next) => Some(next),
+            Err(_) => None,
+        };
+    }
+    run_undecoded(pc, regs, bus)
 }
 
 // Executes a load from RAM, of one of the rows that load most. None if the instruction is another,
@@ -88,87 +144,58 @@ fn run_reading(pc: u32, regs: &mut Regs, insn: Decoded, bus: &BoardBus) -> Optio
     run_load(pc, regs, insn, bus)
 }
 
-// The decoded word, if it isn't empty.
+// The stretch before an address, longer by the instruction there, if that was executed.
 #[inline(always)]
-fn known(insn: Decoded) -> Option<Decoded>
-    ensures { IfSome result (λ d. (d ≡ insn) × (insn.op ≢ ops.Empty)) }
+fn stretch_to(next: Option<u32>, pc: u32, made: u64) -> Stretch
+    requires { made + 1 < 2 ^ 64 }
+    ensures { MatchOption next (result ≡ record { pc = pc; made = made; stopped = true })
+        (λ next. result ≡ record { pc = next; made = made + 1; stopped = false }) }
 {
-    if insn.op == Op::Empty {
-        return None;
+    match next {
+        Some(next) => Stretch {
+            pc: next,
+            made: made + 1,
+            stopped: false,
+        },
+        None => Stretch {
+            pc,
+            made,
+            stopped: true,
+        },
     }
-    Some(insn)
 }
 
-// Executes instructions from an address on as long as they are in its page and need no more of the
-// bus than to read RAM, at most `most`.
+// Executes instructions from an address on, as long as they are in its page and use registers only,
+// and one more of the page; at most `most`.
 #[inline(always)]
-fn run_in_page(start: u32, regs: &mut Regs, bus: &BoardBus, most: u64) -> Straight
-    requires { Unit {0} }
-    ensures ran { (gates : ℕ) → length bus.now.ram.bytes ≤ gates
-        → ExecutesMany gates result.made (at_pc regs.old start) (bus_seen ⟦<dyn Device as Device>⟧ bus.now)
-        (at_pc regs.new result.pc) (bus_seen ⟦<dyn Device as Device>⟧ bus.now) }
-    ensures insn { IfSome result.insn
-        (λ d. fetched (bus_seen ⟦<dyn Device as Device>⟧ bus.now) result.pc ≡ Some d.word) }
+fn run_page(start: u32, regs: &mut Regs, bus: &mut BoardBus, most: u64) -> Stretch
+    requires { 0 < most }
+    ensures ran { (gates : ℕ) → length bus.old.ram.bytes ≤ gates
+        → ExecutesMany gates result.made (at_pc regs.old start) (bus_seen ⟦<dyn Device as Device>⟧ bus.old)
+        (at_pc regs.new result.pc) (bus_seen ⟦<dyn Device as Device>⟧ bus.new) }
+    ensures size { length bus.new.ram.bytes ≡ length bus.old.ram.bytes }
     ensures within { result.made ≤ most }
+    ensures some { result.stopped ≡ false → 0 < result.made }
 {
     let page = start / PAGE as u32;
     let entries = bus.ram.code_of(page);
+    if entries.len() != WORDS || start % 4 != 0 {
+        return stretch_to(run_undecoded(start, regs, bus), start, 0);
+    }
     let mut pc = start;
     let mut made = 0;
-    if entries.len() != WORDS {
-        return Straight {
-            pc,
-            made,
-            insn: None,
-        };
-    }
     while made < most && pc / PAGE as u32 == page && pc % 4 == 0 {
         let insn = copied(&entries[pc as usize % PAGE / 4]);
         let Some(next) = run_reading(pc, regs, insn, bus) else {
-            return Straight {
-                pc,
-                made,
-                insn: known(insn),
-            };
+            return stretch_to(run_with_bus(pc, regs, insn, bus), pc, made);
         };
         pc = next;
         made += 1;
     }
-    Straight {
+    Stretch {
         pc,
         made,
-        insn: None,
-    }
-}
-
-// The decoded word at an address, which may be known. None if it can't be fetched, or is no
-// instruction.
-#[inline(always)]
-fn next_word(pc: u32, insn: Option<Decoded>, bus: &mut BoardBus) -> Option<Decoded>
-    requires { IfSome insn (λ d. fetched (bus_seen ⟦<dyn Device as Device>⟧ bus.old) pc ≡ Some d.word) }
-    ensures bus { bus_seen ⟦<dyn Device as Device>⟧ bus.new ≡ bus_seen ⟦<dyn Device as Device>⟧ bus.old }
-    ensures word { IfSome result
-        (λ d. fetched (bus_seen ⟦<dyn Device as Device>⟧ bus.old) pc ≡ Some d.word) }
-{
-    match insn {
-        Some(insn) => Some(insn),
-        None => bus.ram.decode_at(pc),
-    }
-}
-
-// Executes the instruction at an address, whose decoded word may be known, and returns the next
-// address. None if its word can't be fetched, is no instruction, or causes an exception; then
-// nothing changes but, perhaps, `regs.pc`, which isn't read.
-#[inline(always)]
-fn run_next(pc: u32, regs: &mut Regs, insn: Option<Decoded>, bus: &mut BoardBus) -> Option<u32>
-    requires { IfSome insn (λ d. fetched (bus_seen ⟦<dyn Device as Device>⟧ bus.old) pc ≡ Some d.word) }
-    ensures { MayRun pc regs.old (bus_seen ⟦<dyn Device as Device>⟧ bus.old) regs.new
-        (bus_seen ⟦<dyn Device as Device>⟧ bus.new) result }
-{
-    let insn = next_word(pc, insn, bus)?;
-    match run_bus(pc, regs, insn, bus) {
-        Ok(next) => Some(next),
-        Err(_) => None,
+        stopped: false,
     }
 }
 
@@ -186,16 +213,12 @@ fn run_words(regs: &mut Regs, bus: &mut BoardBus, most: u64) -> u64
     let mut pc = regs.pc;
     let mut made = 0;
     while made < most {
-        let straight = run_in_page(pc, regs, bus, most - made);
-        pc = straight.pc;
-        made += straight.made;
-        if made < most && (straight.made == 0 || straight.insn.is_some()) {
-            let Some(next) = run_next(pc, regs, straight.insn, bus) else {
-                regs.pc = pc;
-                return made;
-            };
-            pc = next;
-            made += 1;
+        let stretch = run_page(pc, regs, bus, most - made);
+        pc = stretch.pc;
+        made += stretch.made;
+        if stretch.stopped {
+            regs.pc = pc;
+            return made;
         }
     }
     regs.pc = pc;
