@@ -1,9 +1,15 @@
-/* Five loops, each a function of how often it goes round. */
+/* Five loops, each a function of how often it goes round, and one function that does nothing. */
 typedef unsigned int word;
 
 static word from[1024], to[1024];
 static unsigned char bytes[256];
 static word cell;
+
+/* What a run takes besides its loop. */
+word nothing(word rounds)
+{
+    return rounds;
+}
 
 /* Four instructions: a load, an add, a store and a branch. */
 word four(word rounds)
