@@ -1,4 +1,5 @@
 mod Collecting
+mod Coming
 mod Taking
 mod Reading
 mod InterruptKey

@@ -1,14 +1,13 @@
 -- Taking the ids of the modules, one after another.
 use Rattle.std.proofs.Common.{◌≡◌, ℕ, suc, ◌+◌, ◌<◌, ◌≤◌, cond, ltb, List, [], ◌∷◌, ◌++◌, length, map, take, get_or, Some, None, inl, inr, refl, sym, ap, ◌∙◌, subst, arith}
 use Rattle.std.specs.List.{All, find}
-use Rattle.std.specs.Str.{bytes_eq}
 use Rattle.std.proofs.lemmas.Bool.{le-ltb, cases_lt}
-use Rattle.std.proofs.lemmas.List.{take_all, take_more, get_or_default, get_or-map, length-append, length-map}
+use Rattle.std.proofs.lemmas.List.{take_all, take_more, get_or-map, length-append, length-map}
 use Rattle.id_table.specs.Records.{Rising}
-use Rattle.id_table.specs.Rows.{Rises, row_id, ids, next_above, objects}
+use Rattle.id_table.specs.Rows.{Rises, row_id, ids, next_above}
 use Rattle.module_loader.specs.declared.module.LoadedModule.{LoadedModule}
-use Rattle.module_loader.specs.Modules.{HasIdent, newest_named}
-use Rattle.module_loader.proofs.Newest.{IsCome, first_come, next_is, no_row, not_past, one_more}
+use Rattle.module_loader.specs.Modules.{HasIdent}
+use Rattle.board_reading.proofs.Coming.{IsCome, first_come, next_is, come_on, no_row, not_past}
 
 -- the ids of the first rows are taken, and the last of them is this one
 pub record HasTaken (rows : List (ℕ × LoadedModule)) (taken : List ℕ) (last : ℕ) : Type 0 where
@@ -62,13 +61,9 @@ module _ (rows : List (ℕ × LoadedModule)) (taken : List ℕ) (last : ℕ) (ha
       let second : get_or (ids rows) b d ≡ (get_or rows b no_row).0 = get_or-map row_id rows b no_row d (omega arith) in
       let less = up a b no_row h (omega arith) in
       omega arith) in
-      let held : i < length (objects rows) = simp length-map less in
-      let here = get_or (objects rows) i no_row.1 in
       record {
         come =
-            subst (λ n. IsCome rows n id) (sym count)
-            (one_more rows [] i last id (newest_named (take i rows) []) (bytes_eq here.name []) rises less (record { come = has.come; found = refl }) next
-            (λ d. ap (λ (m : LoadedModule). bytes_eq m.name []) (get_or_default (objects rows) i no_row.1 d held)) no_row).come;
+            subst (λ n. IsCome rows n id) (sym count) (subst (λ n. IsCome rows (i + 1) n) (sym is) (come_on rows i last no_row rises has.come less));
         first =
             grown ∙ ap (λ ts. ts ++ id ∷ []) has.first ∙ ap (λ n. take i (ids rows) ++ n ∷ []) (is ∙ sym at)
             ∙ sym (take_more (ids rows) i 0 within) ∙ ap (λ n. take n (ids rows)) (sym count);
