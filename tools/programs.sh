@@ -88,7 +88,7 @@ choose() {
         program=$(proved_program "$2")
         return
     fi
-    echo "$1: without proof, some 500 to 1,000 times slower than the proved program (./build $2)" >&2
+    echo "$1: without proof, some 1,000 to 2,000 times slower than the proved program (./build $2)" >&2
     if ! is_tried "$2"; then
         echo "$1: building it takes about a minute, once" >&2
         "$top/tools/tried" "$2" || exit
