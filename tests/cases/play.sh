@@ -22,7 +22,7 @@ plays_in() {
 }
 
 proved='play: the proved program, crates/windplay/out/windplay\n'
-tried='play: without proof, some 500 to 1,000 times slower than the proved program (./build windplay)\n'
+tried='play: without proof, some 1,000 to 2,000 times slower than the proved program (./build windplay)\n'
 building='play: building it takes about a minute, once\n'
 
 shows 'play plays a folder with the proved program'
