@@ -16,7 +16,7 @@ use Rattle.dev_irq.specs.State.{IsIrqs}
 use Rattle.wind_machine.specs.Interrupts.{StepsSlot, SlotLaw}
 use Rattle.board_player.specs.Settling.{CanSettle, Makes}
 
--- the step that comes next, whatever is said of a file
+-- the step that comes next, whatever the folder answers about a file
 pub steps_on : (s t : State) (n : Next) → n ≡ next s → Makes s n t → Steps s t
 unfolding machine_step
 steps_on s t n e on said = ap (λ m. option_map settled_state (state_after said s m)) (sym e) ∙ on said
@@ -39,7 +39,7 @@ asked_is s n o e q = q ∙ ap file_of e
 pub is_over : {A : Type 0} (s : State) (n : Next) (r quiet : A) → n ≡ next s → (r ≡ quiet) ↔ (n ≡ Over) → (r ≡ quiet) ↔ IsOver s
 is_over s n r quiet e both = (λ q. sym e ∙ both.0 q, λ over. both.1 (e ∙ over))
 
--- a load is made with what is said of its file
+-- a load is made with the folder's answer about its file
 by_case : (said : FileSaid) (s : State) (name : List ℕ) (n : Next) → file_of n ≡ Some name → state_after said s n ≡ Some (load_step said s name)
 by_case said s name (Load given) q = let same : given ≡ name = cc in ap (λ x. Some (load_step said s x)) same
 by_case said s name n q = absurd (cc)

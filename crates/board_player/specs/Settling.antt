@@ -12,6 +12,6 @@ use Rattle.wind_machine.specs.declared.next.Next.{Next}
 abbrev pub CanSettle : State → Type 0
 CanSettle s = KeepsEffect s × (s.steps ≤ most_steps)
 
--- a step for which this comes next leads from s to t, whatever is said of a file
+-- a step for which this comes next leads from s to t, whatever the folder answers about a file
 abbrev pub Makes : State → Next → State → Type 0
 Makes s n t = (said : FileSaid) → option_map settled_state (state_after said s n) ≡ Some t

@@ -26,8 +26,8 @@ pub enum Called {
     Pended,
     /// The caller has ended.
     Ended,
-    /// The call needs the file with this name, and is to be made again with what is said of the
-    /// file. The world is as it was before.
+    /// The call needs the file with this name, and is to be made again with the answer about it.
+    /// The world is as it was before.
     NeedsFile(Name),
     /// Host memory ran out. The world is as it was before.
     NoMemory,

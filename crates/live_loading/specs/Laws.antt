@@ -11,7 +11,7 @@ use Rattle.kernel_calls.specs.Laws.{Passes, ElseStays}
 use Rattle.live_loading.specs.Said.{FileSaid}
 use Rattle.live_loading.specs.Loading.{shell, load_call}
 
--- a load keeps the invariant of the world, whatever is said of its file
+-- a load keeps the invariant of the world, whatever the folder answers about its file
 abbrev pub LoadLaw : Type 0
 LoadLaw = (w : WorldState) (name : List ℕ) (said : FileSaid) (n : ℕ) → IsWorld w → MayCall w.kern shell → Within n w
     → Passes w (load_call w name said) shell (n + 1) call_sinces 1

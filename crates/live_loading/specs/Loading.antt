@@ -1,4 +1,4 @@
--- The call that loads a module, given what is said of its file.
+-- The call that loads a module, given the folder's answer about its file.
 use Rattle.std.specs.Prelude.{ℕ, List, ◌++◌, Option, None, Some, Result, Ok, Err, codes}
 use Rattle.wind_base.specs.Limits.{ok_word}
 use Rattle.wind_base.specs.Errno.{errno_number}

@@ -1,4 +1,4 @@
--- What is said of the file that a load needs.
+-- The folder's answer about the file that a load needs.
 use Rattle.std.specs.Prelude.{ℕ, List, length, nat_lt, if◌then◌else◌, Option, None, Some}
 use Rattle.wind_base.specs.Limits.{longest_module_file}
 use Rattle.live_loading.specs.declared.answer.FileAnswer.{FileAnswer}
@@ -16,7 +16,7 @@ said_of (answers.File bytes) = Held bytes.items
 said_of answers.NoFile = Missing
 said_of answers.LongFile = TooLong
 
--- what is said of an entry of a folder
+-- the answer about an entry of a folder
 abbrev pub said_by : Option (List ℕ) → FileSaid
 said_by None = Missing
 said_by (Some bytes) = if nat_lt longest_module_file (length bytes) then TooLong else Held bytes

@@ -1,6 +1,6 @@
-//! What is said of the file that a load needs.
+//! The folder's answer about the file that a load needs.
 
-/// What is said of the file that a load needs.
+/// The folder's answer about the file that a load needs.
 #[derive(Debug, Drop)]
 pub enum FileAnswer {
     /// Its bytes.

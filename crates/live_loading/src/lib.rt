@@ -1,4 +1,4 @@
-//! Loads a module during a run: the call `ld`, given what is said of its file.
+//! Loads a module during a run: the call `ld`, given the folder's answer about its file.
 #![tactic(auto)]
 
 mod answer;

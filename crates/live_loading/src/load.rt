@@ -1,4 +1,4 @@
-//! The call that loads a module, given what is said of its file.
+//! The call that loads a module, given the folder's answer about its file.
 
 ghost use Rattle.std.specs.Prelude.{◌≡◌, ◌≤◌, [], Some, IfOk, OnOk, OnErr};
 ghost use Rattle.wind_base.specs.declared.gate.Gate.TheVariants as gates;

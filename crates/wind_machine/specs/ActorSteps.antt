@@ -84,7 +84,7 @@ file_in phase w = None
 abbrev pub file_for : State → ℕ → Option (List ℕ)
 file_for s who = if who == shell_id then file_in s.shell.phase s.world else None
 
--- the load, given what is said of its file
+-- the load, given the folder's answer about its file
 abbrev pub load_step : FileSaid → State → List ℕ → State
 load_step said s name = stepped s shell_id (part_of s.shell (without_own (load_call (shell_world s) name said) shell))
 

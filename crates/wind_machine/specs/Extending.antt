@@ -69,7 +69,7 @@ pub record MayExtend (m : More) (s : State) : Type 0 where
 abbrev pub SameNext : Type 0
 SameNext = (m : More) (s : State) → MayExtend m s → next s ≢ Over → next (extended m s) ≡ next s
 
--- and the longer run makes the same step, whatever is said of the file that it needs
+-- and the longer run makes the same step, whatever the folder answers about the file that it needs
 abbrev pub StepExtends : Type 0
 StepExtends = (said : FileSaid) (m : More) (s t : State) → MayExtend m s → machine_step said s ≡ Some t → machine_step said (extended m s) ≡ Some (extended m t)
 

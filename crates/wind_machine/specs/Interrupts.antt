@@ -70,7 +70,7 @@ pub record StepsSlot (s t : State) (i : ℕ) : Type 0 where
   -- only devRemove removes a device
   pub removed : is_removed s t i ≡ true → (who : ℕ) × IsRemoval s (next s) who i
 
--- this holds for every step from a state with a valid controller, whatever is said of a file
+-- this holds for every step from a state with a valid controller, whatever the folder answers about a file
 abbrev pub SlotLaw : Type 0
 SlotLaw = (said : FileSaid) (s t : State) (i : ℕ) → IsIrqs s.world.irqs → machine_step said s ≡ Some t → StepsSlot s t i
 

@@ -25,7 +25,7 @@ use Rattle.wind_machine.specs.declared.next.Next.{Next}
 abbrev pub OrderLaw : Type 0
 OrderLaw = (s : State) (n : Next) → ComesNext s n ↔ (n ≡ next s)
 
--- there is no further step, whatever is said of a file, exactly if the run is over
+-- there is no further step, whatever the folder answers about a file, exactly if the run is over
 abbrev pub OverLaw : Type 0
 OverLaw = (said : FileSaid) (s : State) → (machine_step said s ≡ None) ↔ IsOver s
 
@@ -34,11 +34,11 @@ abbrev pub StartLaw : Type 0
 StartLaw = (console : List ℕ) (schedule : Timetable) (slots : List (Option DeviceState)) (profile : Profile) (board : BoardKind)
     → Good (opening console schedule slots profile board)
 
--- every step keeps the invariant, whatever is said of a file, if the next event comes before 2^64
+-- every step keeps the invariant, whatever the folder answers about a file, if the next event comes before 2^64
 abbrev pub StepLaw : Type 0
 StepLaw = (said : FileSaid) (s t : State) → IfSome (next_event s) IsEarly → Good s → machine_step said s ≡ Some t → Good t
 
--- the effect of every step keeps the rest of the invariant, whatever is said of a file
+-- the effect of every step keeps the rest of the invariant, whatever the folder answers about a file
 abbrev pub EffectLaw : Type 0
 EffectLaw = (said : FileSaid) (s : State) → IfSome (next_event s) IsEarly → Good s
     → IfSome (state_after said s (next s)) KeepsEffect
@@ -73,7 +73,7 @@ abbrev pub SafetyLaw : Type 0
 SafetyLaw = (said : FileSaid) (s t : State) → Good s → machine_step said s ≡ Some t → OnlyUnsafeGo s t
 
 -- the state after k steps with this console file and these events under a rule of inheritance on a board of a kind,
--- given what is said of the files that they need
+-- given the folder's answers about the files that they need
 abbrev pub at_step : Answers → List ℕ → Timetable → List (Option DeviceState) → Choice → ℕ → State
 at_step said console schedule slots choice k = after said (opening console schedule slots choice.profile choice.board) k
 

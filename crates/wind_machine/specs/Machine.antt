@@ -44,7 +44,7 @@ opening console schedule slots profile board = record {
 abbrev pub settled_state : State → State
 settled_state s = record s { world = settled_world s.world }
 
--- its effect, given what is said of the file that it needs; if it needs none, that is not used
+-- its effect, given the folder's answer about the file that it needs; if it needs none, that is not used
 abbrev pub state_after : FileSaid → State → Next → Option State
 state_after said s (Deliver i) = Some (delivery_step s i)
 state_after said s (Come e) = Some (event_step s e)
@@ -59,7 +59,7 @@ state_after said s Over = None
 unfoldable pub machine_step : FileSaid → State → Option State
 machine_step said s = option_map settled_state (state_after said s (next s))
 
--- from one state to the next, whatever is said of a file; and there is no further step
+-- from one state to the next, whatever the folder answers about a file; and there is no further step
 abbrev pub Steps : State → State → Type 0
 Steps s t = (said : FileSaid) → machine_step said s ≡ Some t
 

@@ -39,8 +39,8 @@ abbrev pub SilentSteps : ℕ → State → State → Type 0
 SilentSteps zero s t = t ≡ s
 SilentSteps (suc k) s t = (u : State) × SilentSteps k s u × IsSilentStep u t
 
--- after its first i steps, a run from s goes on by k silent steps, whatever is said of files: it comes to t, has
--- written nothing more, and has needed no file meanwhile
+-- after its first i steps, a run from s goes on by k silent steps, whatever the folder answers about files: it comes
+-- to t, has written nothing more, and has needed no file meanwhile
 pub record GoesOn (said : Answers) (s : State) (i k : ℕ) (u t : State) : Type 0 where
   pub state : t ≡ after said s (i + k)
   pub text_is : text said s (i + k) ≡ text said s i

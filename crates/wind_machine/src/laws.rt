@@ -8,7 +8,7 @@ use live_loading::loading_law;
 use tick_file::early_law;
 
 /// The law of order: in every state exactly one value comes next. There is no further step,
-/// whatever is said of a file, exactly if that value is `Over`.
+/// whatever the folder answers about a file, exactly if that value is `Over`.
 pub fn order_law()
     ensures one { OrderLaw }
     ensures over { OverLaw }
@@ -66,7 +66,7 @@ pub fn run_law()
 }
 
 /// The law of silent steps. Steps that need no file and write nothing belong to every run that
-/// reaches their first state, whatever is said of files.
+/// reaches their first state, whatever the folder answers about files.
 pub fn silent_law()
     ensures { SilentLaw }
 {}

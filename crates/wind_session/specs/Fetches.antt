@@ -73,7 +73,7 @@ EndsWithInputs None s old new = new ≡ old
 EndsWithInputs (Some c) s old new = EndsWithSource c.source c s old new
 
 -- ---- the modules of a run
--- how the fetch ended, given what the machine is told of the file
+-- how the fetch ended, given the answer about the file that the machine gets
 abbrev pub outcome_said : FileSaid → FetchOutcome
 outcome_said (Held bytes) = outcomes.Found
 outcome_said Missing = outcomes.Missing

@@ -14,7 +14,7 @@ pub record Shelf : Type 0 where
   pub files : Option Files
   pub name : List ℕ
 
--- what is said of a module is what the file at its path is; for a name that is not UTF-8 there is no file
+-- the answer about a module is what the file at its path is; for a name that is not UTF-8 there is no file
 abbrev pub IsSaidBy : Bool → Option Files → List ℕ → FileSaid → Type 0
 IsSaidBy true files path said = (file : Option (List ℕ)) × IsEntry files path file × (said ≡ said_by file)
 IsSaidBy false files path said = said ≡ Missing

@@ -1,4 +1,4 @@
--- What is told of a run, step by step.
+-- What a run tells, step by step.
 use Rattle.std.specs.Prelude.{◌≡◌, ℕ, ◌+◌, ◌<◌, ◌≤◌, List, Option, length}
 use Rattle.kernel_world.specs.declared.reply.Reply.{Reply}
 use Rattle.wind_outside.specs.Requests.{GrowsBy, Request}
@@ -39,8 +39,8 @@ pub record Underway (Tells : SinkLog → SinkLog → Answers → State → ℕ �
   pub run : After shelf said start n i board first.requests now.requests
   pub told : Tells (sink_of first) (sink_of now) said start i
 
--- a run of at most n steps from s ended after k steps, and left this board; what is told of it is said of the files'
--- answers, of k and of how the run ended
+-- a run of at most n steps from s ended after k steps, and left this board; what was told fits the files' answers, k and
+-- how the run ended
 pub record Told (Tells : Answers → ℕ → RunEnd → Type 0) (shelf : Shelf) (s : State) (n : ℕ) (board : State) (old new : Option (List Request)) : Type 0 where
   pub said : Answers
   pub k : ℕ

@@ -43,7 +43,7 @@ pub trait Teller {
     /// The step that follows this state can be told.
     ghost ready: { Self → State → Type 0 };
 
-    /// What was told leaves its part, whatever is said of the files later.
+    /// What was told leaves its part, whatever the folder answers later.
     fn part_law(&self)
         ensures { (first now : SinkLog) (said next : Answers) (s : State) (i : ℕ)
             → ((j : ℕ) → j < i → said j ≡ next j) → tells self.now first now said s i → part first now next s i };
