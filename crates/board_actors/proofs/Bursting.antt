@@ -11,7 +11,9 @@ use Rattle.ppc_core.specs.Outcomes.{Outcome, Done, Trapped, Leaves}
 use Rattle.ppc_core.specs.declared.trap.Trap.{Trap}
 use Rattle.ppc_word.specs.declared.decoded.Decoded.{Decoded}
 use Rattle.ppc_word.specs.declared.op.Op.TheVariants as ops
-use Rattle.ppc_core.specs.Stepping.{at_pc, LeavesAt}
+use Rattle.ppc_core.specs.Stepping.{at_pc, LeavesAt, MayStep}
+use Rattle.ppc_core.specs.declared.stepping.Progress.{Progress}
+use Rattle.ppc_core.specs.declared.stepping.Progress.TheVariants as progress
 use Rattle.board_mem.specs.Code.{Agrees, AreWords}
 use Rattle.board_actors.specs.declared.instructions.Stretch.{Stretch}
 use Rattle.board_bus.specs.BusState.{BusState}
@@ -23,7 +25,7 @@ use Rattle.live_loading.specs.KernelWorldActors.{found_regs}
 use Rattle.live_loading.specs.KernelWorldActor.{Actor}
 use Rattle.wind_machine.specs.Processor.{bus_of, regs_of}
 use Rattle.wind_machine.proofs.Executing.{IfDone, executing_lasts, sizes_last}
-use Rattle.board_actors.specs.Instructions.{ExecutesMany, IsNext, MayRun, executed_to}
+use Rattle.board_actors.specs.Instructions.{ExecutesMany, IsNext, MayRead, MayRun, Names, executed_to}
 use Rattle.board_actors.specs.Running.{RanMany}
 
 -- no gate is below the first
@@ -115,6 +117,21 @@ entry_next b pc page k entries e d words is_page aligned place within entry copy
 pub may_run : (pc word next : ℕ) (old regs : Regs) (b held bus : BusState) → fetched b pc ≡ Some word → held ≡ b → LeavesAt (exec_of board_meaning (at_pc old pc) word held) pc old held regs bus (Ok next) → MayRun pc old b regs bus (Some next)
 may_run pc word next old regs b held bus there same left =
     (word, there, subst (λ (x : BusState). exec_of board_meaning (at_pc old pc) word x ≡ Done (at_pc regs next) bus) same (left_done (exec_of board_meaning (at_pc old pc) word held) pc next old regs held bus left))
+
+-- an instruction was executed, or left, without the bus
+pub read_without : (d : Decoded) (pc : ℕ) (old regs : Regs) (b : BusState) (p : Progress) → MayStep (exec_of board_meaning (at_pc old pc) d.word) d.op old regs p → MayRead d pc old regs b p
+read_without d pc old regs b (progress.Executed next) may = (may.0, may.1 b)
+read_without d pc old regs b progress.LoadWord may = (tt, may.1)
+read_without d pc old regs b progress.Lwzu may = (tt, may.1)
+read_without d pc old regs b progress.Lbz may = (tt, may.1)
+read_without d pc old regs b progress.StoreWord may = may
+read_without d pc old regs b progress.Stwu may = may
+read_without d pc old regs b progress.Other may = (tt, may)
+
+-- an instruction that isn't executed changes nothing, and its operation is the one that is named
+pub read_left : (d : Decoded) (pc : ℕ) (old regs : Regs) (b : BusState) (left : Progress) → MayRead d pc old regs b left → ((n : ℕ) → left ≡ progress.Executed n → ⊥) → Names left d.op × (regs ≡ old)
+read_left d pc old regs b (progress.Executed n) may other = absurd (other n refl)
+read_left d pc old regs b left may other = may
 
 -- one more instruction was executed, or none
 pub ran_next : (k pc next : ℕ) (r m after : Regs) (b c bus : BusState) → RunsBelow k r b (at_pc m pc) c → MayRun pc m c after bus (Some next) → RunsBelow (k + 1) r b (at_pc after next) bus

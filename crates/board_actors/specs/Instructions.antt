@@ -1,12 +1,15 @@
 -- Instructions of one actor, one after the other.
-use Rattle.std.specs.Prelude.{◌≡◌, ◌⊎◌, ℕ, zero, suc, Option, None, Some}
+use Rattle.std.specs.Prelude.{◌≡◌, ◌≢◌, ◌⊎◌, ℕ, zero, suc, Option, None, Some}
 use Rattle.wind_base.specs.Gates.{gate_at}
 use Rattle.wind_base.specs.declared.regs.Regs.{Regs}
 use Rattle.ppc_core.specs.Instructions.{exec_of}
 use Rattle.ppc_core.specs.Outcomes.{Outcome, Done, Trapped}
 use Rattle.ppc_core.specs.Stepping.{at_pc}
+use Rattle.ppc_core.specs.declared.stepping.Progress.{Progress}
+use Rattle.ppc_core.specs.declared.stepping.Progress.TheVariants as progress
 use Rattle.board_bus.specs.BusState.{BusState}
 use Rattle.ppc_word.specs.declared.decoded.Decoded.{Decoded}
+use Rattle.ppc_word.specs.declared.op.Op.{Op}
 use Rattle.ppc_word.specs.declared.op.Op.TheVariants as ops
 use Rattle.board_bus.specs.Access.{board_meaning, fetched}
 use Rattle.live_loading.specs.KernelWorldState.{WorldState}
@@ -50,3 +53,15 @@ executed_to w who regs bus = with_bus (with_regs w who regs) bus
 -- a decoded word is empty, or the word that can be fetched at an address
 abbrev pub IsNext : Decoded → BusState → ℕ → Type 0
 IsNext d b pc = (d.op ≡ ops.Empty) ⊎ (fetched b pc ≡ Some d.word)
+
+-- the operation is the store that is named
+abbrev pub Names : Progress → Op → Type 0
+Names progress.StoreWord op = op ≡ ops.StoreWord
+Names progress.Stwu op = op ≡ ops.Stwu
+Names _ op = Unit {0}
+
+-- a decoded word may be executed at an address by a call that leaves the bus: either it leads to the next address and these
+-- registers, or nothing changes, and the operation may be named
+abbrev pub MayRead : Decoded → ℕ → Regs → Regs → BusState → Progress → Type 0
+MayRead d pc old regs b (progress.Executed next) = (d.op ≢ ops.Empty) × (exec_of board_meaning (at_pc old pc) d.word b ≡ Done (at_pc regs next) b)
+MayRead d pc old regs b left = Names left d.op × (regs ≡ old)

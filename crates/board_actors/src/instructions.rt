@@ -1,22 +1,21 @@
 //! Instructions of one actor, one after the other, with nothing in between.
 
-ghost use Rattle.std.specs.Prelude.{◌≡◌, ◌≢◌, ℕ, ◌≤◌, ◌<◌, ◌+◌, ◌^◌, false, true, length, Some, IfSome, MatchOption};
+ghost use Rattle.std.specs.Prelude.{◌≡◌, ◌≢◌, ℕ, ◌≤◌, ◌<◌, ◌+◌, ◌*◌, ◌/◌, ◌%◌, ◌^◌, false, true, length, Some, IfSome, MatchOption};
 ghost use Rattle.wind_base.specs.Boards.{board_rules};
 ghost use Rattle.ppc_word.specs.declared.op.Op.TheVariants as ops;
-ghost use Rattle.ppc_core.specs.Instructions.{exec_of};
-ghost use Rattle.ppc_core.specs.Outcomes.{Done};
 ghost use Rattle.ppc_core.specs.Stepping.{at_pc};
-ghost use Rattle.board_bus.specs.Access.{board_meaning, fetched};
+ghost use Rattle.board_mem.specs.Pages.{page_bytes};
+ghost use Rattle.board_bus.specs.Access.{fetched};
 ghost use Rattle.board_bus.specs.Seen.{bus_seen};
 ghost use Rattle.live_loading.specs.KernelWorldSeen.{world_seen};
-ghost use Rattle.board_actors.specs.{Instructions.{ExecutesMany, IsNext, MayRun}, Running.{IsThere, RanMany}};
+ghost use Rattle.board_actors.specs.{Instructions.{ExecutesMany, IsNext, MayRead, MayRun, Names}, Running.{IsThere, RanMany}};
 
 use board_bus::BoardBus;
 use board_mem::{PAGE, WORDS};
 use live_loading::{Actor, World};
 use ppc_core::{
-    exec, finish_load, finish_load_byte, finish_load_update, load_address, offset, run_bus,
-    run_registers,
+    Progress, exec, finish_load, finish_load_byte, finish_load_update, load_address, offset,
+    run_bus, run_registers, store_word, store_word_update,
 };
 use ppc_word::{Decoded, Op};
 use wind_base::Regs;
@@ -76,6 +75,20 @@ fn run_undecoded(pc: u32, regs: &mut Regs, bus: &mut BoardBus) -> Option<u32>
     }
 }
 
+// Executes the instruction at an address of a page without decoded words, in the same way. A burst
+// that comes to a gate ends here: the gates come after RAM, so no word is looked for.
+#[inline(always)]
+fn run_elsewhere(pc: u32, regs: &mut Regs, bus: &mut BoardBus) -> Option<u32>
+    requires { Unit {0} }
+    ensures { MayRun pc regs.old (bus_seen ⟦<dyn Device as Device>⟧ bus.old) regs.new
+        (bus_seen ⟦<dyn Device as Device>⟧ bus.new) result }
+{
+    if !bus.ram.has(pc, 4) {
+        return None;
+    }
+    run_undecoded(pc, regs, bus)
+}
+
 // Whether an entry isn't empty.
 #[inline(always)]
 fn is_decoded(insn: Decoded) -> bool
@@ -102,46 +115,98 @@ fn run_with_bus(pc: u32, regs: &mut Regs, insn: Decoded, bus: &mut BoardBus) -> 
     run_undecoded(pc, regs, bus)
 }
 
-// Executes a load from RAM, of one of the rows that load most. None if the instruction is another,
-// or if the bytes aren't all in RAM; then nothing changes.
+// Executes `LoadWord` from RAM. `Other` if the bytes aren't all in RAM; then nothing changes.
 #[inline(always)]
-fn run_load(pc: u32, regs: &mut Regs, insn: Decoded, bus: &BoardBus) -> Option<u32>
-    ensures some { IfSome result (λ _. insn.op ≢ ops.Empty) }
-    ensures step { MatchOption result (regs.new ≡ regs.old)
-        (λ next. exec_of board_meaning (at_pc regs.old pc) insn.word (bus_seen ⟦<dyn Device as Device>⟧ bus.now)
-        ≡ Done (at_pc regs.new next) (bus_seen ⟦<dyn Device as Device>⟧ bus.now)) }
+fn load_word(pc: u32, regs: &mut Regs, insn: Decoded, bus: &BoardBus) -> Progress
+    requires { insn.op ≡ ops.LoadWord }
+    ensures { MayRead insn pc regs.old regs.new (bus_seen ⟦<dyn Device as Device>⟧ bus.now) result }
 {
-    match insn.op {
-        Op::LoadWord => {
-            let word = bus.ram.read32(load_address(regs, insn))?;
-            Some(finish_load::<BoardBus>(word, pc, regs, insn))
-        }
-        Op::Lwzu => {
-            let at = offset(regs, insn);
-            let word = bus.ram.read32(at)?;
-            Some(finish_load_update::<BoardBus>(at, word, pc, regs, insn))
-        }
-        Op::Lbz => {
-            let byte = bus.ram.read8(offset(regs, insn))?;
-            Some(finish_load_byte::<BoardBus>(byte, pc, regs, insn))
-        }
-        _ => None,
+    match bus.ram.read32(load_address(regs, insn)) {
+        Some(word) => Progress::Executed(finish_load::<BoardBus>(word, pc, regs, insn)),
+        None => Progress::Other,
     }
 }
 
-// Executes an instruction that needs no more of the bus than to read RAM, of the rows of
-// `run_registers` and `run_load`. None if it is another; then nothing changes.
+// Executes `Lwzu` in the same way.
 #[inline(always)]
-fn run_reading(pc: u32, regs: &mut Regs, insn: Decoded, bus: &BoardBus) -> Option<u32>
-    ensures some { IfSome result (λ _. insn.op ≢ ops.Empty) }
-    ensures step { MatchOption result (regs.new ≡ regs.old)
-        (λ next. exec_of board_meaning (at_pc regs.old pc) insn.word (bus_seen ⟦<dyn Device as Device>⟧ bus.now)
-        ≡ Done (at_pc regs.new next) (bus_seen ⟦<dyn Device as Device>⟧ bus.now)) }
+fn load_word_update(pc: u32, regs: &mut Regs, insn: Decoded, bus: &BoardBus) -> Progress
+    requires { insn.op ≡ ops.Lwzu }
+    ensures { MayRead insn pc regs.old regs.new (bus_seen ⟦<dyn Device as Device>⟧ bus.now) result }
 {
-    if let Some(next) = run_registers::<BoardBus>(pc, regs, insn) {
-        return Some(next);
+    let at = offset(regs, insn);
+    match bus.ram.read32(at) {
+        Some(word) => Progress::Executed(finish_load_update::<BoardBus>(at, word, pc, regs, insn)),
+        None => Progress::Other,
     }
-    run_load(pc, regs, insn, bus)
+}
+
+// Executes `Lbz` in the same way.
+#[inline(always)]
+fn load_byte(pc: u32, regs: &mut Regs, insn: Decoded, bus: &BoardBus) -> Progress
+    requires { insn.op ≡ ops.Lbz }
+    ensures { MayRead insn pc regs.old regs.new (bus_seen ⟦<dyn Device as Device>⟧ bus.now) result }
+{
+    match bus.ram.read8(offset(regs, insn)) {
+        Some(byte) => Progress::Executed(finish_load_byte::<BoardBus>(byte, pc, regs, insn)),
+        None => Progress::Other,
+    }
+}
+
+// Executes an instruction that needs no more of the bus than to read RAM, of the operations of
+// `run_registers` and those above. Any other changes nothing.
+#[inline(always)]
+fn run_reading(pc: u32, regs: &mut Regs, insn: Decoded, bus: &BoardBus) -> Progress
+    ensures { MayRead insn pc regs.old regs.new (bus_seen ⟦<dyn Device as Device>⟧ bus.now) result }
+{
+    match run_registers::<BoardBus>(pc, regs, insn) {
+        Progress::LoadWord => load_word(pc, regs, insn, bus),
+        Progress::Lwzu => load_word_update(pc, regs, insn, bus),
+        Progress::Lbz => load_byte(pc, regs, insn, bus),
+        progress => progress,
+    }
+}
+
+// Executes the instruction at an address that `run_reading` has left, and returns the next address.
+// None if its word can't be fetched, is no instruction, or causes an exception; then nothing changes
+// but, perhaps, `regs.pc`, which isn't read.
+#[inline(always)]
+fn run_left(
+    left: Progress,
+    pc: u32,
+    regs: &mut Regs,
+    insn: Decoded,
+    bus: &mut BoardBus,
+) -> Option<u32>
+    requires next { IsNext insn (bus_seen ⟦<dyn Device as Device>⟧ bus.old) pc }
+    requires named { Names left insn.op }
+    ensures { MayRun pc regs.old (bus_seen ⟦<dyn Device as Device>⟧ bus.old) regs.new
+        (bus_seen ⟦<dyn Device as Device>⟧ bus.new) result }
+{
+    match left {
+        Progress::StoreWord => match store_word(pc, regs, insn, bus) {
+            Ok(next) => Some(next),
+            Err(_) => None,
+        },
+        Progress::Stwu => match store_word_update(pc, regs, insn, bus) {
+            Ok(next) => Some(next),
+            Err(_) => None,
+        },
+        _ => run_with_bus(pc, regs, insn, bus),
+    }
+}
+
+// The stretch before an instruction that can't be executed. It is a call, so that the other stretch
+// is made without a choice between the two.
+#[cold]
+#[inline(never)]
+fn stopped(pc: u32, made: u64) -> Stretch
+    ensures { result ≡ record { pc = pc; made = made; stopped = true } }
+{
+    Stretch {
+        pc,
+        made,
+        stopped: true,
+    }
 }
 
 // The stretch before an address, longer by the instruction there, if that was executed.
@@ -157,12 +222,21 @@ fn stretch_to(next: Option<u32>, pc: u32, made: u64) -> Stretch
             made: made + 1,
             stopped: false,
         },
-        None => Stretch {
-            pc,
-            made,
-            stopped: true,
-        },
+        None => stopped(pc, made),
     }
+}
+
+// Whether an address is a multiple of 4 in a page. It is one comparison: the address from the
+// page's start on is rotated right by 2 bits, so what isn't a multiple of 4 becomes large.
+#[inline(always)]
+fn is_word_of(page: u32, pc: u32) -> bool
+    requires { page_bytes * page < 2 ^ 32 }
+    ensures page { result ≡ true → pc / page_bytes ≡ page }
+    ensures aligned { result ≡ true → pc % 4 ≡ 0 }
+    ensures all { pc / page_bytes ≡ page → pc % 4 ≡ 0 → result ≡ true }
+{
+    let at = pc.wrapping_sub(page * PAGE as u32);
+    at / 4 + at % 4 * 0x4000_0000 < WORDS as u32
 }
 
 // Executes instructions from an address on, as long as they are in its page and use registers only,
@@ -180,14 +254,15 @@ fn run_page(start: u32, regs: &mut Regs, bus: &mut BoardBus, most: u64) -> Stret
     let page = start / PAGE as u32;
     let entries = bus.ram.code_of(page);
     if entries.len() != WORDS || start % 4 != 0 {
-        return stretch_to(run_undecoded(start, regs, bus), start, 0);
+        return stretch_to(run_elsewhere(start, regs, bus), start, 0);
     }
     let mut pc = start;
     let mut made = 0;
-    while made < most && pc / PAGE as u32 == page && pc % 4 == 0 {
+    while made < most && is_word_of(page, pc) {
         let insn = copied(&entries[pc as usize % PAGE / 4]);
-        let Some(next) = run_reading(pc, regs, insn, bus) else {
-            return stretch_to(run_with_bus(pc, regs, insn, bus), pc, made);
+        let left = run_reading(pc, regs, insn, bus);
+        let Progress::Executed(next) = left else {
+            return stretch_to(run_left(left, pc, regs, insn, bus), pc, made);
         };
         pc = next;
         made += 1;

@@ -18,12 +18,12 @@ mod trap;
 mod words;
 
 pub use bus::{Bus, Fault};
-pub use execution::{exec, exec_inline};
+pub use execution::exec;
 pub use laws::{instruction_law, move_to_cr_law};
-pub use stepping::run_registers;
+pub use stepping::{Progress, run_registers};
 pub use storage::offset;
 pub use storing::{
-    finish_load, finish_load_byte, finish_load_update, finish_store, finish_store_update,
-    load_address, run_at, run_bus, store_address,
+    finish_load, finish_load_byte, finish_load_update, load_address, run_bus, store_word,
+    store_word_update,
 };
 pub use trap::Trap;

@@ -4,7 +4,6 @@ ghost use Rattle.std.specs.Prelude.{◌≡◌, false};
 ghost use Rattle.ppc_word.specs.declared.op.Op.TheVariants as ops;
 ghost use Rattle.ppc_core.specs.Instructions.{effect_of, exec_of};
 ghost use Rattle.ppc_core.specs.Outcomes.{Done};
-ghost use Rattle.ppc_core.specs.Registers as register;
 ghost use Rattle.ppc_core.specs.Storage as storage;
 ghost use Rattle.ppc_core.specs.Stepping.{at_pc, LeavesAt};
 
@@ -12,7 +11,6 @@ use crate::bus::Bus;
 use crate::execution::exec;
 use crate::operands::{ra, rt};
 use crate::registers::{in_ra, in_rs, write};
-use crate::stepping::run_registers;
 use crate::storage::{Address, Load, Store, load_at, store_at};
 use crate::trap::Trap;
 use ppc_word::fields::si;
@@ -29,16 +27,6 @@ pub fn load_address(regs: &Regs, insn: Decoded) -> u32
     in_ra(regs, insn).wrapping_add(si(insn.word))
 }
 
-/// The address of the word that `StoreWord` writes.
-#[tactic(auto, unfolding(ppc_word::specs::Ops::fits))]
-#[inline(always)]
-pub fn store_address(regs: &Regs, insn: Decoded) -> u32
-    requires { insn.op ≡ ops.StoreWord }
-    ensures { result ≡ storage.offset regs.now insn.word }
-{
-    in_ra(regs, insn).wrapping_add(si(insn.word))
-}
-
 /// Ends `LoadWord` with the word that it read from its address, and returns the next address.
 #[tactic(auto, unfolding(crate::specs::Instructions::exec_of, crate::specs::Instructions::effect_of, crate::specs::Storage::load_of, crate::specs::Registers::gpr, crate::specs::Registers::with_gpr, crate::specs::Registers::next))]
 #[inline(always)]
@@ -49,20 +37,6 @@ pub fn finish_load<B: Bus>(datum: u32, pc: u32, regs: &mut Regs, insn: Decoded) 
         → exec_of B.meaning (at_pc regs.old pc) insn.word b ≡ Done (at_pc regs.new result) (B.meaning.loaded b 4 at) }
 {
     write(rt(insn), datum, regs);
-    pc.wrapping_add(4)
-}
-
-/// The next address after `StoreWord` has written (RS) to its address.
-#[tactic(auto, unfolding(crate::specs::Instructions::exec_of, crate::specs::Instructions::effect_of, crate::specs::Storage::store_of, crate::specs::Registers::gpr, crate::specs::Registers::with_gpr, crate::specs::Registers::next))]
-#[inline(always)]
-pub fn finish_store<B: Bus>(pc: u32, regs: &Regs, insn: Decoded) -> u32
-    requires { insn.op ≡ ops.StoreWord }
-    ensures { let at = storage.offset regs.now insn.word in (b : B.Held)
-        → B.meaning.faults b 4 at ≡ false
-        → exec_of B.meaning (at_pc regs.now pc) insn.word b
-        ≡ Done (at_pc regs.now result) (B.meaning.stored b 4 at (register.in_rs regs.now insn.word)) }
-{
-    let _ = insn;
     pc.wrapping_add(4)
 }
 
@@ -87,21 +61,6 @@ pub fn finish_load_update<B: Bus>(
     pc.wrapping_add(4)
 }
 
-/// Ends `Stwu` after (RS) is written to its address, and returns the next address.
-#[tactic(auto, unfolding(crate::specs::Instructions::exec_of, crate::specs::Instructions::effect_of, crate::specs::Storage::store_of, crate::specs::Registers::gpr, crate::specs::Registers::with_gpr, crate::specs::Registers::next))]
-#[inline(always)]
-pub fn finish_store_update<B: Bus>(at: u32, pc: u32, regs: &mut Regs, insn: Decoded) -> u32
-    requires op { insn.op ≡ ops.Stwu }
-    requires at { at ≡ storage.offset regs.old insn.word }
-    ensures { (b : B.Held)
-        → B.meaning.faults b 4 at ≡ false
-        → exec_of B.meaning (at_pc regs.old pc) insn.word b
-        ≡ Done (at_pc regs.new result) (B.meaning.stored b 4 at (register.in_rs regs.old insn.word)) }
-{
-    write(ra(insn), at, regs);
-    pc.wrapping_add(4)
-}
-
 /// Ends `Lbz` with the byte that it read from its address, and returns the next address.
 #[tactic(auto, unfolding(crate::specs::Instructions::exec_of, crate::specs::Instructions::effect_of, crate::specs::Storage::load_of, crate::specs::Registers::gpr, crate::specs::Registers::with_gpr, crate::specs::Registers::next))]
 #[inline(always)]
@@ -113,6 +72,38 @@ pub fn finish_load_byte<B: Bus>(datum: u32, pc: u32, regs: &mut Regs, insn: Deco
 {
     write(rt(insn), datum, regs);
     pc.wrapping_add(4)
+}
+
+/// Executes `StoreWord`, and returns the next address. A trap changes nothing but, perhaps,
+/// `regs.pc`, which isn't read.
+#[tactic(auto, unfolding(crate::specs::Instructions::exec_of, crate::specs::Instructions::effect_of, crate::specs::Storage::store_of, crate::specs::Registers::gpr, crate::specs::Registers::next, ppc_word::specs::Ops::fits))]
+#[inline(always)]
+pub fn store_word<B: Bus>(pc: u32, regs: &mut Regs, insn: Decoded, bus: &mut B) -> Result<u32, Trap>
+    requires { insn.op ≡ ops.StoreWord }
+    ensures { LeavesAt (exec_of B.meaning (at_pc regs.old pc) insn.word (B.held bus.old))
+        pc regs.old (B.held bus.old) regs.new (B.held bus.new) result }
+{
+    let at = in_ra(regs, insn).wrapping_add(si(insn.word));
+    let Ok(()) = bus.store32(at, in_rs(regs, insn)) else {
+        return Err(Trap::Access);
+    };
+    Ok(pc.wrapping_add(4))
+}
+
+/// Executes `Stwu` in the same way.
+#[tactic(auto, unfolding(crate::specs::Instructions::exec_of, crate::specs::Instructions::effect_of))]
+#[inline(always)]
+pub fn store_word_update<B: Bus>(
+    pc: u32,
+    regs: &mut Regs,
+    insn: Decoded,
+    bus: &mut B,
+) -> Result<u32, Trap>
+    requires { insn.op ≡ ops.Stwu }
+    ensures { LeavesAt (exec_of B.meaning (at_pc regs.old pc) insn.word (B.held bus.old))
+        pc regs.old (B.held bus.old) regs.new (B.held bus.new) result }
+{
+    store_at(Store::Word, Address::OffsetUpdate, pc, regs, insn, bus)
 }
 
 // Any instruction: the program counter is set, and read back. The word is decoded once more, so
@@ -150,22 +141,9 @@ pub fn run_bus<B: Bus>(pc: u32, regs: &mut Regs, insn: Decoded, bus: &mut B) -> 
         Op::Stbu => store_at(Store::Byte, Address::OffsetUpdate, pc, regs, insn, bus),
         Op::Sth => store_at(Store::Half, Address::Offset, pc, regs, insn, bus),
         Op::Sthx => store_at(Store::Half, Address::Indexed, pc, regs, insn, bus),
-        Op::StoreWord => store_at(Store::Word, Address::Offset, pc, regs, insn, bus),
+        Op::StoreWord => store_word(pc, regs, insn, bus),
         Op::Stwx => store_at(Store::Word, Address::Indexed, pc, regs, insn, bus),
-        Op::Stwu => store_at(Store::Word, Address::OffsetUpdate, pc, regs, insn, bus),
+        Op::Stwu => store_word_update(pc, regs, insn, bus),
         _ => run_word(pc, regs, insn.word, bus),
-    }
-}
-
-/// Executes a decoded word at an address, and returns the next address. A trap changes neither the
-/// bus nor the registers, except `regs.pc`, which is free.
-#[inline(always)]
-pub fn run_at<B: Bus>(pc: u32, regs: &mut Regs, insn: Decoded, bus: &mut B) -> Result<u32, Trap>
-    ensures { LeavesAt (exec_of B.meaning (at_pc regs.old pc) insn.word (B.held bus.old))
-        pc regs.old (B.held bus.old) regs.new (B.held bus.new) result }
-{
-    match run_registers::<B>(pc, regs, insn) {
-        Some(next) => Ok(next),
-        None => run_bus(pc, regs, insn, bus),
     }
 }

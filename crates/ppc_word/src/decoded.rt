@@ -3,7 +3,7 @@
 ghost use Rattle.std.specs.Prelude.{◌≡◌, ◌≢◌, ◌<◌, ℕ, true, Some, IfSome, option_map};
 ghost use Rattle.ppc_word.specs.Rows.{row_of};
 ghost use Rattle.ppc_word.specs.Fields as field;
-ghost use Rattle.ppc_word.specs.Ops.{row_under, fits, immediate_under};
+ghost use Rattle.ppc_word.specs.Ops.{row_under, fits, immediate_under, op_of};
 ghost use Rattle.ppc_word.specs.declared.row.Row.TheVariants as rows;
 ghost use Rattle.ppc_word.specs.declared.op.Op.TheVariants as ops;
 
@@ -27,7 +27,8 @@ pub struct Decoded {
     pub ra: u8,
     /// RB, below 32. SH and BB have the same place.
     pub rb: u8,
-    /// The displacement of a branch in bytes, or the mask of a rotation, if the operation has one.
+    /// The displacement of a branch in bytes, the target of an absolute branch, or the mask of a
+    /// rotation, if the operation has one.
     pub immediate: u32,
     /// The word.
     pub word: u32,
@@ -65,25 +66,32 @@ fn with_op(op: Op, immediate: u32, row: Row, word: u32) -> Decoded
     }
 }
 
-#[tactic(auto, unfolding(crate::specs::Ops::fits))]
+#[tactic(auto, unfolding(crate::specs::Ops::fits, crate::specs::Ops::op_of))]
 fn branch(word: u32) -> Decoded
     requires { row_of word ≡ Some rows.B }
+    ensures is { result.op ≡ op_of rows.B word }
     ensures op { result.op ≢ ops.Empty }
     ensures row { result.row ≡ rows.B }
     ensures word { result.word ≡ word }
 {
-    if aa(word) {
-        with_op(Op::Other, 0, Row::B, word)
+    let op = if aa(word) {
+        if lk(word) {
+            Op::BranchLinkAbsolute
+        } else {
+            Op::BranchAbsolute
+        }
     } else if lk(word) {
-        with_op(Op::BranchLink, li(word), Row::B, word)
+        Op::BranchLink
     } else {
-        with_op(Op::Branch, li(word), Row::B, word)
-    }
+        Op::Branch
+    };
+    with_op(op, li(word), Row::B, word)
 }
 
-#[tactic(auto, unfolding(crate::specs::Ops::fits))]
+#[tactic(auto, unfolding(crate::specs::Ops::fits, crate::specs::Ops::op_of))]
 fn conditional_branch(word: u32) -> Decoded
     requires { row_of word ≡ Some rows.Bc }
+    ensures is { result.op ≡ op_of rows.Bc word }
     ensures op { result.op ≢ ops.Empty }
     ensures row { result.row ≡ rows.Bc }
     ensures word { result.word ≡ word }
@@ -109,9 +117,10 @@ fn conditional_branch(word: u32) -> Decoded
     with_op(Op::Other, 0, Row::Bc, word)
 }
 
-#[tactic(auto, unfolding(crate::specs::Ops::fits))]
+#[tactic(auto, unfolding(crate::specs::Ops::fits, crate::specs::Ops::op_of))]
 fn rotation(word: u32) -> Decoded
     requires { row_of word ≡ Some rows.Rlwinm }
+    ensures is { result.op ≡ op_of rows.Rlwinm word }
     ensures op { result.op ≢ ops.Empty }
     ensures row { result.row ≡ rows.Rlwinm }
     ensures word { result.word ≡ word }
@@ -125,8 +134,12 @@ fn rotation(word: u32) -> Decoded
 }
 
 // The operation of a word of another row, which needs no operand made beforehand.
-#[tactic(auto, unfolding(crate::specs::Ops::fits))]
+#[tactic(auto, unfolding(crate::specs::Ops::fits, crate::specs::Ops::op_of))]
 fn op_for(row: Row, word: u32) -> Op
+    requires branch { row ≢ rows.B }
+    requires conditional { row ≢ rows.Bc }
+    requires rotation { row ≢ rows.Rlwinm }
+    ensures is { result ≡ op_of row word }
     ensures some { result ≢ ops.Empty }
     ensures under { row_under result row ≡ row }
     ensures fit { fits result word ≡ true }
@@ -134,7 +147,9 @@ fn op_for(row: Row, word: u32) -> Op
 {
     match row {
         Row::Bclr if !lk(word) && bo(word, 0) == 1 && bo(word, 2) == 1 => Op::BranchToLink,
+        Row::Bclr => Op::Other,
         Row::Bcctr if !lk(word) && bo(word, 0) == 1 && bo(word, 2) == 1 => Op::BranchToCount,
+        Row::Bcctr => Op::Other,
         Row::Addi if ra(word) == 0 => Op::LoadImmediate,
         Row::Addi => Op::AddImmediate,
         Row::Addis if ra(word) == 0 => Op::LoadImmediateShifted,
@@ -142,7 +157,9 @@ fn op_for(row: Row, word: u32) -> Op
         Row::AddicDot => Op::AddicDot,
         Row::Mulli => Op::Mulli,
         Row::Add if !oe(word) && !rc(word) => Op::Add,
+        Row::Add => Op::Other,
         Row::Subf if !oe(word) && !rc(word) => Op::Subf,
+        Row::Subf => Op::Other,
         Row::Neg => Op::Neg,
         Row::Mullw => Op::Mullw,
         Row::Cmpi => Op::Cmpi,
@@ -155,17 +172,22 @@ fn op_for(row: Row, word: u32) -> Op
         Row::Xori => Op::Xori,
         Row::Xoris => Op::Xoris,
         Row::And if !rc(word) => Op::And,
+        Row::And => Op::Other,
         Row::Or if rc(word) => Op::OrDot,
         Row::Or => Op::Or,
         Row::Xor if !rc(word) => Op::Xor,
+        Row::Xor => Op::Other,
         Row::Nor if !rc(word) => Op::Nor,
+        Row::Nor => Op::Other,
         Row::Slw => Op::Slw,
         Row::Srw => Op::Srw,
         Row::Srawi => Op::Srawi,
         Row::Mtspr => Op::Mtspr,
         Row::Mfspr => Op::Mfspr,
         Row::Lwz if ra(word) != 0 => Op::LoadWord,
+        Row::Lwz => Op::Other,
         Row::Stw if ra(word) != 0 => Op::StoreWord,
+        Row::Stw => Op::Other,
         Row::Lbz => Op::Lbz,
         Row::Lbzx => Op::Lbzx,
         Row::Lbzu => Op::Lbzu,
@@ -210,6 +232,7 @@ pub fn decode_once(word: u32) -> Option<Decoded>
 pub fn decode_word(word: u32) -> Option<Decoded>
     ensures row { option_map (λ d. d.row) result ≡ row_of word }
     ensures word { IfSome result (λ d. d.word ≡ word) }
+    ensures is { IfSome result (λ d. d.op ≡ op_of d.row d.word) }
     ensures op { IfSome result (λ d. d.op ≢ ops.Empty) }
 {
     let row = row_for(word)?;

@@ -12,6 +12,10 @@ pub enum Op {
     Branch,
     /// `bl` without AA.
     BranchLink,
+    /// `ba`: `b` with AA, without LK.
+    BranchAbsolute,
+    /// `bla`: `bl` with AA.
+    BranchLinkAbsolute,
     /// `bc` that is taken if its CR bit is set, without AA and LK.
     BranchTrue,
     /// `bc` that is taken if its CR bit is clear, without AA and LK.

@@ -1,0 +1,55 @@
+use Rattle.std.proofs.Common.{◌≡◌, true, refl, sym}
+use Rattle.ppc_word.specs.declared.op.Op.{Op}
+use Rattle.ppc_word.specs.declared.op.Op.TheVariants as ops
+use Rattle.ppc_core.specs.Stepping.{is_left}
+use Rattle.ppc_core.proofs.stepping.run_registers.Goals as goal
+
+pub returns-in_default-clause-other : goal.returns-in_default-clause-other
+returns-in_default-clause-other g c = λ same. left c.args.insn.op refl where
+  left : (o : Op) → o ≡ c.args.insn.op → is_left o ≡ true
+  left ops.Branch e = absurd (c.in_default.not-Branch (sym e))
+  left ops.BranchLink e = absurd (c.in_default.not-BranchLink (sym e))
+  left ops.BranchAbsolute e = absurd (c.in_default.not-BranchAbsolute (sym e))
+  left ops.BranchLinkAbsolute e = absurd (c.in_default.not-BranchLinkAbsolute (sym e))
+  left ops.BranchTrue e = absurd (c.in_default.not-BranchTrue (sym e))
+  left ops.BranchFalse e = absurd (c.in_default.not-BranchFalse (sym e))
+  left ops.BranchDecrement e = absurd (c.in_default.not-BranchDecrement (sym e))
+  left ops.BranchToLink e = absurd (c.in_default.not-BranchToLink (sym e))
+  left ops.BranchToCount e = absurd (c.in_default.not-BranchToCount (sym e))
+  left ops.LoadImmediate e = absurd (c.in_default.not-LoadImmediate (sym e))
+  left ops.LoadImmediateShifted e = absurd (c.in_default.not-LoadImmediateShifted (sym e))
+  left ops.AddImmediate e = absurd (c.in_default.not-AddImmediate (sym e))
+  left ops.AddImmediateShifted e = absurd (c.in_default.not-AddImmediateShifted (sym e))
+  left ops.AddicDot e = absurd (c.in_default.not-AddicDot (sym e))
+  left ops.Mulli e = absurd (c.in_default.not-Mulli (sym e))
+  left ops.Add e = absurd (c.in_default.not-Add (sym e))
+  left ops.Subf e = absurd (c.in_default.not-Subf (sym e))
+  left ops.Neg e = absurd (c.in_default.not-Neg (sym e))
+  left ops.Mullw e = absurd (c.in_default.not-Mullw (sym e))
+  left ops.Cmpi e = absurd (c.in_default.not-Cmpi (sym e))
+  left ops.Cmp e = absurd (c.in_default.not-Cmp (sym e))
+  left ops.Cmpli e = absurd (c.in_default.not-Cmpli (sym e))
+  left ops.Cmpl e = absurd (c.in_default.not-Cmpl (sym e))
+  left ops.Andi e = absurd (c.in_default.not-Andi (sym e))
+  left ops.Ori e = absurd (c.in_default.not-Ori (sym e))
+  left ops.Oris e = absurd (c.in_default.not-Oris (sym e))
+  left ops.Xori e = absurd (c.in_default.not-Xori (sym e))
+  left ops.Xoris e = absurd (c.in_default.not-Xoris (sym e))
+  left ops.And e = absurd (c.in_default.not-And (sym e))
+  left ops.Or e = absurd (c.in_default.not-Or (sym e))
+  left ops.OrDot e = absurd (c.in_default.not-OrDot (sym e))
+  left ops.Xor e = absurd (c.in_default.not-Xor (sym e))
+  left ops.Nor e = absurd (c.in_default.not-Nor (sym e))
+  left ops.Rlwinm e = absurd (c.in_default.not-Rlwinm (sym e))
+  left ops.RlwinmDot e = absurd (c.in_default.not-RlwinmDot (sym e))
+  left ops.Slw e = absurd (c.in_default.not-Slw (sym e))
+  left ops.Srw e = absurd (c.in_default.not-Srw (sym e))
+  left ops.Srawi e = absurd (c.in_default.not-Srawi (sym e))
+  left ops.Mtspr e = absurd (c.in_default.not-Mtspr (sym e))
+  left ops.Mfspr e = absurd (c.in_default.not-Mfspr (sym e))
+  left ops.LoadWord e = absurd (c.in_default.not-LoadWord (sym e))
+  left ops.Lwzu e = absurd (c.in_default.not-Lwzu (sym e))
+  left ops.Lbz e = absurd (c.in_default.not-Lbz (sym e))
+  left ops.StoreWord e = absurd (c.in_default.not-StoreWord (sym e))
+  left ops.Stwu e = absurd (c.in_default.not-Stwu (sym e))
+  left o e = refl
