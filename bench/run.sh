@@ -134,6 +134,7 @@ for tasks in 1 15 249; do
     crowd "$tasks" 'taskDelay, 1000000000'
     steps "the same, and delayed tasks: $tasks" "$work/crowd" 20000000
 done
+steps 'a loop that rewrites itself' "$here/own-code" 20000000
 "$here/loops.sh" "$program"
 steps 'kernel calls of a task' "$here/task-calls" 20000000
 

@@ -6,7 +6,7 @@ ghost use Rattle.board_mem.specs.Pages.{page_of, page_bytes};
 ghost use Rattle.ppc_word.specs.declared.decoded.Decoded.{Decoded};
 ghost use Rattle.ppc_word.specs.declared.op.Op.TheVariants as ops;
 
-use crate::store::PAGE;
+use crate::store::{PAGE, repeated};
 use ppc_word::{Decoded, empty};
 use std::alloc::Global;
 use wind_base::NoMemory;
@@ -75,8 +75,8 @@ impl CodePages {
             (vec_capacity c.entries)) }
     {
         Ok(CodePages {
-            slots: vec![in alloc; 0; pages]?,
-            owners: vec![in alloc; 0; SLOTS]?,
+            slots: repeated(alloc, 0, pages)?,
+            owners: repeated(alloc, 0, SLOTS)?,
             used: 0,
             oldest: 0,
             entries: Vec::with_capacity(alloc, SLOTS * WORDS)?,
@@ -203,7 +203,8 @@ impl CodePages {
             self.old.oldest (vec_capacity self.old.entries) }
         ensures slots { AreSlots self.new.slots.items self.new.owners.items self.new.entries.items self.new.used
             self.new.oldest (vec_capacity self.new.entries) }
-        ensures given { (slot : ℕ) × IsGiven self.old.slots.items self.new.slots.items page slot }
+        ensures kept { (slot : ℕ) × IsGiven self.old.slots.items self.new.slots.items page slot
+            × ((d : Decoded) → slice_index_or self.new.entries.items (page_words * slot + k) d ≡ decoded) }
         ensures decoded { (bytes : List ℕ) → Agrees decoded bytes (page_bytes * page + 4 * k)
             → AreDecoded self.old.slots.items self.old.entries.items bytes
             → AreDecoded self.new.slots.items self.new.entries.items bytes }

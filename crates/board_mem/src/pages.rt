@@ -7,7 +7,7 @@ ghost use Rattle.board_mem.specs.Pages.{page_bytes, unmade, written_at, made_cou
 
 use crate::code::{CodePages, entries_of};
 use crate::outside::Outside;
-use crate::store::{PAGE, fill_in, offset, offset_to_write, put_in};
+use crate::store::{PAGE, fill_in, offset, offset_to_write, put_in, repeated};
 use ppc_word::Decoded;
 use std::alloc::Global;
 use std::marker::Model;
@@ -67,8 +67,8 @@ impl Pages {
         ensures { IfOk result (λ p. p ≡ unmade size) }
     {
         let count = (size as usize + (PAGE - 1)) / PAGE;
-        let index = vec![in alloc; 0; count]?;
-        let writes = vec![in alloc; 0; count]?;
+        let index = repeated(alloc, 0, count)?;
+        let writes = repeated(alloc, 0, count)?;
         let mut store = Vec::with_capacity(alloc, count * PAGE + PAGE)?;
         store.resize(PAGE, 0)?;
         let code = CodePages::new(alloc, count)?;

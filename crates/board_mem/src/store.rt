@@ -1,15 +1,33 @@
 //! The store of the pages, and the number that each page of addresses has in it.
 
-ghost use Rattle.std.specs.Prelude.{◌≡◌, ◌+◌, ◌%◌, ◌<◌, ◌≤◌, ℕ, List, length, replicate, slice_index, vec_capacity};
+ghost use Rattle.std.specs.Prelude.{◌≡◌, ◌+◌, ◌%◌, ◌<◌, ◌≤◌, ℕ, List, IfOk, length, replicate, slice_index, vec_capacity};
 ghost use Rattle.board_mem.specs.Memory.{with_bytes};
 ghost use Rattle.board_mem.specs.Code.{AreDecoded, AreSlots, AreWritable, SameElsewhere};
 ghost use Rattle.board_mem.specs.Pages.{page_of, page_bytes};
 ghost use Rattle.board_mem.specs.Store.{AreStored, IsMade, offset_of};
 
 use crate::code::CodePages;
+use std::alloc::Global;
+use wind_base::NoMemory;
 
 /// The size of a page in bytes.
 pub const PAGE: usize = 4_096;
+
+// The greatest number of values that are filled in at once.
+const PIECE: usize = 256;
+
+/// A list of `n` times this value. It is filled in pieces, because `memset` fills more than 2 KiB
+/// by a string instruction, which callgrind counts once a byte.
+pub(crate) fn repeated<T: Copy>(alloc: Global, value: T, n: usize) -> Result<Vec<T>, NoMemory>
+    ensures { IfOk result (λ v. v.items ≡ replicate n value) }
+{
+    let mut items = Vec::with_capacity(alloc, n)?;
+    while items.len() < n {
+        let len = items.len();
+        items.resize(len + PIECE.min(n - len), value)?;
+    }
+    Ok(items)
+}
 
 // Creates a page: appends a page of zeros to the store, and returns its number.
 #[cold]

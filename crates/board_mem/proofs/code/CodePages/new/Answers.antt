@@ -5,8 +5,8 @@ use Rattle.board_mem.proofs.code.CodePages.new.Goals as goal
 
 pub returns-clause-kept : goal.returns-clause-kept
 returns-clause-kept c =
-    let slots = c.in_ok-vec.ensures.items_if_clones_equal (λ y e. e) in
-    let owners = c.in_ok-vec-2.ensures.items_if_clones_equal (λ y e. e) in
+    let slots = c.in_ok-repeated.ensures in
+    let owners = c.in_ok-repeated-2.ensures in
     record {
       owned = λ page slot e. absurd (omega (arith, sym e ∙ ap (λ xs. get_or xs page 0) slots ∙ get_or-zeros c.args.pages page));
       pages = ap length owners ∙ length-replicate {A = ℕ} 64 0;

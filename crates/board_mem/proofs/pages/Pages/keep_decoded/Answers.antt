@@ -21,7 +21,7 @@ invariant_of-self c =
     let word = subst (λ (s : PagesState). read 4 s.bytes c.args.at ≡ Some c.args.decoded.word) (sym c.self.view_is) c.requires.word in (
       c.self.invariant.0,
       record {
-        writable = writable_given now.index.items now.writes.items now.code.slots.items c.keep.new.self.slots.items (c.args.at / 4096) c.keep.ensures.given.0 there c.keep.ensures.given.1 c.self.invariant.1.writable;
+        writable = writable_given now.index.items now.writes.items now.code.slots.items c.keep.new.self.slots.items (c.args.at / 4096) c.keep.ensures.kept.0 there c.keep.ensures.kept.1 c.self.invariant.1.writable;
         slotted = c.keep.ensures.slots;
         decoded = c.keep.ensures.decoded bytes (inr (subst (λ (a : ℕ). read 4 bytes a ≡ Some c.args.decoded.word) place word)) c.self.invariant.1.decoded;
       },

@@ -7,7 +7,7 @@ use Rattle.board_mem.proofs.pages.Pages.new.Goals as goal
 
 pub returns : goal.returns
 returns c =
-    let index = c.in_ok-index.ensures.items_if_clones_equal (λ y e. e) in
+    let index = c.in_ok-index.ensures in
     let store = c.resize.new.self.items in
     let done : is_ok c.resize.result ≡ true = search rules in
     let zeros : (i : ℕ) → i < page_bytes → get_or store i 0 ≡ 0 = λ i h. c.resize.ensures.by_index.1 i 0 done (omega (arith, c.in_ok-store.ensures.len)) h in
