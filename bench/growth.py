@@ -104,6 +104,11 @@ def ticks(bench):
     bench.row("idle step, tasks that sleep", TASKS, 230, lambda n: idle(sleepers(n)))
     bench.row("the same, profile 2", TASKS, 260,
               lambda n: idle(sleepers(n), ("--profile", "2"), 22000))
+    # li r4, -1; the gate of semTake
+    held = ("*0x1000 = 0x3880ffff; *0x1004 = 0x49000173\n"
+            "m = semMCreate(13); semTake(m, -1); b = semBCreate(0, 0)\nsp 0x1000, b\n")
+    bench.row("the same, a mutex is owned and a task waits for something else", TASKS, 260,
+              lambda n: idle(held + sleepers(n), ("--profile", "2"), 22000))
     bench.row("idle step, lines `every` of the tick file", (100, 200, 400, 800), 400,
               lambda n: bench.step("", "".join(f"every {100 * n + i} 4294967295\n"
                                                for i in range(n)), 20000, 40000))

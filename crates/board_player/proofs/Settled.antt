@@ -41,7 +41,7 @@ other_lends who (t ∷ ts) =
     let own : with_id lends (unless_own who t) ≡ with_id lends t = elim (eqb t.id who) as (λ b. with_id lends (cond b t (unreserved t)) ≡ with_id lends t) [ true ↦ refl | false ↦ refl ] in
     ap (λ q. q ∷ map (with_id lends) (map (unless_own who) ts)) own ∙ ap (λ qs. with_id lends t ∷ qs) (other_lends who ts)
 
-all_lend : (ts : List Task) → SameLends ts (map unreserved ts)
+pub all_lend : (ts : List Task) → SameLends ts (map unreserved ts)
 all_lend [] = refl
 all_lend (t ∷ ts) = ap (λ qs. with_id lends t ∷ qs) (all_lend ts)
 

@@ -9,6 +9,7 @@ pub mod Knowing
 pub mod Replies
 pub mod Settling
 pub use Rattle.wind_machine.specs.LiveLoadingSaid
+pub use Rattle.live_loading.specs.KernelWorldReply
 pub use Rattle.wind_machine.specs.State as WindMachineState
 pub use Rattle.wind_machine.specs.Machine as WindMachineMachine
 pub use Rattle.wind_machine.specs.Extending as WindMachineExtending

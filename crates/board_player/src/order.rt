@@ -1,6 +1,6 @@
 //! What comes next, and making that step.
 
-ghost use Rattle.std.specs.Prelude.{◌≡◌, ◌≢◌, ◌↔◌, ◌^◌, ◌<◌, true, None, Some, Option, Ok, IfOk, IfSome, IsSome, nat_le, if◌then◌else◌, not, option_map, OnOk, OnErr};
+ghost use Rattle.std.specs.Prelude.{◌≡◌, ◌≢◌, ◌↔◌, ◌^◌, ◌<◌, true, false, None, Some, Option, Ok, IfOk, IfSome, IsSome, nat_le, if◌then◌else◌, not, option_map, OnOk, OnErr};
 ghost use Rattle.wind_base.specs.Limits.{most_steps};
 ghost use Rattle.tick_file.specs.Laws.{IsEarly};
 ghost use Rattle.wind_base.specs.declared.regs.Regs.{Regs};
@@ -9,7 +9,7 @@ ghost use Rattle.wind_core.specs.Orders.{running as running_lem};
 ghost use Rattle.live_loading.specs.KernelWorldObjects.{IsReady};
 ghost use Rattle.wind_machine.specs.LiveLoadingSaid.{FileSaid};
 ghost use Rattle.wind_machine.specs.Good.{Good};
-ghost use Rattle.wind_machine.specs.Events.{next_event};
+ghost use Rattle.wind_machine.specs.Events.{next_event, event_step};
 ghost use Rattle.wind_machine.specs.ActorSteps.{step_of, routine_step as routine_step_lem, file_for as file_for_lem};
 ghost use Rattle.wind_machine.specs.Next.{due_delivery as due_delivery_lem, occupied as occupied_lem, due_event as due_event_lem, event_of, console_is_due as console_is_due_lem, is_open as is_open_lem, is_active as is_active_lem, holds_back, task_next as task_next_lem, next as next_lem};
 ghost use Rattle.wind_machine.specs.Machine.{state_after, settled_state, file_of, who_may, next_may, may_exhaust_memory};
@@ -32,7 +32,7 @@ use crate::loading::file_for;
 use crate::outside::{arrive, come, deliver, jump};
 use crate::parts::Parts;
 use crate::routine_steps::step_routine;
-use crate::settling::settle;
+use crate::settling::{is_quiet, settle};
 use crate::shell_steps::run_shell;
 use crate::task_steps::run;
 use board_actors::{StepKind, waits_for_console};
@@ -402,6 +402,26 @@ fn act(parts: &mut Parts, known: &mut Known, who: Ident) -> Step
     }
 }
 
+// The due event occurs, and priorities are settled unless it wakes nobody.
+#[inline(never)]
+fn occur(parts: &mut Parts, event: Event)
+    requires idle { is_active_lem (parts_seen ⟦<dyn Device as Device>⟧ parts.old).world ≡ false }
+    requires good { Good (inside parts.old) }
+    requires few { parts.old.clock.steps < most_steps }
+    requires space { IsSpacious parts.old }
+    requires left { CanSettle (event_step (parts_seen ⟦<dyn Device as Device>⟧ parts.old) event) }
+    ensures step { parts_seen ⟦<dyn Device as Device>⟧ parts.new
+        ≡ settled_state (event_step (parts_seen ⟦<dyn Device as Device>⟧ parts.old) event) }
+    ensures space { IsSpacious parts.new }
+{
+    let is_quiet = is_quiet(&parts.world.kern, event);
+    come(parts, event);
+    if is_quiet {
+        return;
+    }
+    settle(parts);
+}
+
 /// Makes the step that comes next, unless it is a load or the run is over. Unless the step is made,
 /// nothing changes. Notes what is known of who makes the step after it, and the reply of a call.
 #[inline(always)]
@@ -432,13 +452,11 @@ pub(crate) fn make(parts: &mut Parts, known: &mut Known, next: Next) -> Step
         Next::Deliver(slot) => {
             *known = Known::Nothing;
             deliver(parts, slot);
-            settle(parts);
             Step::Stepped
         }
         Next::Come(event) => {
             *known = Known::Nothing;
-            come(parts, event);
-            settle(parts);
+            occur(parts, event);
             Step::Stepped
         }
         Next::Arrive => {

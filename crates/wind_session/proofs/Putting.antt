@@ -1,7 +1,7 @@
 -- What the steps of a run wrote, as it is put, or counted.
 use Rattle.std.proofs.Common.{◌≡◌, ◌≢◌, ℕ, ◌+◌, ◌++◌, [], Option, sym, ap, subst, ◌∙◌, add-one, length, length-append}
 use Rattle.std.specs.Prelude.{take}
-use Rattle.kernel_world.specs.declared.reply.Reply.{Reply}
+use Rattle.board_player.specs.KernelWorldReply.{Reply}
 use Rattle.wind_outside.specs.Appending.{Appended, AppendedPrefix}
 use Rattle.wind_outside.specs.Requests.{GrowsBy}
 use Rattle.wind_outside.specs.declared.sink.Put.TheVariants as puts

@@ -2,7 +2,7 @@
 use Rattle.std.proofs.Common.{◌≡◌, ℕ, ◌+◌, List, Option, zero, suc, ◌<◌, cond, eqb, ◌++◌, Some, IsSome, refl, sym, ap, ◌∙◌, subst, arith, below_more, add-one}
 use Rattle.std.specs.Prelude.{unwrap_or}
 use Rattle.std.proofs.lemmas.Bool.{eq-eqb, ne_eqb}
-use Rattle.kernel_world.specs.declared.reply.Reply.{Reply}
+use Rattle.board_player.specs.KernelWorldReply.{Reply}
 use Rattle.board_player.specs.LiveLoadingSaid.{FileSaid}
 use Rattle.board_player.specs.WindMachineState.{State}
 use Rattle.board_player.specs.WindMachineMachine.{file_asked, machine_step}

@@ -1,6 +1,6 @@
 -- A run that is told, under way.
 use Rattle.std.proofs.Common.{◌≡◌, ◌≢◌, ℕ, ◌+◌, ◌<◌, ◌≤◌, List, Option, refl, sym, subst, arith}
-use Rattle.kernel_world.specs.declared.reply.Reply.{Reply}
+use Rattle.board_player.specs.KernelWorldReply.{Reply}
 use Rattle.wind_outside.specs.Files.{Files}
 use Rattle.wind_outside.specs.Requests.{Request}
 use Rattle.generated_session.specs.Puts.{SinkLog}

@@ -1,6 +1,6 @@
 -- What a run tells, step by step.
 use Rattle.std.specs.Prelude.{◌≡◌, ℕ, ◌+◌, ◌<◌, ◌≤◌, List, Option, length}
-use Rattle.kernel_world.specs.declared.reply.Reply.{Reply}
+use Rattle.board_player.specs.KernelWorldReply.{Reply}
 use Rattle.wind_outside.specs.Requests.{GrowsBy, Request}
 use Rattle.generated_session.specs.Puts.{SinkLog}
 use Rattle.board_player.specs.WindMachineState.{State}

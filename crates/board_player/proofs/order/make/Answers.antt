@@ -1,13 +1,14 @@
 use Rattle.std.proofs.Common.{refl, sym, ap, ◌∙◌}
 use Rattle.wind_machine.specs.Replies.{reply_after}
 use Rattle.wind_machine.specs.LiveLoadingSaid.{Missing}
-use Rattle.board_player.proofs.Settled.{left_by, makes, deliver_left, deliver_makes, come_left, come_makes, arrive_left, arrive_makes, jumps}
+use Rattle.board_player.proofs.Settled.{left_by, makes, come_left, come_makes, arrive_left, arrive_makes, jumps}
+use Rattle.board_player.proofs.Quiet.{deliver_still}
 use Rattle.board_player.proofs.Answering.{quiet_reply}
 use Rattle.board_player.proofs.Deciding.{delivery_due, event_idle, routine_active}
 use Rattle.board_player.proofs.order.make.Goals as goal
 
-pub come-requires-clause-idle : goal.come-requires-clause-idle
-come-requires-clause-idle g c = event_idle _ c.in-Come.event (sym c.in-Come.is ∙ c.requires.next)
+pub occur-requires-clause-idle : goal.occur-requires-clause-idle
+occur-requires-clause-idle g c = event_idle _ c.in-Come.event (sym c.in-Come.is ∙ c.requires.next)
 
 pub act_routine-requires-clause-active : goal.act_routine-requires-clause-active
 act_routine-requires-clause-active g c = routine_active _ (sym c.in-Routine.is ∙ c.requires.next)
@@ -21,23 +22,20 @@ act-requires-clause-left g c = left_by Missing _ _ _ _ _ c.in-Act.is refl refl (
 pub deliver-requires-clause-due : goal.deliver-requires-clause-due
 deliver-requires-clause-due g c = delivery_due _ c.in-Deliver.slot (sym c.in-Deliver.is ∙ c.requires.next)
 
+pub occur-requires-clause-left : goal.occur-requires-clause-left
+occur-requires-clause-left g c = come_left Missing _ _ _ c.in-Come.event c.requires.next c.in-Come.is refl (c.requires.left Missing)
+
 pub settle-requires-clause-left : goal.settle-requires-clause-left
-settle-requires-clause-left g c = deliver_left Missing _ _ _ c.in-Deliver.slot c.in-Deliver.is c.deliver.ensures.step (c.requires.left Missing)
-
-pub settle-requires-in-Come-clause-left : goal.settle-requires-in-Come-clause-left
-settle-requires-in-Come-clause-left g c = come_left Missing _ _ _ c.in-Come.event c.requires.next c.in-Come.is c.come.ensures.step (c.requires.left Missing)
-
-pub settle-requires-in-Arrive-clause-left : goal.settle-requires-in-Arrive-clause-left
-settle-requires-in-Arrive-clause-left g c = arrive_left Missing _ _ _ c.in-Arrive.is c.arrive.ensures.step (c.requires.left Missing)
+settle-requires-clause-left g c = arrive_left Missing _ _ _ c.in-Arrive.is c.arrive.ensures.step (c.requires.left Missing)
 
 pub returns-in-Deliver-clause-stepped : goal.returns-in-Deliver-clause-stepped
-returns-in-Deliver-clause-stepped g c = λ e. deliver_makes _ _ _ _ c.in-Deliver.slot c.in-Deliver.is c.deliver.ensures.step c.settle.ensures.step
+returns-in-Deliver-clause-stepped g c = λ e. deliver_still Missing _ _ _ c.in-Deliver.slot c.in-Deliver.is c.deliver.ensures.step (c.requires.left Missing) c.requires.good
 
 pub returns-in-Come-clause-stepped : goal.returns-in-Come-clause-stepped
-returns-in-Come-clause-stepped g c = λ e. come_makes _ _ _ _ c.in-Come.event c.requires.next c.in-Come.is c.come.ensures.step c.settle-in-Come.ensures.step
+returns-in-Come-clause-stepped g c = λ e. come_makes _ _ _ _ c.in-Come.event c.requires.next c.in-Come.is refl c.occur.ensures.step
 
 pub returns-in-Arrive-clause-stepped : goal.returns-in-Arrive-clause-stepped
-returns-in-Arrive-clause-stepped g c = λ e. arrive_makes _ _ _ _ c.in-Arrive.is c.arrive.ensures.step c.settle-in-Arrive.ensures.step
+returns-in-Arrive-clause-stepped g c = λ e. arrive_makes _ _ _ _ c.in-Arrive.is c.arrive.ensures.step c.settle.ensures.step
 
 pub returns-in-Routine-clause-stepped : goal.returns-in-Routine-clause-stepped
 returns-in-Routine-clause-stepped g c = λ e. makes _ _ _ _ _ _ c.in-Routine.is (λ said. refl) refl c.act_routine.ensures.step
