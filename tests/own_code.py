@@ -7,6 +7,7 @@ of at most 2 to 97 instructions: interrupts of an empty slot cut them, and drop 
 program that differs and one that counts them, and ends with 1 if one differs.
 """
 
+import argparse
 import concurrent.futures
 import hashlib
 import json
@@ -29,6 +30,7 @@ BO = (4, 12, 16, 18, 20)
 FIRST = [0x4800_0005, 0xBB89_0040, 0x3949_0020]
 # `lwarx r3, 0, r9` and `stwcx. r6, 0, r9`
 RESERVED_STORE = [0x7C60_4828, 0x7CC0_492D]
+REGISTERS = ("gpr", "pc", "lr", "ctr", "cr", "xer")
 FIRST_STEP = re.compile(rb"^ *(\d+) +(\d+)  2 .*runs", re.M)
 
 
@@ -232,8 +234,8 @@ def plays_extended(m, word):
         m.set_cr(t >> 2, signed(m.gpr[a], 32), signed(m.gpr[b], 32))
     elif code == 467 and not record and word & 0x1F_F800 == CTR:
         m.ctr = m.gpr[t]
-    elif code in (151, 215, 407) and not record:
-        m.write((m.gpr[a] if a else 0) + m.gpr[b] & MASK, {151: 4, 215: 1, 407: 2}[code], m.gpr[t])
+    elif code == 151 and not record:
+        m.write((m.gpr[a] if a else 0) + m.gpr[b] & MASK, 4, m.gpr[t])
     elif code in (20, 150):
         reserves(m, word, code)
     else:
@@ -391,59 +393,68 @@ def written(lines):
     return memory
 
 
-def differs(windtrace, folder, cuts, start, begins):
-    """What differs from the model after as many instructions as it plays, or None; and how many."""
-    time, steps = start
-    model = Model(begins, written((folder / "console.txt").read_text()), time, cuts)
-    made = 0
-    try:
-        while made < MOST:
+def model_after(model):
+    """Plays at most MOST instructions. Returns how many."""
+    for made in range(MOST):
+        try:
             model.step()
-            made += 1
-    except Stop:
-        pass
-    came = (time + made - 1) // cuts if cuts and made else time // cuts if cuts else 0
-    state = board(windtrace, folder, cuts, steps + made + came)
-    task = next(task for task in state["tasks"] if task["id"] == 2)
-    told = {key: task["regs"][key] for key in ("gpr", "pc", "lr", "ctr", "cr", "xer")}
-    told["time"] = state["time"]
+        except Stop:
+            return made
+    return MOST
+
+
+def registers_of_task(state):
+    return next(task["regs"] for task in state["tasks"] if task["id"] == 2)
+
+
+def differences(state, model):
+    """The parts of a board that aren't the model's."""
+    told = {key: registers_of_task(state)[key] for key in REGISTERS} | {"time": state["time"]}
+    wanted = {key: getattr(model, key) for key in told}
     told["memory"] = [
         (item["address"], item["size"], item["sha256"]) for item in state["ram"] if item["address"] < HIGH
     ]
-    wanted = {key: getattr(model, key) for key in ("gpr", "pc", "lr", "ctr", "cr", "xer", "time")}
     wanted["memory"] = digests(model.memory)
-    return [key for key, value in wanted.items() if told[key] != value], made
+    return [key for key, value in wanted.items() if told[key] != value]
 
 
-def program(windtrace, seed):
-    """The lines about a program that differs, and how many instructions were compared."""
+def compare(windtrace, seed):
+    """A line for each way in which a program differs, and how many instructions were compared."""
     rng = random.Random(seed)
+    lines = console(rng)
     with tempfile.TemporaryDirectory() as name:
         folder = pathlib.Path(name)
-        (folder / "console.txt").write_text(console(rng))
+        (folder / "console.txt").write_text(lines)
         found = FIRST_STEP.search(play(windtrace, folder, 0, "--limit", str(MOST)))
-        time, step = int(found[1]), int(found[2])
-        task = next(task for task in board(windtrace, folder, 0, step - 1)["tasks"] if task["id"] == 2)
-        lines, count = [], 0
+        time, steps = int(found[1]), int(found[2]) - 1
+        registers = registers_of_task(board(windtrace, folder, 0, steps))
+        wrong, count = [], 0
         for cuts in (0, 1, 2, rng.randrange(3, 98)):
-            names, made = differs(windtrace, folder, cuts, (time, step - 1), task["regs"])
+            model = Model(registers, written(lines), time, cuts)
+            made = model_after(model)
+            events = (model.time - 1) // cuts if cuts else 0
+            names = differences(board(windtrace, folder, cuts, steps + made + events), model)
             count += made
             if names:
-                lines.append(f"program {seed}, an interrupt every {cuts} steps: other {', '.join(names)}")
-        return lines, count
+                wrong.append(f"program {seed}, an interrupt every {cuts} steps: other {', '.join(names)}")
+        return wrong, count
 
 
 def main():
-    if not 2 <= len(sys.argv) <= 4:
-        sys.exit(f"usage: {sys.argv[0]} WINDTRACE [COUNT [SEED]]")
-    windtrace = str(pathlib.Path(sys.argv[1]).resolve())
-    count, seed = (int(word) for word in [*sys.argv[2:], "100", "1"][:2]) if len(sys.argv) < 4 else map(int, sys.argv[2:])
+    parser = argparse.ArgumentParser()
+    parser.add_argument("windtrace", type=pathlib.Path)
+    parser.add_argument("count", type=int, nargs="?", default=100)
+    parser.add_argument("seed", type=int, nargs="?", default=1)
+    words = parser.parse_args()
+    windtrace = str(words.windtrace.resolve())
     with concurrent.futures.ThreadPoolExecutor() as pool:
-        outcomes = list(pool.map(lambda k: program(windtrace, k), range(seed, seed + count)))
-    lines = [line for found, _ in outcomes for line in found]
-    print(*lines, sep="\n", end="\n" if lines else "")
-    print(f"own code: {count} programs, {sum(made for _, made in outcomes)} instructions, {len(lines)} differences")
-    sys.exit(1 if lines else 0)
+        outcomes = list(pool.map(lambda seed: compare(windtrace, seed), range(words.seed, words.seed + words.count)))
+    wrong = [line for lines, _ in outcomes for line in lines]
+    for line in wrong:
+        print(line)
+    made = sum(count for _, count in outcomes)
+    print(f"own code: {words.count} programs, {made} instructions, {len(wrong)} differences")
+    sys.exit(1 if wrong else 0)
 
 
 if __name__ == "__main__":

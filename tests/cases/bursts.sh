@@ -54,6 +54,36 @@ rows <<'ROWS'
 (0x1000)(7); (0x1000)(3); *0x1010 => 7 | 10 | 945815562
 ROWS
 
+# At 0x1ff8, across the edge of a page, a function that adds 1, 2 and 4 to r3. Others change its words by a byte, a halfword, a reserved
+# word, two words that `stmw` stores into both pages, and a word of which each page has a half: it makes the last two `addi r3, r3, 16`
+# and `addi r0, r3, 512`.
+shows 'instructions that were executed, and are changed'
+rows <<'ROWS'
+*0x1ff8 = 0x38630001; *0x1ffc = 0x38630002; *0x2000 = 0x38630004; *0x2004 = 0x4e800020 => 946012161 | 946012162 | 946012164 | 1317011488
+*0x1010 = 0x98602003; *0x1014 = 0x4e800020 => -1738530813 | 1317011488
+*0x1020 = 0xb0602002; *0x1024 = 0x4e800020 => -1335877630 | 1317011488
+*0x1030 = 0xbbc03000; *0x1034 = 0xbfc01ffc; *0x1038 = 0x4e800020 => -1145032704 | -1077927940 | 1317011488
+*0x1040 = 0x7ca02028; *0x1044 = 0x7c60212d; *0x1048 = 0x4e800020 => 2090868776 | 2086674733 | 1317011488
+*0x1050 = 0x90601ffe; *0x1054 = 0x4e800020 => -1872748546 | 1317011488
+(0x1ff8)(0); (0x1010)(8); (0x1ff8)(0) => 7 | 8 | 11
+(0x1020)(32); (0x1ff8)(0) => 32 | 35
+(0x1040)(0x38630040, 0x2000); (0x1ff8)(0) => 946012224 | 67
+*0x3000 = 0x38630100; *0x3004 = 0x38630200; (0x1030)(0); (0x1ff8)(0) => 946012416 | 946012672 | 0 | 769
+(0x1050)(0x103803); (0x1ff8)(0) => 1062915 | 17
+ROWS
+
+# At 0x1000 a loop that receives a message into the instruction at 0x1034, by the call and from the queue that its arguments name, until
+# there is none. The three messages are `addi r28, r28, k` with 1, 16 and 256; it returns r28.
+shows 'messages that are received into code'
+rows <<'ROWS'
+*0x1000 = 0x7fa802a6; *0x1004 = 0x7c7f1b78; *0x1008 = 0x7c9e2378; *0x100c = 0x3b800000; *0x1010 = 0x7fe903a6; *0x1014 = 0x7fc3f378 => 2141717158 | 2088704888 | 2090738552 | 998244352 | 2145977254 | 2143548280
+*0x1018 = 0x38801034; *0x101c = 0x38a00004; *0x1020 = 0x38c00000; *0x1024 = 0x4e800421; *0x1028 = 0x2c03ffff; *0x102c = 0x41820010 => 947916852 | 950009860 | 952107008 | 1317012513 | 738459647 | 1099038736
+*0x1030 = 0x60000000; *0x1034 = 0x60000000; *0x1038 = 0x4bffffd8; *0x103c = 0x7f83e378; *0x1040 = 0x7fa803a6; *0x1044 = 0x4e800020 => 1610612736 | 1610612736 | 1275068376 | 2139349880 | 2141717414 | 1317011488
+*0x2000 = 0x3b9c0001; *0x2004 = 0x3b9c0010; *0x2008 = 0x3b9c0100 => 1000079361 | 1000079376 | 1000079616
+msgQCreate(4, 4, 0); msgQSend(2, 0x2000, 4, 0, 0); msgQSend(2, 0x2004, 4, 0, 0); msgQSend(2, 0x2008, 4, 0, 0) => 2 | 0 | 0 | 0
+(0x1000)(&msgQReceive, 2); *0x1034 => 273 | 1000079616
+ROWS
+
 # Three times `nop` at 0x1000, and after them a word that is no instruction.
 trap='-> *0x1000 = *0x1004 = *0x1008 = 0x60000000
 value = 1610612736 = 0x60000000
