@@ -109,7 +109,7 @@ abbrev pub normal_changes : TaskView → TaskView → List Change
 normal_changes b t =
     if b.normal == t.normal || (not (b.pri == t.pri) && t.pri == t.normal) then [] else changes.Normal t.id t.normal ∷ []
 
--- ---- tasks of which no change is told
+-- ---- tasks whose changes need no line
 -- one task has the same priorities, suspension, wait and wake
 abbrev pub is_quiet : TaskView → TaskView → Bool
 is_quiet b t =

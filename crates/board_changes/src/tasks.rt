@@ -51,7 +51,7 @@ fn normal_change(before: &TaskView, after: &TaskView) -> Option<Change>
     })
 }
 
-// Whether these are views of one task of which no change is told.
+// Whether these are views of one task whose changes need no line.
 fn is_quiet(before: &TaskView, after: &TaskView) -> bool
     ensures { result ≡ is_quiet_lem before.now after.now }
 {
@@ -63,7 +63,7 @@ fn is_quiet(before: &TaskView, after: &TaskView) -> bool
         && same_tick(before.wake, after.wake)
 }
 
-// Whether no change of a task is told: the tasks are the same, by rising id, and quiet.
+// Whether no change of a task needs a line: the tasks are the same, by rising id, and quiet.
 fn are_quiet(before: &[TaskView], after: &[TaskView]) -> bool
     ensures { result ≡ true → all_quiet 0 before.now after.now ≡ true }
 {

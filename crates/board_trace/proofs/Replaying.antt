@@ -15,7 +15,7 @@ use Rattle.wind_machine.specs.declared.next.Next.{Next}
 use Rattle.wind_machine.specs.declared.next.Next.TheVariants.{Deliver, Come, Arrive, Routine, Act, Load, Jump, Over}
 use Rattle.board_changes.specs.declared.change.Change.{Change}
 use Rattle.board_changes.specs.Modules.{module_changes}
-use Rattle.board_changes.specs.Replay.{life_of, replayed, told_of}
+use Rattle.board_changes.specs.Replay.{life_of, replayed, changes_naming}
 use Rattle.board_changes.specs.Spans.{view_of}
 use Rattle.board_changes.specs.Tasks.{task_changes}
 use Rattle.board_changes.specs.Watchdogs.{watchdog_changes}
@@ -165,14 +165,14 @@ module _ (c : BeforeStep) (before after : SnapshotState) (r : AfterStep) (writte
 
 -- of tasks
 of_tasks : (n : Next) (tick who : ℕ) (before after : SnapshotState)
-    → told_of who (changes n tick before after) ≡ told_of who (task_changes (not (is_hearing n)) before.tasks after.tasks)
+    → changes_naming who (changes n tick before after) ≡ changes_naming who (task_changes (not (is_hearing n)) before.tasks after.tasks)
 of_tasks n tick who before after =
     let tasks = task_changes (not (is_hearing n)) before.tasks after.tasks in
     let watchdogs = watchdog_changes tick before.watchdogs after.watchdogs in
     let mods = module_changes before.modules after.modules in
     told_append who tasks (watchdogs ++ mods)
-    ∙ ap (λ cs. told_of who tasks ++ cs) (told_append who watchdogs mods ∙ ap₂ (λ p q. p ++ q) (watchdogs_untold who tick before.watchdogs after.watchdogs) (modules_untold who before.modules after.modules))
-    ∙ append-nil (told_of who tasks)
+    ∙ ap (λ cs. changes_naming who tasks ++ cs) (told_append who watchdogs mods ∙ ap₂ (λ p q. p ++ q) (watchdogs_untold who tick before.watchdogs after.watchdogs) (modules_untold who before.modules after.modules))
+    ∙ append-nil (changes_naming who tasks)
 
 pub step_replays : StepLaw → StepReplayLaw
 unfolding happenings
@@ -182,7 +182,7 @@ step_replays keeps said s t who is_early good makes stands =
     let before = snapshot_of s.world in
     let after = snapshot_of t.world in
     let life = option_map life_of (view_of before.tasks who) in
-    ap (λ b. replayed (told_of who (changes_told (cond b (switches before.last after.last ++ instruction_of c.actor) (step_happenings c before after r t.world.output)))) life) stands
-    ∙ ap (λ cs. replayed (told_of who cs) life) (all_told c before after r t.world.output)
+    ap (λ b. replayed (changes_naming who (changes_told (cond b (switches before.last after.last ++ instruction_of c.actor) (step_happenings c before after r t.world.output)))) life) stands
+    ∙ ap (λ cs. replayed (changes_naming who cs) life) (all_told c before after r t.world.output)
     ∙ ap (λ cs. replayed cs life) (of_tasks c.next r.tick who before after)
     ∙ replays (not (is_hearing c.next)) before.tasks after.tasks who (good_distinct s good) (good_distinct t (keeps said s t is_early good makes))

@@ -26,7 +26,7 @@ pub fn wait_end_law()
 
 /// The law of replay: in each step that isn't one instruction, from a state with the invariant,
 /// whether a task lives, its wait, wake and suspension, its priority and its normal priority after
-/// the step follow from those before it and the changes of the task that are told.
+/// the step follow from those before it and the changes that name it.
 pub fn step_replay_law()
     ensures { StepReplayLaw }
 {
