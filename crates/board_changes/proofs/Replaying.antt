@@ -1,5 +1,5 @@
 -- The lines of a step give a task's life after it.
-use Rattle.std.proofs.Common.{◌≡◌, ℕ, Bool, true, false, cond, eqb, leb, List, [], ◌∷◌, ◌++◌, Option, None, Some, refl, ap, ap₂, subst, ◌∙◌}
+use Rattle.std.proofs.Common.{◌≡◌, ℕ, Bool, true, false, cond, eqb, leb, List, [], ◌∷◌, ◌++◌, Option, None, Some, refl, sym, ap, ap₂, subst, ◌∙◌, append_assoc}
 use Rattle.std.specs.Prelude.{◌&&◌, ◌||◌, not}
 use Rattle.std.specs.Option.{option_map}
 use Rattle.std.proofs.lemmas.Bool.{and_parts, eqb-true, eqb-false, eq-eqb, ne_eqb}
@@ -14,7 +14,7 @@ use Rattle.board_changes.specs.declared.view.TaskView.{TaskView}
 use Rattle.board_changes.specs.Looks.{is_runner}
 use Rattle.board_changes.specs.Replay.{Life, ReplayLaw, life_of, lives_on, replayed, task_of, changes_naming}
 use Rattle.board_changes.specs.Spans.{view_of}
-use Rattle.board_changes.specs.Tasks.{begins, changes_of, deletion, deletions, ends, found, has_result, kept_changes, live_changes, newborn, normal_changes, other_wait, priority_changes, same_awaited, same_tick, sleep_changes, suspension_changes, wait_cases}
+use Rattle.board_changes.specs.Tasks.{begins, changes_of, deletion, deletions, ends, found, has_result, is_ready, kept_changes, live_changes, newborn, normal_changes, other_wait, priority_changes, same_awaited, same_tick, sleep_changes, suspension_changes, wait_cases, yield_changes}
 use Rattle.board_changes.specs.Tiling.{AreDistinct}
 use Rattle.board_changes.specs.Views.{task_id}
 use Rattle.board_changes.specs.Watchdogs.{found as found_watchdog, gone_change, gone_changes, live_changes as live_watchdogs, stopped, timer_changes, timer_in, watchdog_changes}
@@ -86,9 +86,11 @@ module _ (results : Bool) where
   of_kept b t =
       let pri = are_of_cond t.id (eqb b.pri t.pri) (changes.Priority t.id b.pri t.pri (eqb b.normal t.normal) ∷ []) (refl, tt) in
       let normal = are_of_cond t.id (eqb b.normal t.normal || (not (eqb b.pri t.pri) && eqb t.pri t.normal)) (changes.Normal t.id t.normal ∷ []) (refl, tt) in
-      are_both t.id (wait_cases results b t b.wait t.wait) (suspension_changes t.id b.suspended t.suspended ++ (priority_changes b t ++ normal_changes b t)) (of_wait b t b.wait t.wait)
-      (are_both t.id (suspension_changes t.id b.suspended t.suspended) (priority_changes b t ++ normal_changes b t) (of_suspension t.id b.suspended t.suspended)
-      (are_both t.id (priority_changes b t) (normal_changes b t) pri normal))
+      let yields = are_of_cond t.id (eqb b.since t.since || not (eqb b.pri t.pri && (is_ready b && is_ready t))) (changes.Yields t.id ∷ []) (refl, tt) in
+      are_both t.id (wait_cases results b t b.wait t.wait) (suspension_changes t.id b.suspended t.suspended ++ (priority_changes b t ++ (normal_changes b t ++ yield_changes b t))) (of_wait b t b.wait t.wait)
+      (are_both t.id (suspension_changes t.id b.suspended t.suspended) (priority_changes b t ++ (normal_changes b t ++ yield_changes b t)) (of_suspension t.id b.suspended t.suspended)
+      (are_both t.id (priority_changes b t) (normal_changes b t ++ yield_changes b t) pri
+      (are_both t.id (normal_changes b t) (yield_changes b t) normal yields)))
 
   of_view : (b : Option TaskView) (t : TaskView) → AreOf t.id (changes_of results b t)
   of_view None t = (refl, of_kept (newborn t) t)
@@ -169,18 +171,29 @@ module _ (results : Bool) (b t : TaskView) where
         ] refl)
       ] refl
 
+  -- going after others changes nothing of a life
+  own_yield : (l : Life) → replayed (yield_changes b t) (Some l) ≡ Some l
+  own_yield l =
+      elim (eqb b.since t.since || not (eqb b.pri t.pri && (is_ready b && is_ready t))) as (λ x. replayed (cond x [] (changes.Yields t.id ∷ [])) (Some l) ≡ Some l) [ true ↦ refl | false ↦ refl ]
+
   own_kept : replayed (kept_changes results b t) (Some (life_of b)) ≡ Some (life_of t)
   own_kept =
       let waits = wait_cases results b t b.wait t.wait in
       let suspension = suspension_changes t.id b.suspended t.suspended in
-      let priority = priority_changes b t ++ normal_changes b t in
+      let priority = priority_changes b t in
+      let normal = normal_changes b t in
+      let yields = yield_changes b t in
+      let rest = priority ++ (normal ++ yields) in
       let waited : Life = record { wait = t.wait; wake = t.wake; suspended = b.suspended; pri = b.pri; normal = b.normal } in
       let resumed : Life = record { wait = t.wait; wake = t.wake; suspended = t.suspended; pri = b.pri; normal = b.normal } in
-      replay_append waits (suspension ++ priority) (Some (life_of b))
-      ∙ ap (replayed (suspension ++ priority)) (own_wait b.wait t.wait (life_of b))
-      ∙ replay_append suspension priority (Some waited)
-      ∙ ap (replayed priority) (own_suspension t.id b.suspended t.suspended waited)
-      ∙ own_priority resumed
+      replay_append waits (suspension ++ rest) (Some (life_of b))
+      ∙ ap (replayed (suspension ++ rest)) (own_wait b.wait t.wait (life_of b))
+      ∙ replay_append suspension rest (Some waited)
+      ∙ ap (replayed rest) (own_suspension t.id b.suspended t.suspended waited)
+      ∙ ap (λ cs. replayed cs (Some resumed)) (sym (append_assoc priority normal yields))
+      ∙ replay_append (priority ++ normal) yields (Some resumed)
+      ∙ ap (replayed yields) (own_priority resumed)
+      ∙ own_yield (life_of t)
 
 -- ---- all tasks
 module _ (results : Bool) (who : ℕ) where

@@ -39,6 +39,7 @@ task_of (changes.Suspended who) = Some who
 task_of (changes.Resumed who) = Some who
 task_of (changes.Priority who from to inherited) = Some who
 task_of (changes.Normal who to) = Some who
+task_of (changes.Yields who) = Some who
 task_of (changes.Started watchdog due) = None
 task_of (changes.Fired watchdog) = None
 task_of (changes.Cancelled watchdog) = None

@@ -59,6 +59,7 @@ fn is_view_of(view: &TaskView, objects: &Objects, task: &Task) -> bool
         && view.errno == task.errno
         && view.pri == task.pri
         && view.normal == task.normal
+        && view.since == task.since
         && view.suspended == task.suspended
         && view.wake == task.wake
         && is_awaited(objects, view.wait, task.wait)

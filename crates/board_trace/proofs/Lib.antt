@@ -3,3 +3,5 @@ pub mod Naming
 pub mod Replying
 mod Replaying
 mod Observing
+mod Parts
+mod Owning

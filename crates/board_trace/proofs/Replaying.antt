@@ -9,6 +9,7 @@ use Rattle.kernel_world.specs.declared.call.Call.TheVariants as calls
 use Rattle.kernel_world.specs.declared.reply.Reply.{Reply}
 use Rattle.kernel_world.specs.declared.reply.Reply.TheVariants.{Answer, Refusal, Later, Gone}
 use Rattle.wind_machine.specs.Laws.{StepLaw}
+use Rattle.wind_owners.specs.Owners.{mutex_named}
 use Rattle.wind_machine.specs.Replies.{step_reply}
 use Rattle.wind_machine.specs.State.{State}
 use Rattle.wind_machine.specs.declared.next.Next.{Next}
@@ -21,7 +22,7 @@ use Rattle.board_changes.specs.Tasks.{task_changes}
 use Rattle.board_changes.specs.Watchdogs.{watchdog_changes}
 use Rattle.board_changes.proofs.Replaying.{modules_untold, replays, told_append, watchdogs_untold}
 use Rattle.board_trace.proofs.Observing.{good_distinct}
-use Rattle.board_trace.specs.Before.{before_step, mutex_named}
+use Rattle.board_trace.specs.Before.{before_step}
 use Rattle.board_trace.specs.Laws.{StepReplayLaw, change_in, changes_told}
 use Rattle.board_trace.specs.Level.{is_exception, exception_told, is_abort, faults, routine_ends, may_begin, begins, routines}
 use Rattle.board_trace.specs.Messages.{served_in, sent_to, then_queued, messages_of, messages_by, messages}

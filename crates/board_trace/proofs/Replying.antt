@@ -31,8 +31,9 @@ use Rattle.wind_machine.specs.declared.next.Next.TheVariants.{Deliver, Come, Arr
 use Rattle.wind_machine.specs.declared.phase.Phase.{Phase}
 use Rattle.wind_machine.specs.declared.phase.Phase.TheVariants as phases
 use Rattle.wind_machine.proofs.Asking.{own_gate, shells, at_load}
+use Rattle.wind_owners.specs.Owners.{mutex_named}
 use Rattle.board_changes.specs.declared.change.Change.{Change}
-use Rattle.board_trace.specs.Before.{before_step, is_calling, counter_at, gate_there, call_there, mutex_named}
+use Rattle.board_trace.specs.Before.{before_step, is_calling, counter_at, gate_there, call_there}
 use Rattle.board_trace.specs.Laws.{reply_in, replies_in, listed, ReplyLaw}
 use Rattle.board_trace.specs.Level.{is_exception, exception_told, is_abort, faults, routine_ends, may_begin, begins, routines}
 use Rattle.board_trace.specs.Messages.{served_in, sent_to, then_queued, messages_of, messages_by, messages}

@@ -15,6 +15,7 @@ use Rattle.wind_machine.specs.Good.{Good}
 use Rattle.wind_machine.specs.Machine.{machine_step}
 use Rattle.wind_machine.specs.State.{State}
 use Rattle.wind_machine.specs.Replies.{step_reply}
+use Rattle.wind_owners.specs.Owners.{owner_in}
 use Rattle.board_changes.specs.Replay.{Life, life_of, replayed, changes_naming}
 use Rattle.board_changes.specs.Spans.{view_of}
 use Rattle.board_changes.specs.Tasks.{has_result, wait_changes}
@@ -67,6 +68,23 @@ abbrev pub StepReplayLaw : Type 0
 StepReplayLaw = (said : FileSaid) (s t : State) (who : ℕ) → IfSome (next_event s) IsEarly → Good s → machine_step said s ≡ Some t
     → is_instruction (before_step s) t.world.output ≡ false
     → replayed (changes_naming who (changes_told (happenings said s t))) (life_in s who) ≡ life_in t who
+
+-- who owns this mutex after something happens
+abbrev pub owner_then : ℕ → Happening → Option ℕ → Option ℕ
+owner_then id (told.Owned mutex owner) o = if mutex == id then Some owner else o
+owner_then id (told.Freed mutex owner) o = if mutex == id then None else o
+owner_then id h o = o
+
+-- the same after happenings, one after another
+abbrev pub owner_replayed : ℕ → List Happening → Option ℕ → Option ℕ
+owner_replayed id [] o = o
+owner_replayed id (h ∷ hs) o = owner_replayed id hs (owner_then id h o)
+
+-- in each step from a state with the invariant, who owns a mutex before the step and the lines of the step give who owns it
+-- after the step. So a mutex gets or loses an owner only where a line says so
+abbrev pub OwnersLaw : Type 0
+OwnersLaw = (said : FileSaid) (s t : State) (id : ℕ) → Good s → machine_step said s ≡ Some t
+    → owner_replayed id (happenings said s t) (owner_in s.world id) ≡ owner_in t.world id
 
 -- each error is found by its number
 abbrev pub ErrorLaw : Type 0
