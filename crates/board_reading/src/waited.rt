@@ -42,11 +42,7 @@ fn awaited_at(objects: &Objects, place: Place) -> Awaited
 
 /// Whether a task that waits at this place, or doesn't wait, waits for this.
 #[inline(always)]
-pub(crate) fn is_awaited(
-    objects: &Objects,
-    awaited: Option<Awaited>,
-    place: Option<Place>,
-) -> bool
+pub(crate) fn is_awaited(objects: &Objects, awaited: Option<Awaited>, place: Option<Place>) -> bool
     ensures { result ≡ true → awaited ≡ option_map (awaited_at_lem objects.now) place }
 {
     match (awaited, place) {
