@@ -13,6 +13,7 @@ use Rattle.board_changes.specs.declared.change.Change.{Change}
 use Rattle.board_trace.specs.Level.{is_exception, exception_told, is_abort, faults, routine_ends, may_begin, begins, routines}
 use Rattle.board_trace.specs.Messages.{served_in, sent_to, then_queued, messages_of, messages_by, messages}
 use Rattle.board_trace.specs.Outside.{from_outside, is_last, switches}
+use Rattle.board_trace.specs.Owners.{freed, owned, owners_at, same_owner}
 use Rattle.board_trace.specs.Steps.{called, causes, has_written, instruction_of, writes}
 use Rattle.board_trace.specs.Views.{SnapshotState}
 use Rattle.board_trace.specs.declared.messages.QueueSide.TheVariants.{Receivers, Senders}
@@ -67,18 +68,36 @@ module _ (P : Happening → Type 0) where
   each_call is (Some who) None r = tt
   each_call is None c r = tt
 
+  -- owners of mutexes
+  module _ (owned_is : (mutex owner : ℕ) → P (told.Owned mutex owner)) (freed_is : (mutex owner : ℕ) → P (told.Freed mutex owner)) where
+    each_freed : (mutex : ℕ) (o : Option ℕ) → Each (freed mutex o)
+    each_freed mutex None = tt
+    each_freed mutex (Some owner) = (freed_is mutex owner, tt)
+
+    each_owned : (mutex : ℕ) (o : Option ℕ) → Each (owned mutex o)
+    each_owned mutex None = tt
+    each_owned mutex (Some owner) = (owned_is mutex owner, tt)
+
+    pub each_owner : (mutex before after : Option ℕ) → Each (owners_at mutex before after)
+    each_owner None before after = tt
+    each_owner (Some mutex) before after =
+        elim (same_owner before after) as (λ b. Each (cond b [] (freed mutex before ++ owned mutex after))) [
+          | true ↦ tt
+          | false ↦ each_both (freed mutex before) (owned mutex after) (each_freed mutex before) (each_owned mutex after)
+        ]
+
   module _ (is : HoldsElse P) where
-    outside : (n : Next) (c : BeforeStep) (r : AfterStep) → Each (from_outside n c r)
-    outside (Deliver slot) c r = (is.delivery slot, tt)
-    outside (Come Tick) c r = (is.tick r.tick, tt)
-    outside (Come (Rx n)) c r = (is.arrival _, tt)
-    outside (Come (Irq slot)) c r = (is.interrupt slot, tt)
-    outside Arrive c r = (is.arrival _, tt)
-    outside (Load name) c r = (is.file name, tt)
-    outside (Jump time) c r = (is.jump time, tt)
-    outside Routine c r = tt
-    outside (Act who) c r = tt
-    outside Over c r = tt
+    pub each_outside : (n : Next) (c : BeforeStep) (r : AfterStep) → Each (from_outside n c r)
+    each_outside (Deliver slot) c r = (is.delivery slot, tt)
+    each_outside (Come Tick) c r = (is.tick r.tick, tt)
+    each_outside (Come (Rx n)) c r = (is.arrival _, tt)
+    each_outside (Come (Irq slot)) c r = (is.interrupt slot, tt)
+    each_outside Arrive c r = (is.arrival _, tt)
+    each_outside (Load name) c r = (is.file name, tt)
+    each_outside (Jump time) c r = (is.jump time, tt)
+    each_outside Routine c r = tt
+    each_outside (Act who) c r = tt
+    each_outside Over c r = tt
 
     pub each_switch : (last now : Option ℕ) → Each (switches last now)
     each_switch last None = tt
@@ -90,8 +109,8 @@ module _ (P : Happening → Type 0) where
     exceptions None at true = tt
     exceptions who at false = tt
 
-    fault : (c : BeforeStep) (r : AfterStep) (e : Bool) → Each (faults c r e)
-    fault c r e = each_both (cond e (exception_told c.actor c.at) []) (cond (is_abort c r e) (told.Abort ∷ []) []) (exceptions c.actor c.at e) (each_if (is_abort c r e) told.Abort is.abort)
+    pub each_fault : (c : BeforeStep) (r : AfterStep) (e : Bool) → Each (faults c r e)
+    each_fault c r e = each_both (cond e (exception_told c.actor c.at) []) (cond (is_abort c r e) (told.Abort ∷ []) []) (exceptions c.actor c.at e) (each_if (is_abort c r e) told.Abort is.abort)
 
     sent : (sender : Actor) (queue : ℕ) (o : Option ℕ) → Each (sent_to sender queue o)
     sent sender queue None = (is.queued queue sender, tt)
@@ -141,6 +160,6 @@ module _ (P : Happening → Type 0) where
     each_cause calls c before after r written =
         let ends = faults c r (is_exception c (has_written written)) in
         let call = called c.actor c.call r.reply in
-        each_both (from_outside c.next c r) (switches before.last after.last ++ (call ++ ends)) (outside c.next c r)
+        each_both (from_outside c.next c r) (switches before.last after.last ++ (call ++ ends)) (each_outside c.next c r)
         (each_both (switches before.last after.last) (call ++ ends) (each_switch before.last after.last)
-        (each_both call ends (each_call calls c.actor c.call r.reply) (fault c r (is_exception c (has_written written)))))
+        (each_both call ends (each_call calls c.actor c.call r.reply) (each_fault c r (is_exception c (has_written written)))))

@@ -44,7 +44,7 @@ module _ (id : ℕ) (s : State) where
   abbrev Same : State → Type 0
   Same t = owner_in t.world id ≡ owner_in s.world id
 
-  SameIf : Option State → Type 0
+  abbrev SameIf : Option State → Type 0
   SameIf o = (t : State) → o ≡ Some t → Same t
 
   if_some : (t : State) → Same t → SameIf (Some t)
