@@ -31,25 +31,8 @@ fn add<T: Drop>(list: &mut Vec<T>, item: T) -> Result<(), NoMemory>
     Ok(())
 }
 
-// Whether two names are the same. Names are short, so this costs less than a comparison of slices.
-#[inline(always)]
-#[tactic(auto, using(std::proofs::lemmas::List::take_more_same, std::proofs::lemmas::List::take_all))]
-fn is_same_name(one: &[u8], other: &[u8]) -> bool
-    ensures { result ≡ true → one.now ≡ other.now }
-{
-    if one.len() != other.len() {
-        return false;
-    }
-    for place in 0..one.len() {
-        if one[place] != other[place] {
-            return false;
-        }
-    }
-    true
-}
-
-// Whether this is the view of a task among these objects. Each number is compared before the wait,
-// which may need a search for an object, and the name.
+// Whether this is the view of a task among these objects. The numbers are compared first: the wait
+// may need a search for an object.
 #[inline(always)]
 fn is_view_of(view: &TaskView, objects: &Objects, task: &Task) -> bool
     ensures { result ≡ true → view.now ≡ view_in objects.now task.now }
@@ -63,7 +46,7 @@ fn is_view_of(view: &TaskView, objects: &Objects, task: &Task) -> bool
         && view.suspended == task.suspended
         && view.wake == task.wake
         && is_awaited(objects, view.wait, task.wait)
-        && is_same_name(view.name.bytes(), task.name.bytes())
+        && view.name.bytes() == task.name.bytes()
 }
 
 // Makes this the view of a task. Most views are it already, and a test costs less than a copy.
