@@ -5,3 +5,4 @@ mod Replaying
 mod Observing
 mod Parts
 mod Owning
+mod Timing

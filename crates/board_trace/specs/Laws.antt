@@ -1,5 +1,5 @@
 -- What follows from the definitions of a trace alone.
-use Rattle.std.specs.Prelude.{◌≡◌, ℕ, ◌<◌, ◌==◌, true, false, if◌then◌else◌, List, [], ◌∷◌, ◌++◌, length, Option, None, Some, IfSome}
+use Rattle.std.specs.Prelude.{◌≡◌, ℕ, ◌<◌, ◌≤◌, ◌==◌, true, false, if◌then◌else◌, List, [], ◌∷◌, ◌++◌, length, Option, None, Some, IfSome}
 use Rattle.std.specs.Option.{option_map}
 use Rattle.wind_base.specs.Errno.{errno_number}
 use Rattle.wind_base.specs.Limits.{error_word}
@@ -15,6 +15,7 @@ use Rattle.wind_machine.specs.Good.{Good}
 use Rattle.wind_machine.specs.Machine.{machine_step}
 use Rattle.wind_machine.specs.State.{State}
 use Rattle.wind_machine.specs.Replies.{step_reply}
+use Rattle.wind_machine.specs.Run.{Answers}
 use Rattle.wind_owners.specs.Owners.{owner_in}
 use Rattle.board_changes.specs.Replay.{Life, life_of, replayed, changes_naming}
 use Rattle.board_changes.specs.Spans.{view_of}
@@ -25,6 +26,7 @@ use Rattle.board_changes.specs.declared.change.Change.TheVariants as changes
 use Rattle.board_changes.specs.declared.view.TaskView.{TaskView}
 use Rattle.board_trace.specs.Before.{before_step}
 use Rattle.board_trace.specs.Errors.{errno_named}
+use Rattle.board_trace.specs.Runs.{Line, lines_of}
 use Rattle.board_trace.specs.Snapshots.{snapshot_of, view_in}
 use Rattle.board_trace.specs.Steps.{happenings, is_instruction}
 use Rattle.board_trace.specs.declared.happening.Happening.{Happening}
@@ -85,6 +87,20 @@ owner_replayed id (h ∷ hs) o = owner_replayed id hs (owner_then id h o)
 abbrev pub OwnersLaw : Type 0
 OwnersLaw = (said : FileSaid) (s t : State) (id : ℕ) → Good s → machine_step said s ≡ Some t
     → owner_replayed id (happenings said s t) (owner_in s.world id) ≡ owner_in t.world id
+
+-- the time of the newest of some lines
+abbrev pub newest_time : List Line → ℕ
+newest_time [] = 0
+newest_time (l ∷ ls) = l.time
+
+-- lines of which each newer one has the same time or a later one; the newest is first
+abbrev pub AreInTime : List Line → Type 0
+AreInTime [] = Unit {0}
+AreInTime (l ∷ ls) = (newest_time ls ≤ l.time) × AreInTime ls
+
+-- along the lines of a run, board time never decreases
+abbrev pub TimeLaw : Type 0
+TimeLaw = (said : Answers) (s : State) (k : ℕ) → AreInTime (lines_of said s k)
 
 -- each error is found by its number
 abbrev pub ErrorLaw : Type 0

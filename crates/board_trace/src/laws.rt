@@ -1,6 +1,6 @@
 //! What follows from the definitions of a trace alone.
 
-ghost use Rattle.board_trace.specs.Laws.{ReplyLaw, ErrorLaw, OwnersLaw, StepReplayLaw, WaitEndLaw};
+ghost use Rattle.board_trace.specs.Laws.{ReplyLaw, ErrorLaw, OwnersLaw, StepReplayLaw, TimeLaw, WaitEndLaw};
 ghost use Rattle.board_trace.specs.Observed.{RunOneRunsLaw, RunTilingLaw};
 
 use board_changes::spans_law;
@@ -41,6 +41,13 @@ pub fn owners_law()
     ensures { OwnersLaw }
 {
     owner_law();
+}
+
+/// The law of time: along the lines of a run, board time never decreases.
+pub fn time_law()
+    ensures { TimeLaw }
+{
+    extend_law();
 }
 
 /// The law of a run's spans, for every console file, tick file and list of devices, under both rules
