@@ -8,12 +8,16 @@ import sys
 import tempfile
 import xml.dom.minidom
 
-# Lines of a console, and what its trace has to tell: a call with its reply, by the table in docs/calls.md, or an abort at the prompt.
-REPLIES = [
-    (b"ld < none.o\n", rb"ld\(0, 0, 0x[0-9a-f]+\) = 0 LOAD_FAILED"),
-    (b"ld 0, 0, 0xfffffff0\n", rb"ld\(0, 0, 0xfffffff0\) = -1 BAD_ADDRESS"),
-    (b"errnoSet 0xffffffff\nerrnoGet\n", rb"errnoGet\(\) = 0xffffffff"),
-    (b"abc\x03\n", rb"aborts its line"),
+# Lines of a console and of a tick file, and a line that their trace has to have: a call with its reply, by the table in
+# docs/calls.md, an abort at the prompt, `taskDelay(0)`, or the end of a time slice.
+LINES = [
+    (b"ld < none.o\n", b"", rb"ld\(0, 0, 0x[0-9a-f]+\) = 0 LOAD_FAILED"),
+    (b"ld 0, 0, 0xfffffff0\n", b"", rb"ld\(0, 0, 0xfffffff0\) = -1 BAD_ADDRESS"),
+    (b"errnoSet 0xffffffff\nerrnoGet\n", b"", rb"errnoGet\(\) = 0xffffffff"),
+    (b"abc\x03\n", b"", rb"aborts its line"),
+    (b"taskDelay 0\n", b"", rb"goes after the others of its priority"),
+    (b"*0x1000 = 0x48000000\nkernelTimeSlice 1\nsp 0x1000\ntaskDelay 3\ntaskDelete 2\n", b"every 100 6\n",
+     rb"goes after the others of its priority"),
 ]
 WRITES = re.compile(rb'^ *\d+ +\d+  .{16}  writes "(.*)"$')
 ESCAPED = re.compile(rb"\\x([0-9a-f]{2})")
@@ -55,13 +59,13 @@ def faults(session, windtrace, windplay):
         yield f"the timeline is no XML: {error}"
 
 
-def replies(windtrace):
-    """The replies that the trace of a console doesn't tell."""
-    for console, wanted in REPLIES:
+def missing(windtrace):
+    """The consoles whose trace doesn't have its line."""
+    for console, ticks, wanted in LINES:
         with tempfile.TemporaryDirectory() as folder:
             session = pathlib.Path(folder)
             (session / "console.txt").write_bytes(console)
-            (session / "ticks.txt").write_bytes(b"")
+            (session / "ticks.txt").write_bytes(ticks)
             _, events = run(windtrace, session)
         if not re.search(rb"  " + wanted + rb"\n", events):
             yield console
@@ -76,11 +80,11 @@ def main():
         wrong += bool(found)
         for fault in found:
             print(f"{session.name}: {fault}")
-    untold = list(replies(windtrace))
-    for console in untold:
-        print(f"{console}: its reply isn't told")
-    print(f"{len(sessions)} sessions, {wrong} differ; {len(REPLIES)} replies, {len(untold)} untold")
-    return 1 if wrong or untold or not sessions else 0
+    without = list(missing(windtrace))
+    for console in without:
+        print(f"{console}: its line is missing")
+    print(f"{len(sessions)} sessions, {wrong} differ; {len(LINES)} lines, {len(without)} missing")
+    return 1 if wrong or without or not sessions else 0
 
 
 if __name__ == "__main__":

@@ -1,9 +1,9 @@
--- Tasks of which no change is told.
+-- Tasks whose changes need no line.
 use Rattle.std.proofs.Common.{◌≡◌, ℕ, ◌<◌, Bool, true, false, cond, eqb, ltb, List, [], ◌∷◌, ◌++◌, Option, None, Some, refl, sym, ap, ap₂, subst, ◌∙◌, append_assoc, arith}
 use Rattle.std.specs.Prelude.{◌&&◌, ◌||◌, not}
 use Rattle.std.proofs.lemmas.Bool.{and_parts, eqb-true, ltb-true}
 use Rattle.board_changes.specs.Looks.{same_flag}
-use Rattle.board_changes.specs.Tasks.{all_quiet, changes_of, deletion, deletions, is_quiet, kept_changes, live_changes, normal_changes, other_wait, priority_changes, same_tick, same_wait, sleep_changes, suspension_changes, task_changes, wait_cases}
+use Rattle.board_changes.specs.Tasks.{all_quiet, changes_of, deletion, deletions, is_quiet, is_ready, kept_changes, live_changes, normal_changes, other_wait, priority_changes, same_tick, same_wait, sleep_changes, suspension_changes, task_changes, wait_cases, yield_changes}
 use Rattle.board_changes.specs.Views.{task_id}
 use Rattle.board_changes.specs.declared.awaited.Awaited.{Awaited}
 use Rattle.board_changes.specs.declared.change.Change.{Change}
@@ -42,21 +42,23 @@ module _ (results : Bool) where
   first_quiet low b t bs ts quiet =
       let both = and_parts (ltb low b.id) (is_quiet b t && all_quiet b.id bs ts) quiet in
       let later = and_parts (is_quiet b t) (all_quiet b.id bs ts) both.1 in
-      let waits = same_wait b.wait t.wait && same_tick b.wake t.wake in
+      let waits = same_wait b.wait t.wait && (same_tick b.wake t.wake && eqb b.since t.since) in
       let suspended = same_flag b.suspended t.suspended in
       let id = and_parts (eqb b.id t.id) (eqb b.pri t.pri && (eqb b.normal t.normal && (suspended && waits))) later.0 in
       let pri = and_parts (eqb b.pri t.pri) (eqb b.normal t.normal && (suspended && waits)) id.1 in
       let normal = and_parts (eqb b.normal t.normal) (suspended && waits) pri.1 in
       let other = and_parts suspended waits normal.1 in
-      let wait = and_parts (same_wait b.wait t.wait) (same_tick b.wake t.wake) other.1 in
+      let wait = and_parts (same_wait b.wait t.wait) (same_tick b.wake t.wake && eqb b.since t.since) other.1 in
+      let order = and_parts (same_tick b.wake t.wake) (eqb b.since t.since) wait.1 in
       let set : List Change = changes.Normal t.id t.normal ∷ [] in
       record {
         up = ltb-true low b.id both.0;
         same = eqb-true b.id t.id id.0;
         none =
-            ap₂ (λ xs ys. xs ++ (ys ++ (priority_changes b t ++ normal_changes b t))) (no_wait b t b.wait t.wait wait.0 wait.1) (no_suspension t.id b.suspended t.suspended other.0)
-            ∙ ap (λ x. cond x [] (changes.Priority t.id b.pri t.pri (eqb b.normal t.normal) ∷ []) ++ normal_changes b t) pri.0
-            ∙ ap (λ x. cond (x || (not (eqb b.pri t.pri) && eqb t.pri t.normal)) [] set) normal.0;
+            ap₂ (λ xs ys. xs ++ (ys ++ (priority_changes b t ++ (normal_changes b t ++ yield_changes b t)))) (no_wait b t b.wait t.wait wait.0 order.0) (no_suspension t.id b.suspended t.suspended other.0)
+            ∙ ap (λ x. cond x [] (changes.Priority t.id b.pri t.pri (eqb b.normal t.normal) ∷ []) ++ (normal_changes b t ++ yield_changes b t)) pri.0
+            ∙ ap (λ x. cond (x || (not (eqb b.pri t.pri) && eqb t.pri t.normal)) [] set ++ yield_changes b t) normal.0
+            ∙ ap (λ x. cond (x || not (eqb b.pri t.pri && (is_ready b && is_ready t))) [] (changes.Yields t.id ∷ [])) order.1;
         rest = later.1;
       }
 

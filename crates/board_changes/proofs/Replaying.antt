@@ -1,5 +1,5 @@
--- What happens to a task follows from what is told.
-use Rattle.std.proofs.Common.{◌≡◌, ℕ, Bool, true, false, cond, eqb, leb, List, [], ◌∷◌, ◌++◌, Option, None, Some, refl, ap, ap₂, subst, ◌∙◌}
+-- The lines of a step give a task's life after it.
+use Rattle.std.proofs.Common.{◌≡◌, ℕ, Bool, true, false, cond, eqb, leb, List, [], ◌∷◌, ◌++◌, Option, None, Some, refl, sym, ap, ap₂, subst, ◌∙◌, append_assoc}
 use Rattle.std.specs.Prelude.{◌&&◌, ◌||◌, not}
 use Rattle.std.specs.Option.{option_map}
 use Rattle.std.proofs.lemmas.Bool.{and_parts, eqb-true, eqb-false, eq-eqb, ne_eqb}
@@ -12,9 +12,9 @@ use Rattle.board_changes.specs.declared.change.Change.{Change}
 use Rattle.board_changes.specs.declared.change.Change.TheVariants as changes
 use Rattle.board_changes.specs.declared.view.TaskView.{TaskView}
 use Rattle.board_changes.specs.Looks.{is_runner}
-use Rattle.board_changes.specs.Replay.{Life, ReplayLaw, life_of, lives_on, replayed, task_of, told_of}
+use Rattle.board_changes.specs.Replay.{Life, ReplayLaw, life_of, lives_on, replayed, task_of, changes_naming}
 use Rattle.board_changes.specs.Spans.{view_of}
-use Rattle.board_changes.specs.Tasks.{begins, changes_of, deletion, deletions, ends, found, has_result, kept_changes, live_changes, newborn, normal_changes, other_wait, priority_changes, same_awaited, same_tick, sleep_changes, suspension_changes, wait_cases}
+use Rattle.board_changes.specs.Tasks.{begins, changes_of, deletion, deletions, ends, found, has_result, is_ready, kept_changes, live_changes, newborn, normal_changes, other_wait, priority_changes, same_awaited, same_tick, sleep_changes, suspension_changes, wait_cases, yield_changes}
 use Rattle.board_changes.specs.Tiling.{AreDistinct}
 use Rattle.board_changes.specs.Views.{task_id}
 use Rattle.board_changes.specs.Watchdogs.{found as found_watchdog, gone_change, gone_changes, live_changes as live_watchdogs, stopped, timer_changes, timer_in, watchdog_changes}
@@ -22,7 +22,7 @@ use Rattle.board_changes.specs.Modules.{is_in, loads, module_changes, unloads}
 use Rattle.board_changes.specs.declared.view.WatchdogView.{WatchdogView}
 use Rattle.isr_watch.specs.declared.watchdog.Timer.{Timer}
 
--- ---- changes that are told of one task
+-- ---- changes that name one task
 abbrev AreOf : ℕ → List Change → Type 0
 AreOf who [] = Unit {0}
 AreOf who (c ∷ cs) = (task_of c ≡ Some who) × AreOf who cs
@@ -35,24 +35,24 @@ are_of_cond : (who : ℕ) (t : Bool) (xs : List Change) → AreOf who xs → Are
 are_of_cond who true xs a = tt
 are_of_cond who false xs a = a
 
-pub told_append : (who : ℕ) (xs ys : List Change) → told_of who (xs ++ ys) ≡ told_of who xs ++ told_of who ys
+pub told_append : (who : ℕ) (xs ys : List Change) → changes_naming who (xs ++ ys) ≡ changes_naming who xs ++ changes_naming who ys
 told_append who [] ys = refl
 told_append who (x ∷ xs) ys =
     ap (λ cs. cond (is_runner (task_of x) who) (x ∷ cs) cs) (told_append who xs ys)
-    ∙ elim (is_runner (task_of x) who) as (λ b. cond b (x ∷ (told_of who xs ++ told_of who ys)) (told_of who xs ++ told_of who ys) ≡ cond b (x ∷ told_of who xs) (told_of who xs) ++ told_of who ys) [ true ↦ refl | false ↦ refl ]
+    ∙ elim (is_runner (task_of x) who) as (λ b. cond b (x ∷ (changes_naming who xs ++ changes_naming who ys)) (changes_naming who xs ++ changes_naming who ys) ≡ cond b (x ∷ changes_naming who xs) (changes_naming who xs) ++ changes_naming who ys) [ true ↦ refl | false ↦ refl ]
 
-told_own : (n who : ℕ) (cs : List Change) → AreOf n cs → n ≡ who → told_of who cs ≡ cs
+told_own : (n who : ℕ) (cs : List Change) → AreOf n cs → n ≡ who → changes_naming who cs ≡ cs
 told_own n who [] are same = refl
 told_own n who (c ∷ cs) are same =
-    ap (λ o. cond (is_runner o who) (c ∷ told_of who cs) (told_of who cs)) are.0
-    ∙ ap (λ b. cond b (c ∷ told_of who cs) (told_of who cs)) (eq-eqb n who same)
+    ap (λ o. cond (is_runner o who) (c ∷ changes_naming who cs) (changes_naming who cs)) are.0
+    ∙ ap (λ b. cond b (c ∷ changes_naming who cs) (changes_naming who cs)) (eq-eqb n who same)
     ∙ ap (λ xs. c ∷ xs) (told_own n who cs are.1 same)
 
-told_other : (n who : ℕ) (cs : List Change) → AreOf n cs → (n ≡ who → ⊥) → told_of who cs ≡ []
+told_other : (n who : ℕ) (cs : List Change) → AreOf n cs → (n ≡ who → ⊥) → changes_naming who cs ≡ []
 told_other n who [] are differs = refl
 told_other n who (c ∷ cs) are differs =
-    ap (λ o. cond (is_runner o who) (c ∷ told_of who cs) (told_of who cs)) are.0
-    ∙ ap (λ b. cond b (c ∷ told_of who cs) (told_of who cs)) (ne_eqb n who differs)
+    ap (λ o. cond (is_runner o who) (c ∷ changes_naming who cs) (changes_naming who cs)) are.0
+    ∙ ap (λ b. cond b (c ∷ changes_naming who cs) (changes_naming who cs)) (ne_eqb n who differs)
     ∙ told_other n who cs are.1 differs
 
 of_sleep : (who : ℕ) (v w : Option ℕ) → AreOf who (sleep_changes who v w)
@@ -86,9 +86,11 @@ module _ (results : Bool) where
   of_kept b t =
       let pri = are_of_cond t.id (eqb b.pri t.pri) (changes.Priority t.id b.pri t.pri (eqb b.normal t.normal) ∷ []) (refl, tt) in
       let normal = are_of_cond t.id (eqb b.normal t.normal || (not (eqb b.pri t.pri) && eqb t.pri t.normal)) (changes.Normal t.id t.normal ∷ []) (refl, tt) in
-      are_both t.id (wait_cases results b t b.wait t.wait) (suspension_changes t.id b.suspended t.suspended ++ (priority_changes b t ++ normal_changes b t)) (of_wait b t b.wait t.wait)
-      (are_both t.id (suspension_changes t.id b.suspended t.suspended) (priority_changes b t ++ normal_changes b t) (of_suspension t.id b.suspended t.suspended)
-      (are_both t.id (priority_changes b t) (normal_changes b t) pri normal))
+      let yields = are_of_cond t.id (eqb b.since t.since || not (eqb b.pri t.pri && (is_ready b && is_ready t))) (changes.Yields t.id ∷ []) (refl, tt) in
+      are_both t.id (wait_cases results b t b.wait t.wait) (suspension_changes t.id b.suspended t.suspended ++ (priority_changes b t ++ (normal_changes b t ++ yield_changes b t))) (of_wait b t b.wait t.wait)
+      (are_both t.id (suspension_changes t.id b.suspended t.suspended) (priority_changes b t ++ (normal_changes b t ++ yield_changes b t)) (of_suspension t.id b.suspended t.suspended)
+      (are_both t.id (priority_changes b t) (normal_changes b t ++ yield_changes b t) pri
+      (are_both t.id (normal_changes b t) (yield_changes b t) normal yields)))
 
   of_view : (b : Option TaskView) (t : TaskView) → AreOf t.id (changes_of results b t)
   of_view None t = (refl, of_kept (newborn t) t)
@@ -169,34 +171,45 @@ module _ (results : Bool) (b t : TaskView) where
         ] refl)
       ] refl
 
+  -- going after others changes nothing of a life
+  own_yield : (l : Life) → replayed (yield_changes b t) (Some l) ≡ Some l
+  own_yield l =
+      elim (eqb b.since t.since || not (eqb b.pri t.pri && (is_ready b && is_ready t))) as (λ x. replayed (cond x [] (changes.Yields t.id ∷ [])) (Some l) ≡ Some l) [ true ↦ refl | false ↦ refl ]
+
   own_kept : replayed (kept_changes results b t) (Some (life_of b)) ≡ Some (life_of t)
   own_kept =
       let waits = wait_cases results b t b.wait t.wait in
       let suspension = suspension_changes t.id b.suspended t.suspended in
-      let priority = priority_changes b t ++ normal_changes b t in
+      let priority = priority_changes b t in
+      let normal = normal_changes b t in
+      let yields = yield_changes b t in
+      let rest = priority ++ (normal ++ yields) in
       let waited : Life = record { wait = t.wait; wake = t.wake; suspended = b.suspended; pri = b.pri; normal = b.normal } in
       let resumed : Life = record { wait = t.wait; wake = t.wake; suspended = t.suspended; pri = b.pri; normal = b.normal } in
-      replay_append waits (suspension ++ priority) (Some (life_of b))
-      ∙ ap (replayed (suspension ++ priority)) (own_wait b.wait t.wait (life_of b))
-      ∙ replay_append suspension priority (Some waited)
-      ∙ ap (replayed priority) (own_suspension t.id b.suspended t.suspended waited)
-      ∙ own_priority resumed
+      replay_append waits (suspension ++ rest) (Some (life_of b))
+      ∙ ap (replayed (suspension ++ rest)) (own_wait b.wait t.wait (life_of b))
+      ∙ replay_append suspension rest (Some waited)
+      ∙ ap (replayed rest) (own_suspension t.id b.suspended t.suspended waited)
+      ∙ ap (λ cs. replayed cs (Some resumed)) (sym (append_assoc priority normal yields))
+      ∙ replay_append (priority ++ normal) yields (Some resumed)
+      ∙ ap (replayed yields) (own_priority resumed)
+      ∙ own_yield (life_of t)
 
 -- ---- all tasks
 module _ (results : Bool) (who : ℕ) where
-  -- what is told of the task of a view, if there is one
+  -- the changes that name the task of a view, if there is one
   abbrev of_live : List TaskView → Option TaskView → List Change
   of_live before None = []
   of_live before (Some t) = changes_of results (found before t.id) t
 
-  told_live : (before ts : List TaskView) → AreDistinct ts → told_of who (live_changes results before ts) ≡ of_live before (view_of ts who)
+  told_live : (before ts : List TaskView) → AreDistinct ts → changes_naming who (live_changes results before ts) ≡ of_live before (view_of ts who)
   told_live before [] all = refl
   told_live before (t ∷ ts) all =
       let one = changes_of results (found before t.id) t in
       let are = of_view results (found before t.id) t in
       let rest = told_live before ts all.1 in
       told_append who one (live_changes results before ts)
-      ∙ elim (eqb t.id who) as (λ b. eqb t.id who ≡ b → told_of who one ++ told_of who (live_changes results before ts) ≡ of_live before (cond b (Some t) (view_of ts who))) [
+      ∙ elim (eqb t.id who) as (λ b. eqb t.id who ≡ b → changes_naming who one ++ changes_naming who (live_changes results before ts) ≡ of_live before (cond b (Some t) (view_of ts who))) [
         | true ↦ λ e. (
             let same : t.id ≡ who = eqb-true t.id who e in
             let none : view_of ts who ≡ None = subst (λ n. view_of ts n ≡ None) same all.0 in
@@ -212,14 +225,14 @@ module _ (results : Bool) (who : ℕ) where
   of_gone after None = []
   of_gone after (Some b) = deletion b.id (found after b.id)
 
-  told_gone : (after bs : List TaskView) → AreDistinct bs → told_of who (deletions after bs) ≡ of_gone after (view_of bs who)
+  told_gone : (after bs : List TaskView) → AreDistinct bs → changes_naming who (deletions after bs) ≡ of_gone after (view_of bs who)
   told_gone after [] all = refl
   told_gone after (b ∷ bs) all =
       let one = deletion b.id (found after b.id) in
       let are = of_deletion b.id (found after b.id) in
       let rest = told_gone after bs all.1 in
       told_append who one (deletions after bs)
-      ∙ elim (eqb b.id who) as (λ x. eqb b.id who ≡ x → told_of who one ++ told_of who (deletions after bs) ≡ of_gone after (cond x (Some b) (view_of bs who))) [
+      ∙ elim (eqb b.id who) as (λ x. eqb b.id who ≡ x → changes_naming who one ++ changes_naming who (deletions after bs) ≡ of_gone after (cond x (Some b) (view_of bs who))) [
         | true ↦ λ e. (
             let same : b.id ≡ who = eqb-true b.id who e in
             let none : view_of bs who ≡ None = subst (λ n. view_of bs n ≡ None) same all.0 in
@@ -255,10 +268,10 @@ abbrev AreOfNone : List Change → Type 0
 AreOfNone [] = Unit {0}
 AreOfNone (c ∷ cs) = (task_of c ≡ None) × AreOfNone cs
 
-untold : (who : ℕ) (cs : List Change) → AreOfNone cs → told_of who cs ≡ []
+untold : (who : ℕ) (cs : List Change) → AreOfNone cs → changes_naming who cs ≡ []
 untold who [] none = refl
 untold who (c ∷ cs) none =
-    ap (λ o. cond (is_runner o who) (c ∷ told_of who cs) (told_of who cs)) none.0 ∙ untold who cs none.1
+    ap (λ o. cond (is_runner o who) (c ∷ changes_naming who cs) (changes_naming who cs)) none.0 ∙ untold who cs none.1
 
 none_both : (xs ys : List Change) → AreOfNone xs → AreOfNone ys → AreOfNone (xs ++ ys)
 none_both [] ys a b = b
@@ -291,7 +304,7 @@ none_gone tick after [] = tt
 none_gone tick after (w ∷ ws) =
     none_both (gone_change tick w (found_watchdog after w.id)) (gone_changes tick after ws) (none_gone_one tick w (found_watchdog after w.id)) (none_gone tick after ws)
 
-pub watchdogs_untold : (who tick : ℕ) (before after : List WatchdogView) → told_of who (watchdog_changes tick before after) ≡ []
+pub watchdogs_untold : (who tick : ℕ) (before after : List WatchdogView) → changes_naming who (watchdog_changes tick before after) ≡ []
 watchdogs_untold who tick before after =
     untold who (watchdog_changes tick before after)
     (none_both (live_watchdogs tick before after) (gone_changes tick after before) (none_live tick before after) (none_gone tick after before))
@@ -306,6 +319,6 @@ none_unloads after [] = tt
 none_unloads after (id ∷ ids) =
     none_both (cond (is_in after id) [] (changes.Unloaded id ∷ [])) (unloads after ids) (none_cond (is_in after id) (changes.Unloaded id ∷ []) (refl, tt)) (none_unloads after ids)
 
-pub modules_untold : (who : ℕ) (before after : List ℕ) → told_of who (module_changes before after) ≡ []
+pub modules_untold : (who : ℕ) (before after : List ℕ) → changes_naming who (module_changes before after) ≡ []
 modules_untold who before after =
     untold who (module_changes before after) (none_both (loads before after) (unloads after before) (none_loads before after) (none_unloads after before))

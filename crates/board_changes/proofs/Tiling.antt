@@ -116,7 +116,7 @@ module _ (who t : ℕ) where
             ∙ sym (elim (cases_lt t o.from) [ inl low ↦ early o e low | inr high ↦ past o e (omega arith) ]))
       ]
 
-  -- what is said of the span of the task that goes on, if there is one
+  -- the looks that the span of the task gives, if one goes on
   abbrev by : (Open → List Span) → Option Open → List Look
   by f None = []
   by f (Some o) = said_at who t (f o)
@@ -191,7 +191,7 @@ module _ (n : ℕ) (s : SpanState) (holds : Holds n s) (time : ℕ) (up : n ≤ 
         (λ o. ends_none who t views runner time (view_of views o.who) o (said_ended who t o time ∙ past who t o time late)));
   }
 
-  -- what is said at the end of a run, in parts
+  -- the looks that spans give at the end of a run, in parts
   module _ (end who t : ℕ) (within : t < end) where
     said_parts : said_at who t ((s.done ++ all_ends views runner time s.going) ++ all_ended end (map later views))
         ≡ said_at who t (s.done ++ all_ends views runner time s.going) ++ by who t (λ o. ended o end) (option_map later (view_of views who))
@@ -200,7 +200,7 @@ module _ (n : ℕ) (s : SpanState) (holds : Holds n s) (time : ℕ) (up : n ≤ 
         ∙ ap (λ ls. said_at who t (s.done ++ all_ends views runner time s.going) ++ ls)
         (each_ended who t end (map later views) still_holds.distinct ∙ ap (by who t (λ o. ended o end)) (found_after s.going time runner views who))
 
-    -- at a time from the observation on, the span of the view is said
+    -- at a time from the observation on, the span of the view gives its look
     now_view : (view : Option TaskView) → ((v : TaskView) → view ≡ Some v → v.id ≡ who) → time ≤ t
         → SaysOnce (option_map (look_of runner) view) (by who t (λ o. ended o end) (option_map later view))
     now_view None same late = refl
@@ -219,7 +219,7 @@ module _ (n : ℕ) (s : SpanState) (holds : Holds n s) (time : ℕ) (up : n ≤ 
         subst (SaysOnce seen) (sym (said_parts ∙ ap (λ ls. ls ++ said) none))
         (now_view (view_of views who) (λ v e. found_id task_id views who v e) late)
 
-    -- at a time before it, the same is said as if the run ended at the observation
+    -- at a time before it, spans give the same looks as if the run ended at the observation
     same_before : (found : Option Open) (view : Option TaskView) → ((v : TaskView) → view ≡ Some v → going_of s.going v.id ≡ found) → t < time
         → by who t (λ o. ends view runner time o) found ++ by who t (λ o. ended o end) (option_map later view) ≡ by who t (λ o. ended o time) found
     same_before None None same before = refl

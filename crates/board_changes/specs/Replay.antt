@@ -1,4 +1,4 @@
--- What happens to a task follows from what is told.
+-- The lines of a step give a task's life after it.
 use Rattle.std.specs.Prelude.{◌≡◌, ℕ, Bool, true, false, if◌then◌else◌, List, [], ◌∷◌, Option, None, Some}
 use Rattle.std.specs.Option.{option_map}
 use Rattle.board_changes.specs.declared.awaited.Awaited.{Awaited}
@@ -25,7 +25,7 @@ life_of t = record { wait = t.wait; wake = t.wake; suspended = t.suspended; pri 
 abbrev pub new_life : ℕ → Life
 new_life pri = record { wait = None; wake = None; suspended = false; pri = pri; normal = pri }
 
--- the task that a change is told of
+-- the task that a change names
 abbrev pub task_of : Change → Option ℕ
 task_of (changes.Spawned who pri) = Some who
 task_of (changes.Deleted who) = Some who
@@ -39,16 +39,17 @@ task_of (changes.Suspended who) = Some who
 task_of (changes.Resumed who) = Some who
 task_of (changes.Priority who from to inherited) = Some who
 task_of (changes.Normal who to) = Some who
+task_of (changes.Yields who) = Some who
 task_of (changes.Started watchdog due) = None
 task_of (changes.Fired watchdog) = None
 task_of (changes.Cancelled watchdog) = None
 task_of (changes.Loaded id) = None
 task_of (changes.Unloaded id) = None
 
--- the changes that are told of this task
-abbrev pub told_of : ℕ → List Change → List Change
-told_of who [] = []
-told_of who (c ∷ cs) = if is_runner (task_of c) who then c ∷ told_of who cs else told_of who cs
+-- the changes that name this task
+abbrev pub changes_naming : ℕ → List Change → List Change
+changes_naming who [] = []
+changes_naming who (c ∷ cs) = if is_runner (task_of c) who then c ∷ changes_naming who cs else changes_naming who cs
 
 -- a life after a change
 abbrev pub changed : Change → Life → Life
@@ -75,8 +76,8 @@ abbrev pub replayed : List Change → Option Life → Option Life
 replayed [] life = life
 replayed (c ∷ cs) life = replayed cs (lives_on c life)
 
--- a task's life after a step follows from that before it and what is told of the task, so nothing happens to a task
--- untold
+-- a task's life before a step and the changes that name the task give its life after the step, so nothing happens to a
+-- task without a line
 abbrev pub ReplayLaw : Type 0
 ReplayLaw = (results : Bool) (before after : List TaskView) (who : ℕ) → AreDistinct before → AreDistinct after
-    → replayed (told_of who (task_changes results before after)) (option_map life_of (view_of before who)) ≡ option_map life_of (view_of after who)
+    → replayed (changes_naming who (task_changes results before after)) (option_map life_of (view_of before who)) ≡ option_map life_of (view_of after who)

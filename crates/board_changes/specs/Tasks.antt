@@ -1,5 +1,5 @@
 -- What a step changes of tasks, from the views before and after it.
-use Rattle.std.specs.Prelude.{ℕ, Bool, true, false, ◌==◌, ◌&&◌, ◌||◌, not, nat_lt, if◌then◌else◌, List, [], ◌∷◌, ◌++◌, Option, None, Some}
+use Rattle.std.specs.Prelude.{ℕ, Bool, true, false, ◌==◌, ◌&&◌, ◌||◌, not, nat_lt, if◌then◌else◌, List, [], ◌∷◌, ◌++◌, Option, None, Some, is_none}
 use Rattle.wind_base.specs.Limits.{error_word}
 use Rattle.id_table.specs.Records.{of_id}
 use Rattle.board_changes.specs.Looks.{same_flag}
@@ -109,12 +109,22 @@ abbrev pub normal_changes : TaskView → TaskView → List Change
 normal_changes b t =
     if b.normal == t.normal || (not (b.pri == t.pri) && t.pri == t.normal) then [] else changes.Normal t.id t.normal ∷ []
 
--- ---- tasks of which no change is told
--- one task has the same priorities, suspension, wait and wake
+-- a task waits for nothing, doesn't sleep and isn't suspended
+abbrev pub is_ready : TaskView → Bool
+is_ready t = is_none t.wait && (is_none t.wake && not t.suspended)
+
+-- a ready task goes after the others of its priority: it has a new order number and the same priority, and is ready before
+-- and after
+abbrev pub yield_changes : TaskView → TaskView → List Change
+yield_changes b t =
+    if b.since == t.since || not (b.pri == t.pri && (is_ready b && is_ready t)) then [] else changes.Yields t.id ∷ []
+
+-- ---- tasks whose changes need no line
+-- one task has the same priorities, order number, suspension, wait and wake
 abbrev pub is_quiet : TaskView → TaskView → Bool
 is_quiet b t =
     b.id == t.id && (b.pri == t.pri && (b.normal == t.normal && (same_flag b.suspended t.suspended
-    && (same_wait b.wait t.wait && same_tick b.wake t.wake))))
+    && (same_wait b.wait t.wait && (same_tick b.wake t.wake && b.since == t.since)))))
 
 -- the tasks are the same, by ids that rise above a number, and quiet
 abbrev pub all_quiet : ℕ → List TaskView → List TaskView → Bool
@@ -127,7 +137,8 @@ all_quiet low (b ∷ bs) (t ∷ ts) = nat_lt low b.id && (is_quiet b t && all_qu
 -- a task that lives before and after the step
 abbrev pub kept_changes : Bool → TaskView → TaskView → List Change
 kept_changes results b t =
-    wait_changes results b t ++ (suspension_changes t.id b.suspended t.suspended ++ (priority_changes b t ++ normal_changes b t))
+    wait_changes results b t
+    ++ (suspension_changes t.id b.suspended t.suspended ++ (priority_changes b t ++ (normal_changes b t ++ yield_changes b t)))
 
 -- a new task is ready, and its priority is its normal one
 abbrev pub newborn : TaskView → TaskView

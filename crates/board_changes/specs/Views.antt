@@ -13,6 +13,7 @@ view_of_task wait t = record {
   name = t.name;
   pri = t.pri;
   normal = t.normal;
+  since = t.since;
   wait = wait;
   wake = t.wake;
   suspended = t.suspended;

@@ -68,6 +68,10 @@ pub enum Change {
         who: Ident,
         to: Pri,
     },
+    /// A ready task goes after the others of its priority: its time slice ends, or it gives way.
+    Yields {
+        who: Ident,
+    },
     /// A watchdog is started, and is due at this tick.
     Started {
         watchdog: Ident,

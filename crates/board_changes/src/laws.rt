@@ -12,7 +12,7 @@ pub fn spans_law()
 {}
 
 /// The law of replay: whether a task lives, its wait, wake and suspension, its priority and its
-/// normal priority after a step follow from those before it and the changes that are told of it.
+/// normal priority after a step follow from those before it and the changes that name it.
 pub fn replay_law()
     ensures { ReplayLaw }
 {}

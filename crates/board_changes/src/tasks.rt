@@ -2,7 +2,7 @@
 
 ghost use Rattle.std.specs.Prelude.{◌≡◌, ◌++◌, OnOk, true, None, option_copied};
 ghost use Rattle.board_changes.specs.Listed.{listed};
-ghost use Rattle.board_changes.specs.Tasks.{all_quiet, is_quiet as is_quiet_lem, newborn as newborn_lem, normal_changes, suspension_changes, priority_changes, kept_changes, changes_of, live_changes, deletion, deletions, task_changes};
+ghost use Rattle.board_changes.specs.Tasks.{all_quiet, is_quiet as is_quiet_lem, is_ready as is_ready_lem, newborn as newborn_lem, normal_changes, suspension_changes, priority_changes, yield_changes, kept_changes, changes_of, live_changes, deletion, deletions, task_changes};
 
 use crate::change::Change;
 use crate::list::{add, add_if};
@@ -51,7 +51,26 @@ fn normal_change(before: &TaskView, after: &TaskView) -> Option<Change>
     })
 }
 
-// Whether these are views of one task of which no change is told.
+// Whether a task waits for nothing, doesn't sleep and isn't suspended.
+fn is_ready(view: &TaskView) -> bool
+    ensures { result ≡ is_ready_lem view.now }
+{
+    view.wait.is_none() && view.wake.is_none() && !view.suspended
+}
+
+// That a ready task goes after the others of its priority, if it does.
+fn yield_change(before: &TaskView, after: &TaskView) -> Option<Change>
+    ensures { listed result ≡ yield_changes before.now after.now }
+{
+    if before.since == after.since
+        || !(before.pri == after.pri && is_ready(before) && is_ready(after))
+    {
+        return None;
+    }
+    Some(Change::Yields { who: after.id })
+}
+
+// Whether these are views of one task whose changes need no line.
 fn is_quiet(before: &TaskView, after: &TaskView) -> bool
     ensures { result ≡ is_quiet_lem before.now after.now }
 {
@@ -61,9 +80,10 @@ fn is_quiet(before: &TaskView, after: &TaskView) -> bool
         && before.suspended == after.suspended
         && same_wait(&before.wait, &after.wait)
         && same_tick(before.wake, after.wake)
+        && before.since == after.since
 }
 
-// Whether no change of a task is told: the tasks are the same, by rising id, and quiet.
+// Whether no change of a task needs a line: the tasks are the same, by rising id, and quiet.
 fn are_quiet(before: &[TaskView], after: &[TaskView]) -> bool
     ensures { result ≡ true → all_quiet 0 before.now after.now ≡ true }
 {
@@ -94,7 +114,8 @@ fn add_kept_changes(
     let suspension = suspension_change(after.id, before.suspended, after.suspended);
     add_if(list, suspension)?;
     add_if(list, priority_change(before, after))?;
-    add_if(list, normal_change(before, after))
+    add_if(list, normal_change(before, after))?;
+    add_if(list, yield_change(before, after))
 }
 
 // The view of a new task: it is ready, and its priority is its normal one.
@@ -106,6 +127,7 @@ fn newborn(view: &TaskView) -> TaskView
         name: view.name.copied(),
         pri: view.pri,
         normal: view.pri,
+        since: view.since,
         wait: None,
         wake: None,
         suspended: false,

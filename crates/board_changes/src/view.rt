@@ -21,6 +21,9 @@ pub struct TaskView {
     pub pri: Pri,
     /// Its normal priority, without inheritance.
     pub normal: Pri,
+    /// Its order number: of two ready tasks with the same priority, the one with the lower number is
+    /// before.
+    pub since: u64,
     /// What it waits for, if it waits.
     pub wait: Option<Awaited>,
     /// The tick at which its delay or the timeout of its wait ends, if there is one.
@@ -76,6 +79,7 @@ pub fn task_view(task: &Task, wait: Option<Awaited>) -> TaskView
         name: task.name.copied(),
         pri: task.pri,
         normal: task.normal,
+        since: task.since,
         wait,
         wake: task.wake,
         suspended: task.suspended,

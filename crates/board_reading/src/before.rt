@@ -4,7 +4,7 @@ ghost use Rattle.std.specs.Prelude.{◌≡◌, ◌<◌, ◌==◌, IfOk, OnErr, t
 ghost use Rattle.std.specs.List.{list_any};
 ghost use Rattle.wind_base.specs.Limits.{most_steps};
 ghost use Rattle.kernel_world.specs.Seen.{world_seen};
-ghost use Rattle.board_trace.specs.WindMachineMachine.{actor_of, may_exhaust_memory};
+ghost use Rattle.board_trace.specs.WindMachineMachine.{actor_of as actor_of_lem, may_exhaust_memory};
 ghost use Rattle.board_player.specs.Seen.{seen};
 ghost use Rattle.board_trace.specs.Before.{before_step, call_there, counter_at, gate_there, has_interrupt_key as has_interrupt_key_lem, is_on_processor as is_on_processor_lem, owner_named as owner_named_lem};
 
@@ -18,8 +18,8 @@ use wind_base::{Gate, NoMemory};
 use wind_outside::Device;
 
 /// Who makes a step, if a task or a routine does.
-pub fn runner_of(next: &Next) -> Option<Actor>
-    ensures { result ≡ actor_of next.now }
+pub fn actor_of(next: &Next) -> Option<Actor>
+    ensures { result ≡ actor_of_lem next.now }
 {
     match next {
         Next::Routine => Some(Actor::Interrupt),
@@ -39,9 +39,9 @@ fn is_on_processor(phase: Phase, who: &Actor) -> bool
 
 // The program counter of who makes a step.
 fn counter_of(world: &World, phase: Phase, next: &Next) -> Option<u32>
-    ensures { result ≡ counter_at phase (world_seen ⟦<dyn Device as Device>⟧ world.now) (actor_of next.now) }
+    ensures { result ≡ counter_at phase (world_seen ⟦<dyn Device as Device>⟧ world.now) (actor_of_lem next.now) }
 {
-    let who = runner_of(next)?;
+    let who = actor_of(next)?;
     if !is_on_processor(phase, &who) {
         return None;
     }
@@ -50,9 +50,9 @@ fn counter_of(world: &World, phase: Phase, next: &Next) -> Option<u32>
 
 // The call that who makes a step makes at a gate.
 fn call_at(world: &World, next: &Next, gate: Option<Gate>) -> Option<Call>
-    ensures { result ≡ call_there (world_seen ⟦<dyn Device as Device>⟧ world.now) (actor_of next.now) gate }
+    ensures { result ≡ call_there (world_seen ⟦<dyn Device as Device>⟧ world.now) (actor_of_lem next.now) gate }
 {
-    read_call(world, gate?, &runner_of(next)?)
+    read_call(world, gate?, &actor_of(next)?)
 }
 
 /// The owner of the mutex that a call names.
@@ -108,7 +108,7 @@ pub fn look_before(board: &Board) -> Result<BeforeStep, NoMemory>
 {
     let next = board.what_comes()?;
     let world = board.world();
-    let actor = runner_of(&next);
+    let actor = actor_of(&next);
     let at = counter_of(world, board.phase(), &next);
     let gate = gate_there_at(world, at);
     let call = call_at(world, &next, gate);

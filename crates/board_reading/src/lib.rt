@@ -8,8 +8,8 @@ mod snapshot;
 mod waited;
 
 pub use after::look_after;
-pub use before::{look_before, runner_of};
+pub use before::{actor_of, look_before};
 pub use board_player::{Board, Phase};
-pub use running::{last_actor, runner};
+pub use running::{last_actor, running_task};
 pub use snapshot::{empty_snapshot, take_snapshot};
 pub use waited::awaited_by;

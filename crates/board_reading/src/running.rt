@@ -3,7 +3,7 @@
 ghost use Rattle.std.specs.Prelude.{◌≡◌};
 ghost use Rattle.std.specs.Option.{option_map};
 ghost use Rattle.kernel_world.specs.Seen.{world_seen};
-ghost use Rattle.board_trace.specs.Running.{running_task};
+ghost use Rattle.board_trace.specs.Running.{running_task as running_task_lem};
 ghost use Rattle.board_trace.specs.WindMachineSilent.{last_actor as last_actor_lem};
 
 use id_table::Ident;
@@ -31,8 +31,8 @@ pub fn last_actor(world: &World) -> Option<Actor>
 }
 
 /// The task that runs; none while an interrupt routine is active.
-pub fn runner(world: &World) -> Option<Ident>
-    ensures { result ≡ running_task (world_seen ⟦<dyn Device as Device>⟧ world.now) }
+pub fn running_task(world: &World) -> Option<Ident>
+    ensures { result ≡ running_task_lem (world_seen ⟦<dyn Device as Device>⟧ world.now) }
 {
     if world.watch.active() {
         return None;

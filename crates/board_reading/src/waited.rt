@@ -1,6 +1,7 @@
 //! What a task waits for, from the place at which it waits.
 
-ghost use Rattle.std.specs.Prelude.{◌≡◌};
+ghost use Rattle.std.specs.Prelude.{◌≡◌, true};
+ghost use Rattle.std.specs.Option.{option_map};
 ghost use Rattle.board_trace.specs.Waited.{awaited_at as awaited_at_lem, awaited_by as awaited_by_lem, awaited_object as awaited_object_lem};
 
 use board_changes::Awaited;
@@ -37,6 +38,18 @@ fn awaited_at(objects: &Objects, place: Place) -> Awaited
         return Awaited::Console;
     }
     Awaited::Sending(place.id)
+}
+
+/// Whether a task that waits at this place, or doesn't wait, waits for this.
+#[inline(always)]
+pub(crate) fn is_awaited(objects: &Objects, awaited: Option<Awaited>, place: Option<Place>) -> bool
+    ensures { result ≡ true → awaited ≡ option_map (awaited_at_lem objects.now) place }
+{
+    match (awaited, place) {
+        (None, None) => true,
+        (Some(awaited), Some(place)) => awaited == awaited_at(objects, place),
+        (None, Some(_)) | (Some(_), None) => false,
+    }
 }
 
 /// What a task waits for, if it waits.

@@ -3,3 +3,6 @@ pub mod Naming
 pub mod Replying
 mod Replaying
 mod Observing
+mod Parts
+mod Owning
+mod Timing

@@ -42,7 +42,7 @@ good_distinct s good = distinct s.world.objects s.world.kern.tasks good.kept.wor
 
 -- ---- a run
 module _ (grows : TimeGrows) (said : Answers) (s : State) where
-  time_up : (k : ℕ) → (after said s k).time ≤ (after said s (suc k)).time
+  pub time_up : (k : ℕ) → (after said s k).time ≤ (after said s (suc k)).time
   time_up k =
       let u = after said s k in
       elim (machine_step (said k) u) as (λ o. machine_step (said k) u ≡ o → u.time ≤ (unwrap_or o u).time) [

@@ -5,7 +5,6 @@ use Rattle.std.proofs.lemmas.Bool.{eqb-true}
 use Rattle.std.proofs.lemmas.List.{append-nil}
 use Rattle.wind_base.specs.declared.gate.Gate.{Gate}
 use Rattle.wind_base.specs.declared.gate.Gate.TheVariants as gates
-use Rattle.tick_file.specs.declared.event.Event.TheVariants.{Tick, Rx, Irq}
 use Rattle.id_table.specs.Idents.{shell_id}
 use Rattle.kernel_world.specs.State.{WorldState}
 use Rattle.kernel_world.specs.Allowed.{is_call}
@@ -14,9 +13,7 @@ use Rattle.kernel_world.specs.CallWords.{call_of}
 use Rattle.kernel_world.specs.declared.actor.Actor.{Actor}
 use Rattle.kernel_world.specs.declared.actor.Actor.TheVariants.{Task as by_task, Interrupt}
 use Rattle.kernel_world.specs.declared.call.Call.{Call}
-use Rattle.kernel_world.specs.declared.call.Call.TheVariants as calls
 use Rattle.kernel_world.specs.declared.reply.Reply.{Reply}
-use Rattle.kernel_world.specs.declared.reply.Reply.TheVariants.{Answer, Refusal, Later, Gone}
 use Rattle.wind_machine.specs.LiveLoadingSaid.{FileSaid}
 use Rattle.wind_machine.specs.KernelCallsCalls.{made}
 use Rattle.wind_machine.specs.State.{State}
@@ -31,24 +28,23 @@ use Rattle.wind_machine.specs.declared.next.Next.TheVariants.{Deliver, Come, Arr
 use Rattle.wind_machine.specs.declared.phase.Phase.{Phase}
 use Rattle.wind_machine.specs.declared.phase.Phase.TheVariants as phases
 use Rattle.wind_machine.proofs.Asking.{own_gate, shells, at_load}
-use Rattle.board_changes.specs.declared.change.Change.{Change}
-use Rattle.board_trace.specs.Before.{before_step, is_calling, counter_at, gate_there, call_there, mutex_named}
+use Rattle.board_trace.proofs.Parts.{Each, HoldsElse, each_change, each_fault, each_instruction, each_message, each_outside, each_owner, each_routine, each_switch, each_write}
+use Rattle.wind_owners.specs.Owners.{mutex_named}
+use Rattle.board_trace.specs.Before.{before_step, is_calling, counter_at, gate_there, call_there}
 use Rattle.board_trace.specs.Laws.{reply_in, replies_in, listed, ReplyLaw}
-use Rattle.board_trace.specs.Level.{is_exception, exception_told, is_abort, faults, routine_ends, may_begin, begins, routines}
-use Rattle.board_trace.specs.Messages.{served_in, sent_to, then_queued, messages_of, messages_by, messages}
-use Rattle.board_trace.specs.Outside.{from_outside, is_last, switches}
-use Rattle.board_trace.specs.Owners.{freed, owned, same_owner, owners_at, owners}
+use Rattle.board_trace.specs.Level.{is_exception, faults, routines}
+use Rattle.board_trace.specs.Messages.{messages}
+use Rattle.board_trace.specs.Outside.{from_outside, switches}
+use Rattle.board_trace.specs.Owners.{owners}
 use Rattle.board_trace.specs.Snapshots.{after_step, snapshot_of}
 use Rattle.board_trace.specs.Steps.{changes, called, has_written, writes, is_instruction, instruction_of, causes, effects, step_happenings, happenings_from, happenings}
 use Rattle.board_trace.specs.Views.{SnapshotState}
-use Rattle.board_trace.specs.declared.messages.QueueSide.TheVariants.{Receivers, Senders}
 use Rattle.board_trace.specs.declared.moment.BeforeStep.{BeforeStep}
-use Rattle.board_trace.specs.declared.moment.Level.{Level}
 use Rattle.board_trace.specs.declared.moment.AfterStep.{AfterStep}
 use Rattle.board_trace.specs.declared.happening.Happening.{Happening}
 use Rattle.board_trace.specs.declared.happening.Happening.TheVariants as told
 
--- ---- what tells no call
+-- ---- what has no line of a call
 abbrev Quiet : List Happening → Type 0
 Quiet hs = replies_in hs ≡ []
 
@@ -56,98 +52,36 @@ joined : (xs ys : List Happening) → replies_in (xs ++ ys) ≡ replies_in xs ++
 joined [] ys = refl
 joined (x ∷ xs) ys = ap (λ rs. reply_in x ++ rs) (joined xs ys) ∙ sym (append_assoc (reply_in x) (replies_in xs) (replies_in ys))
 
--- a part that tells none may be left out
+-- a part without one may be left out
 after_quiet : (xs ys : List Happening) (rs : List Reply) → Quiet xs → replies_in ys ≡ rs → replies_in (xs ++ ys) ≡ rs
 after_quiet xs ys rs quiet tells = joined xs ys ∙ ap (λ q. q ++ replies_in ys) quiet ∙ tells
 
-if_quiet : (b : Bool) (h : Happening) → reply_in h ≡ [] → Quiet (cond b (h ∷ []) [])
-if_quiet true h none = ap (λ rs. rs ++ []) none
-if_quiet false h none = refl
+abbrev IsNoCall : Happening → Type 0
+IsNoCall h = reply_in h ≡ []
 
-outside_quiet : (n : Next) (c : BeforeStep) (r : AfterStep) → Quiet (from_outside n c r)
-outside_quiet (Deliver slot) c r = refl
-outside_quiet (Come Tick) c r = refl
-outside_quiet (Come (Rx n)) c r = refl
-outside_quiet (Come (Irq slot)) c r = refl
-outside_quiet Arrive c r = refl
-outside_quiet (Load name) c r = refl
-outside_quiet (Jump time) c r = refl
-outside_quiet Routine c r = refl
-outside_quiet (Act who) c r = refl
-outside_quiet Over c r = refl
+no_calls : HoldsElse IsNoCall
+no_calls = record {
+  tick = λ tick. refl;
+  arrival = λ count. refl;
+  interrupt = λ slot. refl;
+  delivery = λ slot. refl;
+  jump = λ time. refl;
+  file = λ name. refl;
+  runs = λ who last. refl;
+  exception = λ who at. refl;
+  abort = refl;
+  queued = λ queue sender. refl;
+  handed = λ queue sender receiver. refl;
+  taken = λ queue receiver. refl;
+  ends = refl;
+  begins = λ entry param. refl;
+  writes = λ who bytes. refl;
+  instructions = λ who count. refl;
+}
 
-switch_quiet : (last now : Option ℕ) → Quiet (switches last now)
-switch_quiet last None = refl
-switch_quiet last (Some who) = elim (is_last last who) as (λ b. Quiet (cond b [] (told.Runs who last ∷ []))) [ true ↦ refl | false ↦ refl ]
-
-exception_quiet : (who : Option Actor) (at : Option ℕ) (b : Bool) → Quiet (cond b (exception_told who at) [])
-exception_quiet (Some who) (Some at) true = refl
-exception_quiet (Some who) None true = refl
-exception_quiet None at true = refl
-exception_quiet who at false = refl
-
-faults_quiet : (c : BeforeStep) (r : AfterStep) (e : Bool) → Quiet (faults c r e)
-faults_quiet c r e = after_quiet (cond e (exception_told c.actor c.at) []) (cond (is_abort c r e) (told.Abort ∷ []) []) [] (exception_quiet c.actor c.at e) (if_quiet (is_abort c r e) told.Abort refl)
-
-freed_quiet : (mutex : ℕ) (o : Option ℕ) → Quiet (freed mutex o)
-freed_quiet mutex None = refl
-freed_quiet mutex (Some owner) = refl
-
-owned_quiet : (mutex : ℕ) (o : Option ℕ) → Quiet (owned mutex o)
-owned_quiet mutex None = refl
-owned_quiet mutex (Some owner) = refl
-
-owners_quiet : (mutex before after : Option ℕ) → Quiet (owners_at mutex before after)
-owners_quiet None before after = refl
-owners_quiet (Some mutex) before after =
-    elim (same_owner before after) as (λ b. Quiet (cond b [] (freed mutex before ++ owned mutex after))) [
-      | true ↦ refl
-      | false ↦ after_quiet (freed mutex before) (owned mutex after) [] (freed_quiet mutex before) (owned_quiet mutex after)
-    ]
-
-sent_quiet : (sender : Actor) (queue : ℕ) (o : Option ℕ) → Quiet (sent_to sender queue o)
-sent_quiet sender queue None = refl
-sent_quiet sender queue (Some receiver) = refl
-
-queued_quiet : (queue : ℕ) (o : Option ℕ) → Quiet (then_queued queue o)
-queued_quiet queue None = refl
-queued_quiet queue (Some sender) = refl
-
-accepted_quiet : (who : Actor) (c : Call) (cs : List Change) → Quiet (messages_of who c cs)
-accepted_quiet who (calls.MsgQSend id buffer count timeout priority) cs = sent_quiet who id (served_in cs Receivers id)
-accepted_quiet who (calls.MsgQReceive id buffer count timeout) cs = queued_quiet id (served_in cs Senders id)
-accepted_quiet who c cs = refl
-
-messages_quiet : (who : Option Actor) (c : Option Call) (r : Option Reply) (cs : List Change) → Quiet (messages_by who c r cs)
-messages_quiet (Some who) (Some c) (Some (Answer value)) cs = accepted_quiet who c cs
-messages_quiet (Some who) (Some c) (Some (Refusal e)) cs = refl
-messages_quiet (Some who) (Some c) (Some Later) cs = refl
-messages_quiet (Some who) (Some c) (Some Gone) cs = refl
-messages_quiet (Some who) (Some c) None cs = refl
-messages_quiet (Some who) None r cs = refl
-messages_quiet None c r cs = refl
-
-changes_quiet : (cs : List Change) → Quiet (map told.Changed cs)
-changes_quiet [] = refl
-changes_quiet (c ∷ cs) = changes_quiet cs
-
-begins_quiet : (b : Bool) (level : Option Level) → Quiet (begins b level)
-begins_quiet false level = refl
-begins_quiet true None = refl
-begins_quiet true (Some l) = refl
-
-routines_quiet : (c : BeforeStep) (r : AfterStep) (wrote : Bool) → Quiet (routines c r wrote)
-routines_quiet c r wrote =
-    after_quiet (cond (routine_ends c wrote) (told.RoutineEnds ∷ []) []) (begins (may_begin c.next (routine_ends c wrote)) r.level) []
-    (if_quiet (routine_ends c wrote) told.RoutineEnds refl) (begins_quiet (may_begin c.next (routine_ends c wrote)) r.level)
-
-writes_quiet : (who : Option Actor) (bytes : List ℕ) → Quiet (writes who bytes)
-writes_quiet who [] = refl
-writes_quiet who (b ∷ bs) = refl
-
-instruction_quiet : (who : Option Actor) → Quiet (instruction_of who)
-instruction_quiet None = refl
-instruction_quiet (Some who) = refl
+quiet_by : (hs : List Happening) → Each IsNoCall hs → Quiet hs
+quiet_by [] each = refl
+quiet_by (h ∷ hs) each = ap (λ rs. rs ++ replies_in hs) each.0 ∙ quiet_by hs each.1
 
 -- ---- what tells a call
 called_told : (who : Option Actor) (c : Option Call) (r : Option Reply) → IsSome who → IsSome c → replies_in (called who c r) ≡ listed r
@@ -165,26 +99,28 @@ module _ (c : BeforeStep) (before after : SnapshotState) (r : AfterStep) (writte
   effects_quiet : Quiet (effects c before after r written)
   effects_quiet =
       let cs = changes c.next r.tick before after in
-      after_quiet (owners c r) _ [] (owners_quiet (mutex_named c.call) c.owner r.owner)
-      (after_quiet (messages c r.reply cs) _ [] (messages_quiet c.actor c.call r.reply cs)
-      (after_quiet (map told.Changed cs) _ [] (changes_quiet cs)
-      (after_quiet (routines c r (has_written written)) (writes c.actor written) [] (routines_quiet c r (has_written written)) (writes_quiet c.actor written))))
+      after_quiet (owners c r) _ [] (quiet_by (owners c r) (each_owner IsNoCall (λ mutex owner. refl) (λ mutex owner. refl) (mutex_named c.call) c.owner r.owner))
+      (after_quiet (messages c r.reply cs) _ [] (quiet_by (messages c r.reply cs) (each_message IsNoCall no_calls c r.reply cs))
+      (after_quiet (map told.Changed cs) _ [] (quiet_by (map told.Changed cs) (each_change IsNoCall (λ x. refl) cs))
+      (after_quiet (routines c r (has_written written)) (writes c.actor written) []
+      (quiet_by (routines c r (has_written written)) (each_routine IsNoCall no_calls c r (has_written written)))
+      (quiet_by (writes c.actor written) (each_write IsNoCall no_calls c.actor written)))))
 
   step_tells : (rs : List Reply) → replies_in (called c.actor c.call r.reply) ≡ rs → replies_in (step_happenings c before after r written) ≡ rs
   step_tells rs tells =
       let ends = faults c r (is_exception c (has_written written)) in
       let call = called c.actor c.call r.reply in
-      let rest : replies_in (call ++ ends) ≡ rs = joined call ends ∙ ap₂ (λ p q. p ++ q) tells (faults_quiet c r (is_exception c (has_written written))) ∙ append-nil rs in
+      let rest : replies_in (call ++ ends) ≡ rs = joined call ends ∙ ap₂ (λ p q. p ++ q) tells (quiet_by ends (each_fault IsNoCall no_calls c r (is_exception c (has_written written)))) ∙ append-nil rs in
       let all : replies_in (causes c before after r written) ≡ rs =
-      after_quiet (from_outside c.next c r) _ rs (outside_quiet c.next c r)
-      (after_quiet (switches before.last after.last) (call ++ ends) rs (switch_quiet before.last after.last) rest) in
+      after_quiet (from_outside c.next c r) _ rs (quiet_by (from_outside c.next c r) (each_outside IsNoCall no_calls c.next c r))
+      (after_quiet (switches before.last after.last) (call ++ ends) rs (quiet_by (switches before.last after.last) (each_switch IsNoCall no_calls before.last after.last)) rest) in
       joined (causes c before after r written) (effects c before after r written) ∙ ap₂ (λ p q. p ++ q) all effects_quiet ∙ append-nil rs
 
   -- a step without a call tells none
   tells_none : r.reply ≡ None → Quiet (happenings_from c before after r written)
   tells_none none =
       elim (is_instruction c written) as (λ b. Quiet (cond b (switches before.last after.last ++ instruction_of c.actor) (step_happenings c before after r written))) [
-        | true ↦ after_quiet (switches before.last after.last) (instruction_of c.actor) [] (switch_quiet before.last after.last) (instruction_quiet c.actor)
+        | true ↦ after_quiet (switches before.last after.last) (instruction_of c.actor) [] (quiet_by (switches before.last after.last) (each_switch IsNoCall no_calls before.last after.last)) (quiet_by (instruction_of c.actor) (each_instruction IsNoCall no_calls c.actor))
         | false ↦ step_tells [] (ap (λ o. replies_in (called c.actor c.call o)) none ∙ none_told c.actor c.call)
       ]
 

@@ -4,20 +4,18 @@ use Rattle.std.specs.List.{list_any}
 use Rattle.wind_base.specs.Boards.{board_rules}
 use Rattle.wind_base.specs.Gates.{gate_at}
 use Rattle.wind_base.specs.declared.gate.Gate.{Gate}
-use Rattle.id_table.specs.Rows.{object_of}
 use Rattle.con_line.specs.State.{opening_console}
 use Rattle.con_line.specs.Keys.{byte_done}
 use Rattle.con_line.specs.declared.console.ByteDone.{ByteDone}
 use Rattle.con_line.specs.declared.console.ByteDone.TheVariants as done
 use Rattle.tick_file.specs.declared.event.Event.TheVariants.{Rx}
-use Rattle.inheritance.specs.Mutexes.{owner_in as owner_of}
 use Rattle.kernel_world.specs.State.{WorldState}
 use Rattle.kernel_world.specs.Actors.{is_shell}
 use Rattle.kernel_world.specs.CallWords.{call_by}
 use Rattle.kernel_world.specs.declared.actor.Actor.{Actor}
 use Rattle.kernel_world.specs.declared.call.Call.{Call}
-use Rattle.kernel_world.specs.declared.call.Call.TheVariants as calls
 use Rattle.wind_machine.specs.State.{State}
+use Rattle.wind_owners.specs.Owners.{mutex_named, owner_in}
 use Rattle.wind_machine.specs.Feed.{chunk, brought}
 use Rattle.wind_machine.specs.Next.{next}
 use Rattle.wind_machine.specs.Machine.{actor_of}
@@ -56,22 +54,7 @@ call_there w (Some a) (Some g) = call_by g w a
 call_there w None g = None
 call_there w (Some a) None = None
 
--- the mutex that a call may give an owner, or take it from
-abbrev pub mutex_of : Call → Option ℕ
-mutex_of (calls.SemTake id timeout) = Some id
-mutex_of (calls.SemGive id) = Some id
-mutex_of (calls.SemDelete id) = Some id
-mutex_of c = None
-
--- the owner of the mutex with this id, if there is one
-abbrev pub owner_in : WorldState → ℕ → Option ℕ
-owner_in w id = owner_of (object_of w.objects.mutexes.rows id)
-
--- the mutex that a call names, and its owner
-abbrev pub mutex_named : Option Call → Option ℕ
-mutex_named None = None
-mutex_named (Some c) = mutex_of c
-
+-- the owner of the mutex that a call names
 abbrev pub owner_at : WorldState → Option ℕ → Option ℕ
 owner_at w None = None
 owner_at w (Some id) = owner_in w id

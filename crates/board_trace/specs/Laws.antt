@@ -1,5 +1,5 @@
 -- What follows from the definitions of a trace alone.
-use Rattle.std.specs.Prelude.{◌≡◌, ℕ, ◌<◌, ◌==◌, true, false, if◌then◌else◌, List, [], ◌∷◌, ◌++◌, length, Option, None, Some, IfSome}
+use Rattle.std.specs.Prelude.{◌≡◌, ℕ, ◌<◌, ◌≤◌, ◌==◌, true, false, if◌then◌else◌, List, [], ◌∷◌, ◌++◌, length, Option, None, Some, IfSome}
 use Rattle.std.specs.Option.{option_map}
 use Rattle.wind_base.specs.Errno.{errno_number}
 use Rattle.wind_base.specs.Limits.{error_word}
@@ -15,7 +15,9 @@ use Rattle.wind_machine.specs.Good.{Good}
 use Rattle.wind_machine.specs.Machine.{machine_step}
 use Rattle.wind_machine.specs.State.{State}
 use Rattle.wind_machine.specs.Replies.{step_reply}
-use Rattle.board_changes.specs.Replay.{Life, life_of, replayed, told_of}
+use Rattle.wind_machine.specs.Run.{Answers}
+use Rattle.wind_owners.specs.Owners.{owner_in}
+use Rattle.board_changes.specs.Replay.{Life, life_of, replayed, changes_naming}
 use Rattle.board_changes.specs.Spans.{view_of}
 use Rattle.board_changes.specs.Tasks.{has_result, wait_changes}
 use Rattle.board_changes.specs.declared.awaited.Awaited.{Awaited}
@@ -24,17 +26,18 @@ use Rattle.board_changes.specs.declared.change.Change.TheVariants as changes
 use Rattle.board_changes.specs.declared.view.TaskView.{TaskView}
 use Rattle.board_trace.specs.Before.{before_step}
 use Rattle.board_trace.specs.Errors.{errno_named}
+use Rattle.board_trace.specs.Runs.{Line, lines_of}
 use Rattle.board_trace.specs.Snapshots.{snapshot_of, view_in}
 use Rattle.board_trace.specs.Steps.{happenings, is_instruction}
 use Rattle.board_trace.specs.declared.happening.Happening.{Happening}
 use Rattle.board_trace.specs.declared.happening.Happening.TheVariants as told
 
--- the reply that is told with a call
+-- the reply in the line of a call
 abbrev pub reply_in : Happening → List Reply
 reply_in (told.Called who c r) = r ∷ []
 reply_in h = []
 
--- the replies that are told, one for each call
+-- the replies in the lines of calls, one for each
 abbrev pub replies_in : List Happening → List Reply
 replies_in [] = []
 replies_in (h ∷ hs) = reply_in h ++ replies_in hs
@@ -43,12 +46,12 @@ abbrev pub listed : Option Reply → List Reply
 listed None = []
 listed (Some r) = r ∷ []
 
--- a step tells exactly one call if it makes one, with the reply of that call, and else none. So a refusal is told exactly
--- if the call was refused, with its error
+-- a step that makes a call has exactly one line of a call, with the reply of that call, and any other step has none. So a
+-- line tells a refusal exactly if the call was refused, with its error
 abbrev pub ReplyLaw : Type 0
 ReplyLaw = (said : FileSaid) (s t : State) → replies_in (happenings said s t) ≡ listed (step_reply said s)
 
--- the changes that happenings tell
+-- the changes among happenings
 abbrev pub change_in : Happening → List Change
 change_in (told.Changed c) = c ∷ []
 change_in h = []
@@ -61,18 +64,49 @@ changes_told (h ∷ hs) = change_in h ++ changes_told hs
 abbrev pub life_in : State → ℕ → Option Life
 life_in s who = option_map life_of (view_of (snapshot_of s.world).tasks who)
 
--- in each step that isn't one instruction, from a state with the invariant, a task's life after the step follows from that
--- before it and the changes of the task that are told
+-- in each step that isn't one instruction, from a state with the invariant, a task's life before the step and the changes
+-- that name the task give its life after the step
 abbrev pub StepReplayLaw : Type 0
 StepReplayLaw = (said : FileSaid) (s t : State) (who : ℕ) → IfSome (next_event s) IsEarly → Good s → machine_step said s ≡ Some t
     → is_instruction (before_step s) t.world.output ≡ false
-    → replayed (told_of who (changes_told (happenings said s t))) (life_in s who) ≡ life_in t who
+    → replayed (changes_naming who (changes_told (happenings said s t))) (life_in s who) ≡ life_in t who
+
+-- who owns this mutex after something happens
+abbrev pub owner_then : ℕ → Happening → Option ℕ → Option ℕ
+owner_then id (told.Owned mutex owner) o = if mutex == id then Some owner else o
+owner_then id (told.Freed mutex owner) o = if mutex == id then None else o
+owner_then id h o = o
+
+-- the same after happenings, one after another
+abbrev pub owner_replayed : ℕ → List Happening → Option ℕ → Option ℕ
+owner_replayed id [] o = o
+owner_replayed id (h ∷ hs) o = owner_replayed id hs (owner_then id h o)
+
+-- in each step from a state with the invariant, who owns a mutex before the step and the lines of the step give who owns it
+-- after the step. So a mutex gets or loses an owner only where a line says so
+abbrev pub OwnersLaw : Type 0
+OwnersLaw = (said : FileSaid) (s t : State) (id : ℕ) → Good s → machine_step said s ≡ Some t
+    → owner_replayed id (happenings said s t) (owner_in s.world id) ≡ owner_in t.world id
+
+-- the time of the newest of some lines
+abbrev pub newest_time : List Line → ℕ
+newest_time [] = 0
+newest_time (l ∷ ls) = l.time
+
+-- lines of which each newer one has the same time or a later one; the newest is first
+abbrev pub AreInTime : List Line → Type 0
+AreInTime [] = Unit {0}
+AreInTime (l ∷ ls) = (newest_time ls ≤ l.time) × AreInTime ls
+
+-- along the lines of a run, board time never decreases
+abbrev pub TimeLaw : Type 0
+TimeLaw = (said : Answers) (s : State) (k : ℕ) → AreInTime (lines_of said s k)
 
 -- each error is found by its number
 abbrev pub ErrorLaw : Type 0
 ErrorLaw = (e : Errno) → errno_named (errno_number e) ≡ Some e
 
--- the end of a task's wait for an object, with this answer; with ERROR, the error number is told
+-- the end of a task's wait for an object, with this answer; if it is ERROR, with the error number
 abbrev pub wait_end : ℕ → Awaited → ℕ → ℕ → Change
 wait_end who object answer errno = if answer == error_word then changes.Failed who object errno else changes.Served who object answer
 

@@ -13,6 +13,7 @@ pub mod Runs
 pub mod Laws
 pub mod Running
 pub mod Observed
+pub use Rattle.wind_owners.specs.Owners as WindOwnersOwners
 pub use Rattle.wind_machine.specs.Silent as WindMachineSilent
 pub use Rattle.wind_machine.specs.Machine as WindMachineMachine
 pub use Rattle.wind_machine.specs.State as WindMachineState

@@ -29,6 +29,7 @@ subject_change (changes.Suspended who) = subjects.Task who
 subject_change (changes.Resumed who) = subjects.Task who
 subject_change (changes.Priority who from to inherited) = subjects.Task who
 subject_change (changes.Normal who to) = subjects.Task who
+subject_change (changes.Yields who) = subjects.Task who
 subject_change (changes.Started watchdog due) = subjects.Board
 subject_change (changes.Fired watchdog) = subjects.Board
 subject_change (changes.Cancelled watchdog) = subjects.Board

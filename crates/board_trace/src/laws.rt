@@ -1,10 +1,11 @@
 //! What follows from the definitions of a trace alone.
 
-ghost use Rattle.board_trace.specs.Laws.{ReplyLaw, ErrorLaw, StepReplayLaw, WaitEndLaw};
+ghost use Rattle.board_trace.specs.Laws.{ReplyLaw, ErrorLaw, OwnersLaw, StepReplayLaw, TimeLaw, WaitEndLaw};
 ghost use Rattle.board_trace.specs.Observed.{RunOneRunsLaw, RunTilingLaw};
 
 use board_changes::spans_law;
 use wind_machine::{extend_law, run_law, step_law};
+use wind_owners::owner_law;
 
 /// The law of replies: the happenings of a step tell exactly one call if the step makes one, with
 /// the reply of that call. So a line tells a refusal exactly if the call was refused, with its
@@ -26,11 +27,27 @@ pub fn wait_end_law()
 
 /// The law of replay: in each step that isn't one instruction, from a state with the invariant,
 /// whether a task lives, its wait, wake and suspension, its priority and its normal priority after
-/// the step follow from those before it and the changes of the task that are told.
+/// the step follow from those before it and the changes that name it.
 pub fn step_replay_law()
     ensures { StepReplayLaw }
 {
     step_law();
+}
+
+/// The law of owners: in each step from a state with the invariant, who owns a mutex after the step
+/// follows from who owned it before and the step's lines. So a mutex gets or loses an owner only
+/// where a line says so.
+pub fn owners_law()
+    ensures { OwnersLaw }
+{
+    owner_law();
+}
+
+/// The law of time: along the lines of a run, board time never decreases.
+pub fn time_law()
+    ensures { TimeLaw }
+{
+    extend_law();
 }
 
 /// The law of a run's spans, for every console file, tick file and list of devices, under both rules

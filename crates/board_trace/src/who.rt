@@ -50,7 +50,8 @@ fn subject_change(change: &Change) -> Subject
         | Change::Suspended { who }
         | Change::Resumed { who }
         | Change::Priority { who, .. }
-        | Change::Normal { who, .. } => Subject::Task(who.get()),
+        | Change::Normal { who, .. }
+        | Change::Yields { who } => Subject::Task(who.get()),
         Change::Started { .. }
         | Change::Fired { .. }
         | Change::Cancelled { .. }

@@ -14,7 +14,7 @@ use id_table::Ident;
 use kernel_world::Actor;
 use std::alloc::Global;
 use trace_picture::{Kind, Mark, Picture, RowName, add_picture};
-use trace_state::runner;
+use trace_state::running_task;
 use wind_base::NoMemory;
 use wind_outside::Device;
 use wind_session::Board;
@@ -143,7 +143,7 @@ impl Observer {
     {
         let reader = StepReader::new(alloc, board)?;
         let mut spans = Spans::new(alloc);
-        spans.observe(board.time(), &reader.before.tasks, runner(board.world()))?;
+        spans.observe(board.time(), &reader.before.tasks, running_task(board.world()))?;
         let mut scene = Scene::new(alloc);
         add_rows(&mut scene.rows, &reader.before)?;
         Ok(Observer {
@@ -160,7 +160,7 @@ impl Observer {
     {
         let views = &self.reader.after.tasks;
         self.spans
-            .observe(board.time(), views, runner(board.world()))
+            .observe(board.time(), views, running_task(board.world()))
     }
 
     /// Looks at a board after a step. An instruction changes nothing that a picture shows.

@@ -5,7 +5,7 @@ use crate::objects::{level, modules, mutexes, queues, semaphores, symbols, watch
 use crate::slots::devices;
 use crate::tasks::{id_or_null, tasks};
 use crate::text::Members;
-use board_reading::{Board, Phase, runner};
+use board_reading::{Board, Phase, running_task};
 use kernel_world::World;
 use serde_json::{Map, Value, json, put};
 use std::alloc::{AllocError, Global};
@@ -25,7 +25,7 @@ fn add_time(alloc: Global, members: &mut Members, board: &Board) -> Result<(), A
     let world = board.world();
     let time = u64::try_from(board.time()).unwrap_or(u64::MAX);
     let last = id_or_null(world.kern.last());
-    let running = id_or_null(runner(world));
+    let running = id_or_null(running_task(world));
     put(members, alloc, "time", Value::from(time))?;
     put(members, alloc, "steps", Value::from(board.steps()))?;
     put(members, alloc, "tick", Value::from(board.ticks()))?;

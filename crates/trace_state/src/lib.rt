@@ -10,5 +10,5 @@ mod text;
 
 pub use board::state_text;
 pub use board_reading::{
-    empty_snapshot, last_actor, look_after, look_before, runner, take_snapshot,
+    empty_snapshot, last_actor, look_after, look_before, running_task, take_snapshot,
 };

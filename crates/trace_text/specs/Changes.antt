@@ -85,6 +85,7 @@ change_text (changes.Suspended who) = codes "is suspended"
 change_text (changes.Resumed who) = codes "is resumed"
 change_text (changes.Priority who from to inherited) = priority_text from to inherited
 change_text (changes.Normal who to) = normal_text to
+change_text (changes.Yields who) = codes "goes after the others of its priority"
 change_text (changes.Started watchdog due) = started_text watchdog due
 change_text (changes.Fired watchdog) = object_text (codes "watchdog ") watchdog (codes " fires")
 change_text (changes.Cancelled watchdog) = object_text (codes "watchdog ") watchdog (codes " is cancelled")

@@ -178,6 +178,7 @@ pub(crate) fn add_change(text: &mut Vec<u8>, change: &Change) -> Result<(), NoMe
             ..
         } => add_priority(text, from, to, inherited),
         Change::Normal { to, .. } => add_normal(text, to),
+        Change::Yields { .. } => add(text, b"goes after the others of its priority"),
         Change::Started { watchdog, due } => add_started(text, watchdog, due),
         Change::Fired { watchdog } => add_object(text, b"watchdog ", watchdog, b" fires"),
         Change::Cancelled { watchdog } => {

@@ -1,5 +1,4 @@
-use Rattle.std.proofs.Common.{◌<◌, ap, ◌∙◌, ◌++◌, ◌∷◌, [], take, length, arith}
-use Rattle.board_changes.specs.Views.{view_of_task}
+use Rattle.std.proofs.Common.{◌<◌, length, arith}
 use Rattle.board_trace.specs.Snapshots.{view_in}
 use Rattle.board_reading.proofs.Collecting.{one_placed, all_placed}
 use Rattle.board_reading.proofs.snapshot.take_tasks.Goals as goal
@@ -9,10 +8,10 @@ loop-place-preserved c =
     let ts = c.args.kern.now.tasks in
     let place = c.loop-place.place in
     let old = c.loop-place.views.items in
-    let t = c.task_at-task.result.now in
+    let t = c.task_at.result.now in
     let less : place < length ts = omega (arith, c.live-place-end.ensures, c.loop-place-test.true) in (
-      one_placed (view_in c.args.objects.now) old c.put_view.new.views.items ts place t less c.task_at-task.ensures c.loop-place.invariant.0
-          (c.in_ok-put_view.ensures.put ∙ ap (λ w. take place old ++ view_of_task w t ∷ []) c.awaited_by.ensures),
+      one_placed (view_in c.args.objects.now) old c.put_view.new.views.items ts place t less c.task_at.ensures c.loop-place.invariant.0
+          c.in_ok-put_view.ensures.put,
       omega (arith, c.in_ok-put_view.ensures.len),
       omega (arith, c.in_ok-put_view.ensures.len, c.loop-place.invariant.2, less),
     )

@@ -1,0 +1,5 @@
+mod Lists
+mod Rows
+mod Calls
+mod Parts
+mod Steps
