@@ -53,17 +53,17 @@ call_is : (w : WorldState) (a : Actor) (o : Option Gate) → call_there w (Some 
 call_is w a None = refl
 call_is w a (Some g) = refl
 
--- a task hands in the same words as before its step
-own_call : (w v : WorldState) (who : ℕ) (o : Option Gate) → (g : (g : Gate) → call_at (Some g) v (by_task who) ≡ call_at (Some g) w (by_task who)) → call_at o v (by_task who) ≡ call_at o w (by_task who)
-own_call w v who None g = refl
-own_call w v who (Some gate) g = g gate
+-- the same call is at each gate in two worlds
+own_call : (w v : WorldState) (a : Actor) (o : Option Gate) → ((g : Gate) → call_at (Some g) v a ≡ call_at (Some g) w a) → call_at o v a ≡ call_at o w a
+own_call w v a None same = refl
+own_call w v a (Some g) same = same g
 
 started : (s : State) (a : Actor) → call_at (gate_under (step_start_world s a) a) (step_start_world s a) a ≡ call_at (gate_under s.world a) s.world a
 started s (by_task who) =
     let v = step_start_world s (by_task who) in
     ap (λ o. call_at o v (by_task who)) (own_gate s.world who)
-    ∙ own_call s.world v who (gate_under s.world (by_task who)) (λ g. ap (λ ws. call_in g s.world.ram ws) (own_words s.world who))
-started s Interrupt = refl
+    ∙ own_call s.world v (by_task who) (gate_under s.world (by_task who)) (λ g. ap (λ ws. call_in g s.world.ram ws) (own_words s.world who))
+started s Interrupt = own_call s.world (step_start_world s Interrupt) Interrupt (gate_under s.world Interrupt) (λ g. refl)
 
 by_actor : (s : State) (a : Actor) → call_there s.world (Some a) (gate_there s.world (counter_of s.shell.phase s.world a)) ≡ call_by_actor s (Some a)
 by_actor s a =
