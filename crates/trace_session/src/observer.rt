@@ -143,7 +143,11 @@ impl Observer {
     {
         let reader = StepReader::new(alloc, board)?;
         let mut spans = Spans::new(alloc);
-        spans.observe(board.time(), &reader.before.tasks, running_task(board.world()))?;
+        spans.observe(
+            board.time(),
+            &reader.before.tasks,
+            running_task(board.world()),
+        )?;
         let mut scene = Scene::new(alloc);
         add_rows(&mut scene.rows, &reader.before)?;
         Ok(Observer {
