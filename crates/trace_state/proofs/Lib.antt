@@ -1,0 +1,7 @@
+mod Collecting
+mod Rows
+mod Shallow
+mod Nesting
+mod Depth
+mod Growing
+mod Devices

@@ -1,0 +1,8 @@
+pub mod Json
+pub mod Held
+pub mod Tasks
+pub mod Objects
+pub mod Modules
+pub mod Memory
+pub mod Board
+pub mod Inside

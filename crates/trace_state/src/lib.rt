@@ -2,11 +2,12 @@
 #![tactic(auto)]
 
 mod board;
+mod json;
 mod memory;
+mod modules;
 mod objects;
 mod slots;
 mod tasks;
-mod text;
 
 pub use board::state_text;
 pub use board_reading::{

@@ -1,44 +1,50 @@
 //! The kernel's objects as JSON.
 
-use crate::tasks::{id_or_null, number_or_null};
-use crate::text::shown;
+ghost use Rattle.std.specs.Prelude.{◌≡◌, IfOk};
+ghost use Rattle.std.specs.Option.{option_map};
+ghost use Rattle.serde_json.specs.View.{view};
+ghost use Rattle.trace_state.specs.Json.{list_of, number_or_null as number_or_null_lem};
+ghost use Rattle.trace_state.specs.Objects.{kind_word as kind_word_lem, level_data, rows_data, watchdog_data};
+
+use crate::json::{Items, Members, id_or_null, number_or_null};
 use id_table::Table;
 use inheritance::Mutex;
-use isr_watch::Watchdog;
-use kernel_world::World;
-use module_loader::LoadedModule;
+use isr_watch::{Timer, Watch, Watchdog};
 use msg_queue::Queue;
 use sem_plain::Semaphore;
-use serde_json::{Map, Value, json, put};
+use serde_json::Value;
 use std::alloc::{AllocError, Global};
-use symbol_table::Symbol;
 use wind_base::SemKind;
-use wind_base::limits::MODULES;
 
-// The objects of a table, by rising id, each by its id and itself.
-fn table_values<T, F: Fn(Global, u32, &T) -> Result<Value, AllocError>>(
-    alloc: Global,
-    table: &Table<T>,
-    value: F,
-) -> Result<Value, AllocError>
-    requires { F.IsAlwaysCallable value }
+/// An object of the kernel that can be shown as JSON.
+trait Shown {
+    ghost use Rattle.std.specs.Prelude.{◌≡◌, ℕ, IfOk};
+    ghost use Rattle.serde_json.specs.Data.{Data};
+    ghost use Rattle.serde_json.specs.View.{view};
+
+    ghost data_of: { ℕ → Self → Data };
+
+    /// The object as JSON, with its id.
+    fn to_json(&self, alloc: Global, id: u32) -> Result<Value, AllocError>
+        ensures { IfOk result (λ v. view v ≡ data_of id self.now) };
+}
+
+/// The objects of a table, by rising id.
+pub(crate) fn rows<T: Shown>(alloc: Global, table: &Table<T>) -> Result<Value, AllocError>
+    ensures { IfOk result (λ v. view v ≡ rows_data T.data_of table.now.rows) }
 {
-    let mut list = Vec::new(alloc);
-    let mut above = 0;
-    for _ in 0..table.len() {
-        let Some(id) = table.next_after(above) else {
-            break;
-        };
-        above = id.get();
-        if let Some(object) = table.get(id) {
-            list.push(value(alloc, above, object)?)?;
-        }
+    let mut items = Items::new(alloc);
+    for place in 0..table.len() {
+        let id = table.id_at(place).get();
+        items.add(table.value_at(place).to_json(alloc, id)?)?;
     }
-    Ok(Value::Array(list))
+    Ok(items.finish())
 }
 
 // The word for a kind of semaphore.
-fn kind_word(kind: SemKind) -> &'static str {
+fn kind_word(kind: SemKind) -> &'static str
+    ensures { result.now ≡ kind_word_lem kind }
+{
     match kind {
         SemKind::Binary => "binary",
         SemKind::Counting => "counting",
@@ -46,141 +52,103 @@ fn kind_word(kind: SemKind) -> &'static str {
     }
 }
 
-// One semaphore.
-fn semaphore_value(alloc: Global, id: u32, semaphore: &Semaphore) -> Result<Value, AllocError> {
-    let kind = kind_word(semaphore.kind);
-    let count = semaphore.count;
-    let by_priority = semaphore.options.is_priority();
-    json!(in alloc; {"id": id, "kind": kind, "count": count, "by_priority": by_priority})
+impl Shown for Semaphore {
+    ghost use Rattle.trace_state.specs.Objects.{semaphore_data};
+
+    ghost data_of = { semaphore_data };
+
+    fn to_json(&self, alloc: Global, id: u32) -> Result<Value, AllocError> {
+        let mut members = Members::new(alloc);
+        members.put_number("id", u64::from(id))?;
+        members.put_word("kind", kind_word(self.kind))?;
+        members.put_number("count", u64::from(self.count))?;
+        members.put_flag("by_priority", self.options.is_priority())?;
+        Ok(members.finish())
+    }
 }
 
-/// The semaphores, by rising id.
-pub(crate) fn semaphores(alloc: Global, world: &World) -> Result<Value, AllocError> {
-    table_values(alloc, world.objects.semaphores.table(), semaphore_value)
+impl Shown for Mutex {
+    ghost use Rattle.trace_state.specs.Objects.{mutex_data};
+
+    ghost data_of = { mutex_data };
+
+    fn to_json(&self, alloc: Global, id: u32) -> Result<Value, AllocError> {
+        let mut members = Members::new(alloc);
+        members.put_number("id", u64::from(id))?;
+        members.put("owner", id_or_null(self.owner))?;
+        members.put_number("depth", self.depth)?;
+        members.put_flag("by_priority", self.by_priority)?;
+        members.put_flag("delete_safe", self.delete_safe)?;
+        members.put_flag("inversion_safe", self.inversion_safe)?;
+        Ok(members.finish())
+    }
 }
 
-// One mutex.
-fn mutex_value(alloc: Global, id: u32, mutex: &Mutex) -> Result<Value, AllocError> {
-    let mut members = Map::new(alloc);
-    put(&mut members, alloc, "id", Value::from(id))?;
-    put(&mut members, alloc, "owner", id_or_null(mutex.owner))?;
-    put(&mut members, alloc, "depth", Value::from(mutex.depth))?;
-    put(
-        &mut members,
-        alloc,
-        "by_priority",
-        Value::from(mutex.by_priority),
-    )?;
-    put(
-        &mut members,
-        alloc,
-        "delete_safe",
-        Value::from(mutex.delete_safe),
-    )?;
-    put(
-        &mut members,
-        alloc,
-        "inversion_safe",
-        Value::from(mutex.inversion_safe),
-    )?;
-    Ok(Value::Object(members))
+impl Shown for Queue {
+    ghost use Rattle.trace_state.specs.Objects.{queue_data};
+
+    ghost data_of = { queue_data };
+
+    fn to_json(&self, alloc: Global, id: u32) -> Result<Value, AllocError> {
+        let mut members = Members::new(alloc);
+        members.put_number("id", u64::from(id))?;
+        members.put_number("max_msgs", u64::from(self.max_msgs()))?;
+        members.put_number("max_len", u64::from(self.max_len()))?;
+        members.put_number("held", u64::from(self.count()))?;
+        members.put_flag("by_priority", self.by_priority())?;
+        Ok(members.finish())
+    }
 }
 
-/// The mutexes, by rising id.
-pub(crate) fn mutexes(alloc: Global, world: &World) -> Result<Value, AllocError> {
-    table_values(alloc, world.objects.mutexes.table(), mutex_value)
-}
-
-// One message queue.
-fn queue_value(alloc: Global, id: u32, queue: &Queue) -> Result<Value, AllocError> {
-    let mut members = Map::new(alloc);
-    put(&mut members, alloc, "id", Value::from(id))?;
-    put(
-        &mut members,
-        alloc,
-        "max_msgs",
-        Value::from(queue.max_msgs()),
-    )?;
-    put(&mut members, alloc, "max_len", Value::from(queue.max_len()))?;
-    put(&mut members, alloc, "held", Value::from(queue.count()))?;
-    put(
-        &mut members,
-        alloc,
-        "by_priority",
-        Value::from(queue.by_priority()),
-    )?;
-    Ok(Value::Object(members))
-}
-
-/// The message queues, by rising id.
-pub(crate) fn queues(alloc: Global, world: &World) -> Result<Value, AllocError> {
-    table_values(alloc, world.objects.queues.table(), queue_value)
-}
-
-// One watchdog.
-fn watchdog_value(alloc: Global, id: u32, watchdog: &Watchdog) -> Result<Value, AllocError> {
-    let due = number_or_null(match watchdog.timer {
+// The tick at which a timer is due.
+fn due(timer: Option<Timer>) -> Option<u64>
+    ensures { result ≡ option_map (λ t. t.due) timer }
+{
+    match timer {
         Some(timer) => Some(timer.due),
         None => None,
-    });
-    let (routine, param) = (watchdog.routine.entry, watchdog.routine.param);
-    json!(in alloc; {"id": id, "due": due, "routine": routine, "param": param})
+    }
+}
+
+impl Shown for Watchdog {
+    ghost use Rattle.trace_state.specs.Objects.{watchdog_data};
+
+    ghost data_of = { λ id w. watchdog_data w };
+
+    fn to_json(&self, alloc: Global, _id: u32) -> Result<Value, AllocError> {
+        let mut members = Members::new(alloc);
+        members.put_number("id", u64::from(self.id.get()))?;
+        members.put("due", number_or_null(due(self.timer)))?;
+        members.put_number("routine", u64::from(self.routine.entry))?;
+        members.put_number("param", u64::from(self.routine.param))?;
+        Ok(members.finish())
+    }
 }
 
 /// The watchdogs, by rising id.
-pub(crate) fn watchdogs(alloc: Global, world: &World) -> Result<Value, AllocError> {
-    table_values(alloc, world.watch.watchdogs(), watchdog_value)
+pub(crate) fn watchdogs(alloc: Global, watch: &Watch) -> Result<Value, AllocError>
+    ensures { IfOk result (λ v. view v ≡ list_of watchdog_data watch.now.watchdogs) }
+{
+    rows(alloc, watch.watchdogs())
+}
+
+// The program counter of the active routine, or null.
+fn counter(watch: &Watch) -> Value
+    ensures { view result ≡ number_or_null_lem (option_map (λ r. r.pc) watch.now.level) }
+{
+    match watch.regs() {
+        Some(regs) => Value::from(regs.pc),
+        None => Value::Null,
+    }
 }
 
 /// The interrupt level: the program counter of the active routine, if one is active, and the last
 /// error number.
-pub(crate) fn level(alloc: Global, world: &World) -> Result<Value, AllocError> {
-    let errno = world.int_errno;
-    let pc = match world.watch.regs() {
-        Some(regs) => Value::from(regs.pc),
-        None => Value::Null,
-    };
-    json!(in alloc; {"pc": pc, "errno": errno})
-}
-
-// One module.
-fn module_value(alloc: Global, id: u32, module: &LoadedModule) -> Result<Value, AllocError> {
-    let name = shown(alloc, module.name.bytes())?;
-    let [text, data, bss] = module.segments;
-    let (text, data, bss) = (text.addr, data.addr, bss.addr);
-    json!(in alloc; {"id": id, "name": name, "text": text, "data": data, "bss": bss})
-}
-
-/// The modules, by rising id.
-pub(crate) fn modules(alloc: Global, world: &World) -> Result<Value, AllocError> {
-    let mut list = Vec::new(alloc);
-    let mut above = 0;
-    for _ in 0..MODULES {
-        let Some(id) = world.mods.next_after(above) else {
-            break;
-        };
-        above = id.get();
-        if let Some(loaded) = world.mods.get(above) {
-            list.push(module_value(alloc, above, loaded)?)?;
-        }
-    }
-    Ok(Value::Array(list))
-}
-
-// One symbol.
-fn symbol_value(alloc: Global, symbol: &Symbol) -> Result<Value, AllocError> {
-    let name = shown(alloc, symbol.name.bytes())?;
-    let (value, global, group) = (symbol.value, symbol.global, symbol.group);
-    json!(in alloc; {"name": name, "value": value, "global": global, "group": group})
-}
-
-/// The symbols, in order of adding.
-pub(crate) fn symbols(alloc: Global, world: &World) -> Result<Value, AllocError> {
-    let mut list = Vec::new(alloc);
-    for place in 0..world.syms.len() {
-        if let Some(found) = world.syms.at(place) {
-            list.push(symbol_value(alloc, found)?)?;
-        }
-    }
-    Ok(Value::Array(list))
+pub(crate) fn level(alloc: Global, watch: &Watch, errno: u32) -> Result<Value, AllocError>
+    ensures { IfOk result (λ v. view v ≡ level_data watch.now.level errno) }
+{
+    let mut members = Members::new(alloc);
+    members.put("pc", counter(watch))?;
+    members.put_number("errno", u64::from(errno))?;
+    Ok(members.finish())
 }
