@@ -22,6 +22,7 @@ use Rattle.live_session.specs.Session.{AreServed, IsTalk, Parts, position_of}
 use Rattle.live_session.specs.declared.record.Refusal.{Refusal}
 use Rattle.live_session.specs.declared.serving.Position.{Position}
 use Rattle.live_session.specs.declared.serving.Position.TheVariants.{Start as LineStart}
+use Rattle.live_session.specs.declared.serving.Request.{Request}
 use Rattle.live_session.proofs.Flow.{is_live}
 
 -- ---- where it is
@@ -89,20 +90,27 @@ served_more c shelf setup old position (x ∷ xs) part refusal now here next bef
   served_more c shelf setup old (position_after position x.0) xs part refusal served.0 here next served.1 mid after served.4 going serves,
 )
 
-module _ (c : CommandState) (position : Position) (part : List ℕ) (refusal : Option Refusal) (begin l : LiveState) (around a : Around) (told : Messages) (end : RunEnd) (next : Moment) (before mid after : Store)
-    (going : IsGoing end) (runs : Runs end c.modules begin around l a)
-    (serves : Wherever c.modules l a (λ shelf setup old. Serves c (request_of position part) part refusal shelf setup old (moment l a told end) next mid after)) where
-  -- the talk with it, wherever the session began
+-- ---- the talk with one more part
+-- the board could go on, and did what the part asks for
+pub record ServesMore (c : CommandState) (request : Request) (part : List ℕ) (refusal : Option Refusal) (begin l : LiveState) (around a : Around) (told : Messages) (end : RunEnd) (next : Moment) (mid after : Store) : Type 0 where
+  pub going : IsGoing end
+  pub runs : Runs end c.modules begin around l a
+  pub serves : Wherever c.modules l a (λ shelf setup old. Serves c request part refusal shelf setup old (moment l a told end) next mid after)
+
+module _ (c : CommandState) (request : Request) (part : List ℕ) (refusal : Option Refusal) (begin l : LiveState) (around a : Around) (told : Messages) (end : RunEnd) (next : Moment) (before mid after : Store) (position : Position)
+    (s : ServesMore c request part refusal begin l around a told end next mid after) (asks : request ≡ request_of position part) where
+  -- wherever the session began
   pub talk_more : (xs : Parts) → position ≡ position_of LineStart xs
       → Wherever c.modules begin around (λ shelf setup old. IsTalk c xs shelf setup old begin around (moment l a told end) before mid)
       → Wherever c.modules begin around (λ shelf setup old. IsTalk c (xs ++ (part, refusal) ∷ []) shelf setup old begin around next before after)
   talk_more xs there talks = λ shelf setup old here.
-      let talk = talks shelf setup old here in
-      let now : IsHere c.modules shelf setup old l a = here_on c.modules shelf setup old begin around here end l a runs going in
+      let talk : IsTalk c xs shelf setup old begin around (moment l a told end) before mid = talks shelf setup old here in
+      let now : IsHere c.modules shelf setup old l a = here_on c.modules shelf setup old begin around here end l a s.runs s.going in
+      let same : request ≡ request_of (position_of LineStart xs) part = asks ∙ ap (λ (p : Position). request_of p part) there in
       record {
         first = talk.first;
         opening = talk.opening;
         served =
-            served_more c shelf setup old LineStart xs part refusal talk.first (moment l a told end) next before mid after talk.served going
-            (subst (λ (p : Position). Serves c (request_of p part) part refusal shelf setup old (moment l a told end) next mid after) there (serves shelf setup old now));
+            served_more c shelf setup old LineStart xs part refusal talk.first (moment l a told end) next before mid after talk.served s.going
+            (subst (λ (r : Request). Serves c r part refusal shelf setup old (moment l a told end) next mid after) same (s.serves shelf setup old now));
       }

@@ -9,6 +9,7 @@ use Rattle.live_session.specs.declared.dot_line.DotLine.TheVariants as lines
 use Rattle.live_session.specs.declared.record.Refusal.{Refusal}
 use Rattle.live_session.specs.declared.serving.Position.{Position}
 use Rattle.live_session.specs.declared.serving.Position.TheVariants.{Start}
+use Rattle.live_session.specs.declared.serving.Request.{Request}
 use Rattle.live_session.specs.declared.serving.Request.TheVariants as requests
 use Rattle.live_session.specs.declared.status.Status.{Status}
 use Rattle.live_session.specs.declared.status.Status.TheVariants as status
@@ -94,37 +95,42 @@ stop_whole status.ReadFault left parts whole = tt
 stop_whole status.WriteFault left parts whole = tt
 stop_whole status.NoMemory left parts whole = tt
 
--- a status with which a session stops at any position of its input
-abbrev pub IsEarly : Status → Type 0
-IsEarly status.Ended = ⊥
-IsEarly status.Unrecorded = ⊥
-IsEarly s = Unit {0}
+-- a part was taken, which asks for this, and was sent or not
+pub record TakesPart (mid new : Option (List ℕ)) (position : Position) (part : List ℕ) (request : Request) (refusal : Option Refusal) (console later : List ℕ) : Type 0 where
+  pub takes : Takes mid new part
+  pub is_part : IsPart part
+  pub longest : IsLongest part new
+  pub asks : request ≡ request_of position part
+  pub sends : later ≡ console ++ sent_unless refusal (sent_of request part)
 
-module _ (old mid new : Option (List ℕ)) (position : Position) (count : ℕ) (part : List ℕ) (refusal : Option Refusal) (console later : List ℕ) (holds more : Parts → Type 0)
-    (t : Typing old mid console position count holds) (takes : Takes mid new part) (is_part : IsPart part) (longest : IsLongest part new)
-    (sends : later ≡ console ++ sent_unless refusal (sent_of (request_of position part) part))
+module _ (old mid new : Option (List ℕ)) (position : Position) (count : ℕ) (part : List ℕ) (request : Request) (refusal : Option Refusal) (console later : List ℕ) (holds more : Parts → Type 0)
+    (t : Typing old mid console position count holds) (taking : TakesPart mid new position part request refusal console later)
     (holds_on : (xs : Parts) → position ≡ position_of Start xs → holds xs → more (xs ++ (part, refusal) ∷ [])) where
   y : List ℕ × Option Refusal
   y = (part, refusal)
 
+  -- what it asks for, after the parts before it
+  asks_there : request ≡ request_of (position_of Start t.parts) part
+  asks_there = taking.asks ∙ ap (λ (p : Position). request_of p part) t.there
+
   all_taken : Takes old new (joined (t.parts ++ y ∷ []))
   unfolding y
-  all_taken = subst (λ bytes. Takes old new bytes) (sym (joined_more t.parts y)) (takes_both old mid new (joined t.parts) part t.taken takes)
+  all_taken = subst (λ bytes. Takes old new bytes) (sym (joined_more t.parts y)) (takes_both old mid new (joined t.parts) part t.taken taking.takes)
 
   all_parts : AreParts (t.parts ++ y ∷ []) new
   unfolding y
-  all_parts = are_more t.parts y mid new takes t.parts_are is_part longest
+  all_parts = are_more t.parts y mid new taking.takes t.parts_are taking.is_part taking.longest
 
   all_sent : later ≡ sent_by Start (t.parts ++ y ∷ [])
   unfolding y
   all_sent =
-      sends
-      ∙ ap (λ bytes. bytes ++ sent_unless refusal (sent_of (request_of position part) part)) t.sent
-      ∙ ap (λ (p : Position). sent_by Start t.parts ++ sent_unless refusal (sent_of (request_of p part) part)) t.there
+      taking.sends
+      ∙ ap (λ bytes. bytes ++ sent_unless refusal (sent_of request part)) t.sent
+      ∙ ap (λ (r : Request). sent_by Start t.parts ++ sent_unless refusal (sent_of r part)) asks_there
       ∙ sym (sent_more Start t.parts y)
 
   -- the part doesn't ask for the end
-  pub typed_more : request_of position part ≢ requests.Obey lines.Quit → Typing old new later (position_after position part) (count + 1) more
+  pub typed_more : request ≢ requests.Obey lines.Quit → Typing old new later (position_after position part) (count + 1) more
   unfolding y
   typed_more other = record {
     parts = t.parts ++ y ∷ [];
@@ -133,12 +139,12 @@ module _ (old mid new : Option (List ℕ)) (position : Position) (count : ℕ) (
     sent = all_sent;
     there = ap (λ (p : Position). position_after p part) t.there ∙ sym (position_more Start t.parts y);
     counted = omega (arith, length-append t.parts (y ∷ []), t.counted);
-    none = none_more Start t.parts y t.none (λ e. other (ap (λ (p : Position). request_of p part) t.there ∙ e));
+    none = none_more Start t.parts y t.none (λ e. other (asks_there ∙ e));
     held = holds_on t.parts t.there t.held;
   }
 
   -- or it asks for it
-  pub typed_quit : (s : Status) → request_of position part ≡ requests.Obey lines.Quit → IsTyped s old new later more
+  pub typed_quit : (s : Status) → request ≡ requests.Obey lines.Quit → IsTyped s old new later more
   unfolding y
   typed_quit s quits =
       let by_quit : EndsByQuit (t.parts ++ y ∷ []) = record {
@@ -146,7 +152,7 @@ module _ (old mid new : Option (List ℕ)) (position : Position) (count : ℕ) (
         last = y;
         parts_are = refl;
         none = t.none;
-        quits = ap (λ (p : Position). request_of p part) (sym t.there) ∙ quits;
+        quits = sym asks_there ∙ quits;
       } in
       record {
         parts = t.parts ++ y ∷ [];

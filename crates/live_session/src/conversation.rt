@@ -15,6 +15,8 @@ ghost use Rattle.live_session.specs.Saving.{WritesOnly};
 ghost use Rattle.live_session.specs.Seen.{live_seen, IsSound, Runs};
 ghost use Rattle.live_session.specs.Session.{IsStatusOf, IsTalk, IsTyped, sent_unless, status_of};
 ghost use Rattle.live_session.specs.Words.{command_state, IsTarget};
+ghost use Rattle.live_session.specs.declared.dot_line.DotLine.TheVariants as lines;
+ghost use Rattle.live_session.specs.declared.serving.Request.TheVariants as requests;
 ghost use Rattle.live_session.specs.declared.status.Status.TheVariants as status;
 
 use crate::dot_line::DotLine;
@@ -168,6 +170,13 @@ fn is_going(end: RunEnd) -> bool
     matches!(end, RunEnd::Quiet | RunEnd::Limit)
 }
 
+// Whether a part is the line `.quit`.
+fn is_quit(request: Request) -> bool
+    ensures { IsTrue result ↔ (request ≡ requests.Obey lines.Quit) }
+{
+    matches!(request, Request::Obey(DotLine::Quit))
+}
+
 // A conversation that the board's last run decides.
 fn closing_of(end: RunEnd) -> Closing
     ensures { result ≡ record { end = end; status = status_of end } }
@@ -245,15 +254,16 @@ pub(crate) fn converse<I: Input, F: Folder, O: Sink, E: Sink, D: RecordFolder>(
             Ok(part) => part,
             Err(status) => return Closing { end, status },
         };
-        let request = request_of(position, &part);
+        let bytes = part.as_slice();
+        let request = request_of(position, bytes);
         let served = serve(
-            alloc, target, live, folder, out, err, records, request, &part, end,
+            alloc, target, live, folder, out, err, records, request, bytes, end,
         );
         end = served.end;
-        if request == Request::Obey(DotLine::Quit) {
+        if is_quit(request) {
             return closing_of(end);
         }
-        position = position_after(position, &part);
+        position = position_after(position, bytes);
     }
     closing_of(end)
 }

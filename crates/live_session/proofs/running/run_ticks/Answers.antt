@@ -29,3 +29,9 @@ loop-preserved g c =
 
 pub returns-clause-come : goal.returns-clause-come
 returns-clause-come g c = λ now shelf setup old here. ticks_end _ _ shelf setup old _ _ _ _ (c.loop.invariant.comes shelf setup old here) (omega arith)
+
+-- something is left to do
+pub returns-then-ne-clause-come : goal.returns-then-ne-clause-come
+returns-then-ne-clause-come g c = λ now shelf setup old here.
+    let busy : c.loop.end ≢ ends.Quiet = search rules in
+    ticks_stop _ _ shelf setup old _ _ _ _ (c.loop.invariant.comes shelf setup old here) (omega arith) busy
