@@ -18,11 +18,11 @@ decided ends.NoMemory = (inl refl, λ e. cc)
 
 -- if the board can't go on, the session stops at any position of its input
 pub stop_early : (end : RunEnd) (left : Option (List ℕ)) (parts : Parts) → (IsGoing end → ⊥) → IsStop (status_of end) left parts
-stop_early ends.Quiet left parts no = absurd (no tt)
-stop_early ends.Limit left parts no = absurd (no tt)
-stop_early ends.ReadFault left parts no = tt
-stop_early ends.WriteFault left parts no = tt
-stop_early ends.NoMemory left parts no = tt
+stop_early ends.Quiet left parts stuck = absurd (stuck tt)
+stop_early ends.Limit left parts stuck = absurd (stuck tt)
+stop_early ends.ReadFault left parts stuck = tt
+stop_early ends.WriteFault left parts stuck = tt
+stop_early ends.NoMemory left parts stuck = tt
 
 -- a status that tells of a fault
 pub read_end : (end : RunEnd) → status_of end ≡ status.ReadFault → end ≡ ends.ReadFault

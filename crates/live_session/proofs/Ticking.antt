@@ -1,5 +1,6 @@
 -- Ticks that come one after the other.
-use Rattle.std.proofs.Common.{◌≡◌, ◌≢◌, ℕ, suc, zero, ◌+◌, ◌-◌, ◌<◌, ◌≤◌, List, [], ◌++◌, Option, None, Some, refl, sym, subst, inl, inr, arith}
+use Rattle.std.proofs.Common.{◌≡◌, ◌≢◌, ℕ, true, false, suc, zero, ◌+◌, ◌-◌, ◌<◌, ◌≤◌, List, [], ◌++◌, Option, None, Some, refl, sym, subst, inl, inr, arith}
+use Rattle.std.specs.Prelude.{is_some}
 use Rattle.std.proofs.lemmas.List.{append-nil}
 use Rattle.tick_file.specs.declared.event.Event.TheVariants.{Tick}
 use Rattle.wind_machine.specs.Extending.{Setup}
@@ -25,14 +26,14 @@ pub sent_nothing : (refusal : Option Refusal) (bytes : List ℕ) → bytes ++ se
 sent_nothing None bytes = append-nil bytes
 sent_nothing (Some cause) bytes = append-nil bytes
 
-pub sent_tick : (refusal : Option Refusal) (most : ℕ) (shelf : Shelf) (setup : Setup) (old : Outside) (now later : Moment) → refusal ≡ None
+pub sent_tick : (refusal : Option Refusal) (most : ℕ) (shelf : Shelf) (setup : Setup) (old : Outside) (now later : Moment) → is_some refusal ≡ false
     → Sends Tick [] most refusal shelf setup old now later → IsSentAndRuns Tick [] most shelf setup old now later
 sent_tick None most shelf setup old now later none sends = sends
 sent_tick (Some cause) most shelf setup old now later none sends = absurd (cc)
 
-pub refused_tick : (refusal : Option Refusal) (most : ℕ) (shelf : Shelf) (setup : Setup) (old : Outside) (now later : Moment) → refusal ≢ None
+pub refused_tick : (refusal : Option Refusal) (most : ℕ) (shelf : Shelf) (setup : Setup) (old : Outside) (now later : Moment) → is_some refusal ≡ true
     → Sends Tick [] most refusal shelf setup old now later → (cause : Refusal) × IsRefused cause Tick [] now later
-refused_tick None most shelf setup old now later some sends = absurd (some refl)
+refused_tick None most shelf setup old now later some sends = absurd (cc)
 refused_tick (Some cause) most shelf setup old now later some sends = (cause, sends)
 
 module _ (n most : ℕ) (shelf : Shelf) (setup : Setup) (old : Outside) (l : LiveState) (around : Around) where

@@ -46,7 +46,7 @@ loop-preserved g c =
     let next = moment (live served.new.live) (around g.F.Folder g.O.Sink served.new.folder served.new.out) (messages g.E.Sink served.new.err) served.result.end in
     let going : IsGoing c.loop.end = search rules in
     let heard = subst (λ (b : List ℕ). Takes mid new b × IsPart b × IsLongest b new) (sym c.as_slice-bytes.ensures.value) c.in-Ok.ensures.part in
-    let other : c.request_of-request.result ≢ requests.Obey lines.Quit = λ e. let yes : c.is_quit.result ≡ true = c.is_quit.ensures.1 e in let no : c.is_quit.result ≡ false = search rules in cc in
+    let other : c.request_of-request.result ≢ requests.Obey lines.Quit = λ e. let given : c.is_quit.result ≡ true = c.is_quit.ensures.1 e in let differs : c.is_quit.result ≡ false = search rules in cc in
     record {
       runs = runs_on c.loop.end _ _ _ _ _ _ _ _ _ going on.runs (stays_same _ on.runs.sound) served.ensures.runs;
       typing =
@@ -71,8 +71,8 @@ returns-then-not-is_going-clause-status_is g c = rw c.closing_of.ensures (decide
 
 pub returns-then-not-is_going-clause-typed : goal.returns-then-not-is_going-clause-typed
 returns-then-not-is_going-clause-typed g c =
-    let no : IsGoing c.loop.end → ⊥ = λ going. let yes : c.is_going.result ≡ true = c.is_going.ensures.1 going in let not : c.is_going.result ≡ false = search rules in cc in
-    rw c.closing_of.ensures (typed_until _ _ _ _ _ _ _ c.loop.invariant.typing (λ parts counted. stop_early c.loop.end _ parts no))
+    let stuck : IsGoing c.loop.end → ⊥ = λ going. let given : c.is_going.result ≡ true = c.is_going.ensures.1 going in let differs : c.is_going.result ≡ false = search rules in cc in
+    rw c.closing_of.ensures (typed_until _ _ _ _ _ _ _ c.loop.invariant.typing (λ parts counted. stop_early c.loop.end _ parts stuck))
 
 pub returns-then-not-is_going-clause-read_fault : goal.returns-then-not-is_going-clause-read_fault
 returns-then-not-is_going-clause-read_fault g c = rw c.closing_of.ensures (λ e. inr (c.loop.invariant.runs.read_fault (read_end c.loop.end e)))

@@ -58,7 +58,7 @@ pub returns-in-Unknown-clause-console : goal.returns-in-Unknown-clause-console
 returns-in-Unknown-clause-console g c = sym (sent_nothing _ _)
 
 pub returns-in-State-clause-obeys : goal.returns-in-State-clause-obeys
-returns-in-State-clause-obeys g c = λ shelf setup old here. rw c.unsent.ensures (⊎_elim (λ told. inl (refl, told)) (λ told. inr (refl, told)) c.tell_state.ensures, (refl, refl))
+returns-in-State-clause-obeys g c = λ shelf setup old here. rw c.unsent.ensures (⊎_elim (λ told. inl (refl, told)) (λ told. inr (refl, told)) c.tell_state.ensures.printed, (refl, refl))
 
 pub returns-in-Save-clause-obeys : goal.returns-in-Save-clause-obeys
 returns-in-Save-clause-obeys g c = λ shelf setup old here. rw c.unsent.ensures (refl, refl, c.save_now.ensures.saves)
@@ -67,7 +67,7 @@ pub returns-in-Quit-clause-obeys : goal.returns-in-Quit-clause-obeys
 returns-in-Quit-clause-obeys g c = λ shelf setup old here. rw c.unsent.ensures (refl, (refl, refl))
 
 pub returns-in-Help-clause-obeys : goal.returns-in-Help-clause-obeys
-returns-in-Help-clause-obeys g c = λ shelf setup old here. rw c.unsent.ensures ((refl, c.tell_help.ensures), (refl, refl))
+returns-in-Help-clause-obeys g c = λ shelf setup old here. rw c.unsent.ensures ((refl, c.tell_help.ensures.printed), (refl, refl))
 
 pub returns-in-Unknown-clause-obeys : goal.returns-in-Unknown-clause-obeys
-returns-in-Unknown-clause-obeys g c = λ shelf setup old here. rw c.unsent.ensures ((refl, c.tell.ensures), (refl, refl))
+returns-in-Unknown-clause-obeys g c = λ shelf setup old here. rw c.unsent.ensures ((refl, c.tell.ensures.printed), (refl, refl))

@@ -22,7 +22,7 @@ pub returns-in-Err-clause-sends : goal.returns-in-Err-clause-sends
 returns-in-Err-clause-sends g c = λ shelf setup old here. record {
   cause_is = c.in-Err.ensures.cause;
   same = ap (λ (m : LiveState). moment m (around g.F.Folder g.O.Sink c.args.folder.now c.args.out.now) (messages g.E.Sink c.tell_refusal.new.err) c.args.end) c.in-Err.ensures.err;
-  told = c.tell_refusal.ensures;
+  told = c.tell_refusal.ensures.printed;
 }
 
 -- it was sent, and the board ran
