@@ -125,6 +125,9 @@ def refusals(cases):
         cases.check('a closed output', done.returncode == 5 and b'writing failed' in done.stderr)
     done = subprocess.run([cases.live], input=b'.save\n1\n', capture_output=True, timeout=100)
     cases.check('no record is asked for', done.returncode == 0 and b'nothing is saved' in done.stderr and b'value = 1' in done.stdout)
+    for name in ('--modules=a\nb', '--record=a\nb'):
+        done = subprocess.run([cases.live, name], input=b'1\n', capture_output=True, timeout=100)
+        cases.check('a name with a line end', done.returncode == 1 and done.stdout == b'' and b'line end' in done.stderr)
     done = subprocess.run([cases.live, '--limit=3'], input=b'', capture_output=True, timeout=100)
     cases.check('words of another program', done.returncode == 1 and done.stdout == b'')
 

@@ -3,11 +3,14 @@ pub mod CommandLemmas
 pub mod Flow
 pub mod Limits
 pub mod LivePromises
+pub mod Moving
 pub mod OtherFiles
 pub mod Outcomes
 pub mod Recording
+pub mod ReplayText
 pub mod Replays
 pub mod Sending
 pub mod Starting
+pub mod Ticking
 pub mod Typing
 pub mod Whole

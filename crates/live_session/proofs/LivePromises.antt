@@ -45,5 +45,5 @@ pub live_promised : PromiseLaw → (s : Status) (command : Option CommandState) 
 live_promised law s None devices before after leaves = leaves.1.outside
 live_promised law s (Some c) devices before after (inl refused) = inl refused.1.outside
 live_promised law s (Some c) devices before after (inr played) =
-    let kept = by_end law (shelf_of before.session.files c) (setup_of c devices) played.console played.ticks played.board before.session.logged after.session.logged played.end played.run in
-    inr (record { console = played.console; ticks = played.ticks; limit = kept.0; run = kept.1 })
+    let kept = by_end law (shelf_of before.session.files c) (setup_of c devices) played.live.console.bytes played.live.ticks.bytes played.live.board before.session.logged after.session.logged played.end played.run in
+    inr (record { console = played.live.console.bytes; ticks = played.live.ticks.bytes; limit = kept.0; run = kept.1 })

@@ -1,21 +1,26 @@
 -- The status of a session after its record was written, or not.
-use Rattle.std.proofs.Common.{◌≡◌, ◌≢◌, ℕ, Bool, List, Option, Result, Ok, Err, refl, sym, ap, ◌∙◌, subst, inr}
-use Rattle.std.specs.Prelude.{IfErr, OnOk}
+use Rattle.std.proofs.Common.{◌≡◌, ◌≢◌, ℕ, List, Option, Result, Ok, Err, true, refl, sym, ap, ◌∙◌, subst, inr}
+use Rattle.std.specs.Prelude.{IfErr, OnOk, is_ok}
 use Rattle.wind_session.specs.declared.run.RunEnd.{RunEnd}
 use Rattle.live_session.specs.Ending.{IsGoing}
-use Rattle.live_session.specs.Session.{IsStatusOf, IsStop, IsTyped, status_unless}
+use Rattle.live_session.specs.Session.{IsStatusOf, IsStop, IsTyped, Parts, status_unless}
 use Rattle.live_session.specs.declared.saving.Unsaved.{Unsaved}
 use Rattle.live_session.specs.declared.saving.Unsaved.TheVariants as unsaved
 use Rattle.live_session.specs.declared.status.Status.{Status}
 use Rattle.live_session.specs.declared.status.Status.TheVariants as status
 
--- ---- a record that was not written
+-- ---- a record that was written
+pub ok_holds : {A : Type 0} (written : Result A Unsaved) (holds : Type 0) → is_ok written ≡ true → OnOk written holds → holds
+ok_holds (Ok a) holds ok h = h
+ok_holds (Err failure) holds ok h = absurd (cc)
+
+-- ---- or not
 unless_status : (failure : Unsaved) (end : RunEnd) (s : Status) → IsStatusOf end s → IsStatusOf end (status_unless failure s)
 unless_status unsaved.Failed end status.Ended h = h
 unless_status unsaved.NoMemory end status.Ended h = inr h
 unless_status failure end s h = h
 
-unless_stop : (failure : Unsaved) (s : Status) (left : Option (List ℕ)) (parts : List (List ℕ × Bool)) → IsStop s left parts → IsStop (status_unless failure s) left parts
+unless_stop : (failure : Unsaved) (s : Status) (left : Option (List ℕ)) (parts : Parts) → IsStop s left parts → IsStop (status_unless failure s) left parts
 unless_stop unsaved.Failed status.Ended left parts h = h
 unless_stop unsaved.NoMemory status.Ended left parts h = tt
 unless_stop failure s left parts h = h
@@ -45,10 +50,11 @@ pub after_status : {A : Type 0} (written : Result A Unsaved) (s after : Status) 
 after_status (Ok a) s after end is h = subst (λ (t : Status). IsStatusOf end t) (sym is.ok) h
 after_status (Err failure) s after end is h = subst (λ (t : Status). IsStatusOf end t) (sym is.err) (unless_status failure end s h)
 
-pub after_typed : {A : Type 0} (written : Result A Unsaved) (s after : Status) (old new : Option (List ℕ)) (console : List ℕ) → IsAfter written s after → IsTyped s old new console → IsTyped after old new console
-after_typed (Ok a) s after old new console is h = subst (λ (t : Status). IsTyped t old new console) (sym is.ok) h
-after_typed (Err failure) s after old new console is h =
-    subst (λ (t : Status). IsTyped t old new console) (sym is.err) (record { parts = h.parts; taken = h.taken; parts_are = h.parts_are; sent = h.sent; stop = unless_stop failure s new h.parts h.stop })
+pub after_typed : {A : Type 0} (written : Result A Unsaved) (s after : Status) (old new : Option (List ℕ)) (console : List ℕ) (holds : Parts → Type 0) → IsAfter written s after → IsTyped s old new console holds → IsTyped after old new console holds
+after_typed (Ok a) s after old new console holds is h = subst (λ (t : Status). IsTyped t old new console holds) (sym is.ok) h
+after_typed (Err failure) s after old new console holds is h =
+    subst (λ (t : Status). IsTyped t old new console holds) (sym is.err)
+    (record { parts = h.parts; taken = h.taken; parts_are = h.parts_are; sent = h.sent; stop = unless_stop failure s new h.parts h.stop; quit_last = h.quit_last; held = h.held })
 
 pub after_recorded : {A : Type 0} (written : Result A Unsaved) (s after : Status) (recorded : Type 0) → IsAfter written s after → OnOk written recorded → after ≡ status.Ended → recorded
 after_recorded (Ok a) s after recorded is h e = h

@@ -1,5 +1,5 @@
 -- A session to which an event was sent.
-use Rattle.std.proofs.Common.{◌≡◌, ℕ, ◌+◌, ◌<◌, ◌≤◌, List, [], ◌∷◌, ◌++◌, length, sym, subst}
+use Rattle.std.proofs.Common.{◌≡◌, ℕ, ◌+◌, ◌<◌, ◌≤◌, List, [], ◌∷◌, ◌++◌, length, sym, subst, ap, ◌∙◌}
 use Rattle.wind_base.specs.Limits.{greatest_word, most_steps}
 use Rattle.wind_base.specs.OutBuf.{Output, appended}
 use Rattle.tick_file.specs.declared.event.Event.{Event}
@@ -9,12 +9,13 @@ use Rattle.wind_machine.specs.Extending.{IsRoom, Setup, bytes_asked, extended, m
 use Rattle.wind_session.specs.Live.{IsLive, TypedLaw}
 use Rattle.wind_session.specs.Modules.{Shelf}
 use Rattle.wind_session.specs.Outside.{Outside}
+use Rattle.live_session.specs.Moments.{IsSent, event_time}
 use Rattle.live_session.specs.Record.{IsRecord, IsWithinFile}
 use Rattle.live_session.specs.Seen.{LiveState, IsLiveAt, IsSound, StaysLive}
 use Rattle.live_session.proofs.Recording.{added, room_after, sent_live, within_file}
 
 -- an event at this time was sent and recorded, with its bytes and its line
-pub record IsSent (l m : LiveState) (time : ℕ) (event : Event) (bytes line : List ℕ) : Type 0 where
+pub record IsSentAt (l m : LiveState) (time : ℕ) (event : Event) (bytes line : List ℕ) : Type 0 where
   pub console : m.console ≡ appended l.console bytes
   pub ticks : m.ticks ≡ appended l.ticks line
   pub lines : m.lines ≡ l.lines + 1
@@ -29,7 +30,7 @@ pub record IsSent (l m : LiveState) (time : ℕ) (event : Event) (bytes line : L
   pub console_room : length bytes ≤ l.console.room
   pub ticks_room : length line ≤ l.ticks.room
 
-module _ (more : MoreLaw) (l m : LiveState) (time : ℕ) (event : Event) (bytes line : List ℕ) (sound : IsSound l) (s : IsSent l m time event bytes line) where
+module _ (more : MoreLaw) (l m : LiveState) (time : ℕ) (event : Event) (bytes line : List ℕ) (sound : IsSound l) (s : IsSentAt l m time event bytes line) where
   sent_sound : IsSound m
   sent_sound = record {
     kept =
@@ -55,5 +56,16 @@ module _ (more : MoreLaw) (l m : LiveState) (time : ℕ) (event : Event) (bytes 
       (subst (λ (text : Output). IsLive shelf setup text.bytes (l.ticks.bytes ++ line) grown old now) (sym s.console)
       (sent_live law more shelf setup l.console.bytes l.ticks l.lines l.last time event bytes line l.board old now sound.kept s.late s.fits s.range s.asked s.later s.line_is live)))
 
-  pub sent_stays : TypedLaw → StaysLive l m
-  sent_stays law = record { sound = sent_sound; live = sent_at law }
+  -- its time is the one that the moment asks for
+  sent_is : time ≡ event_time l → IsSent event bytes l m
+  sent_is e = record {
+    console = ap (λ (o : Output). o.bytes) s.console;
+    ticks =
+        ap (λ (o : Output). o.bytes) s.ticks ∙ ap (λ text. l.ticks.bytes ++ text) s.line_is
+        ∙ ap (λ t. l.ticks.bytes ++ (event_line t event ++ 10 ∷ [])) e;
+    last = s.last ∙ e;
+    board = s.board ∙ ap (λ t. extended (more_of bytes (l.lines + 1) t event l.board.schedule.on_demand) l.board) e;
+  }
+
+  pub sent_stays : time ≡ event_time l → TypedLaw → IsSent event bytes l m × StaysLive l m
+  sent_stays e law = (sent_is e, record { sound = sent_sound; live = sent_at law })

@@ -93,4 +93,4 @@ module _ (law : WritingLaw) (slots : List (Option DeviceState)) (profile : Profi
 
   pub new_begins : Begins (record { slots = slots; profile = profile; board = kind }) l
   unfolding setup
-  new_begins = record { sound = new_sound; empty = n.console; live = new_live }
+  new_begins = record { sound = new_sound; empty = n.console; no_ticks = n.ticks; no_steps = no_steps setup l.board at_boot; live = new_live }

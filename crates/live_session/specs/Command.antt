@@ -1,5 +1,6 @@
 -- What the arguments of the command line ask for, by the definition of a simple command of `clap`.
-use Rattle.std.specs.Prelude.{ℕ, Bool, List, [], Option, Some, codes}
+use Rattle.std.specs.Prelude.{ℕ, Bool, not, ◌&&◌, ◌==◌, if◌then◌else◌, List, [], Option, None, Some, codes}
+use Rattle.std.specs.List.{list_all}
 use Rattle.std.specs.Str.{bytes_eq}
 use Rattle.wind_base.specs.Limits.{most_steps}
 use Rattle.wind_base.specs.declared.board_kind.BoardKind.{BoardKind}
@@ -9,7 +10,7 @@ use Rattle.clap.specs.declared.builder.action.ArgAction.TheVariants.{SetTrue}
 use Rattle.wind_session.specs.Command.{board_options_value, if_valid, number_value, rows_given, value_of, with_board_options, with_option}
 
 -- a command: the folder of modules, the folder for the record, whether a record that is there may be replaced, the most
--- steps between two lines, the rule of inheritance, and the kind of board
+-- steps after a part that was sent and after each tick, the rule of inheritance, and the kind of board
 pub record CommandState : Type 0 where
   pub modules : List ℕ
   pub record_folder : List ℕ
@@ -32,11 +33,20 @@ app =
     (new_app (codes "windlive")))
     (flag_rule (codes "force"))))
 
+-- a name stands in one line
+abbrev pub is_one_line : Text → Bool
+is_one_line name = list_all (λ byte. not (byte == 10)) name
+
+-- both names do, since a record has each of them in a line of its own
+abbrev pub names_value : Text → Text → Option (Unit {0})
+names_value modules record_folder = if is_one_line modules && is_one_line record_folder then Some tt else None
+
 -- the command of clap's matches; none if a value is invalid
 abbrev pub command_of_rows : List Row → Option CommandState
 command_of_rows rows =
     if_valid (number_value most_steps (value_of (codes "quiet-after") rows)) (λ quiet_after.
     if_valid (board_options_value rows) (λ options.
+    if_valid (names_value options.modules (value_of (codes "record") rows)) (λ names.
     Some (record {
       modules = options.modules;
       record_folder = value_of (codes "record") rows;
@@ -44,7 +54,7 @@ command_of_rows rows =
       quiet_after = quiet_after;
       profile = options.profile;
       board = options.board;
-    })))
+    }))))
 
 -- the command that these words give, or none if clap refuses them or a value is invalid; the first word is the program's
 -- name

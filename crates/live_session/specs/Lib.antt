@@ -5,6 +5,8 @@ pub mod Folder
 pub mod Input
 pub mod LiveAround
 pub mod MemFolder
+pub mod Moments
+pub mod Obeying
 pub mod Positions
 pub mod Promised
 pub mod Record
@@ -12,4 +14,5 @@ pub mod Saving
 pub mod Seen
 pub mod Session
 pub mod Status
+pub mod Telling
 pub mod Words

@@ -27,6 +27,14 @@ live_around input folder sink records i f o d = record {
   record_faults = records.faults d;
 }
 
+-- the files of the record's folder, and the count of its faults
+pub record Store : Type 0 where
+  pub files : Option Files
+  pub faults : ℕ
+
+abbrev pub store : {D : Type 0} → RecordGhosts D → D → Store
+store records d = record { files = records.files d; faults = records.faults d }
+
 -- reading the input or a module failed
 abbrev pub ReadFailed : LiveAround → LiveAround → Type 0
 ReadFailed before after = Rose before.input_faults after.input_faults ⊎ FolderFailed before.session after.session

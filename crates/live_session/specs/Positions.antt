@@ -1,12 +1,12 @@
 -- Where the input is, and what a part of it sends to the board.
-use Rattle.std.specs.Prelude.{ℕ, ◌-◌, Bool, ◌==◌, if◌then◌else◌, List, [], ◌∷◌, length, slice_index, Option, Some, None}
+use Rattle.std.specs.Prelude.{ℕ, ◌-◌, Bool, ◌==◌, if◌then◌else◌, List, [], ◌∷◌, length, slice_index}
 use Rattle.live_session.specs.DotLines.{is_dotted, dot_line_of}
 use Rattle.live_session.specs.declared.dot_line.DotLine.{DotLine}
 use Rattle.live_session.specs.declared.dot_line.DotLine.TheVariants.{Break}
 use Rattle.live_session.specs.declared.serving.Position.{Position}
 use Rattle.live_session.specs.declared.serving.Position.TheVariants.{Start, Text, Command}
-use Rattle.live_session.specs.declared.serving.Then.{Then}
-use Rattle.live_session.specs.declared.serving.Then.TheVariants as thens
+use Rattle.live_session.specs.declared.serving.Request.{Request}
+use Rattle.live_session.specs.declared.serving.Request.TheVariants.{Send, Skip, Obey}
 
 -- the part ends a line
 abbrev pub ends_line : List ℕ → Bool
@@ -21,27 +21,19 @@ inside_after Command part = Command
 abbrev pub position_after : Position → List ℕ → Position
 position_after position part = if ends_line part then Start else inside_after position part
 
+-- what a part asks for: its bytes are for the board, or it begins a line for the program, or it goes on in one
+abbrev pub request_of : Position → List ℕ → Request
+request_of Start part = if is_dotted part then Obey (dot_line_of part) else Send
+request_of Text part = Send
+request_of Command part = Skip
+
 -- a line for the program sends 0x03 if it is `.break`, and nothing otherwise
 abbrev pub dot_sent : DotLine → List ℕ
 dot_sent Break = 3 ∷ []
 dot_sent line = []
 
--- what a part of the input sends: itself, unless it belongs to a line for the program
-abbrev pub sent_of : Position → List ℕ → List ℕ
-sent_of Start part = if is_dotted part then dot_sent (dot_line_of part) else part
-sent_of Text part = part
-sent_of Command part = []
-
--- what a part asks the program for, if it begins a line for the program
-abbrev pub asked_by : Position → List ℕ → Option DotLine
-asked_by Start part = if is_dotted part then Some (dot_line_of part) else None
-asked_by Text part = None
-asked_by Command part = None
-
--- what follows a part leaves the board as it is
-abbrev pub IsIdle : Then → Type 0
-IsIdle thens.Nothing = Unit {0}
-IsIdle thens.State = Unit {0}
-IsIdle thens.Save = Unit {0}
-IsIdle thens.Quit = Unit {0}
-IsIdle follows = ⊥
+-- what a part sends: itself, unless it belongs to a line for the program
+abbrev pub sent_of : Request → List ℕ → List ℕ
+sent_of Send part = part
+sent_of Skip part = []
+sent_of (Obey line) part = dot_sent line

@@ -11,9 +11,9 @@ abbrev pub last_time : ℕ → List (ℕ × Event) → ℕ
 last_time time [] = time
 last_time time (x ∷ xs) = last_time x.0 xs
 
--- a text has room for more, up to the longest text file
+-- a text has room for more, up to the longest text file, and for no more
 abbrev pub IsWithinFile : Output → Type 0
-IsWithinFile text = length text.bytes + text.room ≤ longest_text_file
+IsWithinFile text = length text.bytes + text.room ≡ longest_text_file
 
 -- a tick file has one line for each of some events, which a tick file can hold; these are the number of its lines and the
 -- last time

@@ -7,7 +7,9 @@ use Rattle.wind_base.specs.declared.board_kind.BoardKind.TheVariants as boards
 use Rattle.wind_base.specs.declared.profile.Profile.{Profile}
 use Rattle.wind_base.specs.declared.profile.Profile.TheVariants as profiles
 use Rattle.wind_outside.specs.Files.{Files}
+use Rattle.wind_session.specs.Command.{CommandState as SessionCommand, command_of as session_command}
 use Rattle.wind_session.specs.Paths.{path_in}
+use Rattle.wind_session.specs.declared.command.Source.TheVariants as sources
 use Rattle.live_session.specs.Command.{CommandState}
 use Rattle.live_session.specs.Folder.{Replaced}
 
@@ -79,6 +81,38 @@ command_text c limit =
     ++ (word_line (codes "--profile=") (profile_digit c.profile)
     ++ (word_line (codes "--board=") (board_digit c.board)
     ++ word_line (codes "--limit=") (decimal limit)))))
+
+-- the same words, and their text
+abbrev pub command_words : CommandState → ℕ → List (List ℕ)
+command_words c limit =
+    (codes "--console=" ++ console_path c.record_folder)
+    ∷ (codes "--ticks=" ++ ticks_path c.record_folder)
+    ∷ (codes "--modules=" ++ c.modules)
+    ∷ (codes "--profile=" ++ profile_digit c.profile)
+    ∷ (codes "--board=" ++ board_digit c.board)
+    ∷ (codes "--limit=" ++ decimal limit)
+    ∷ []
+
+abbrev pub word_lines : List (List ℕ) → List ℕ
+word_lines [] = []
+word_lines (word ∷ words) = word ++ 10 ∷ word_lines words
+
+-- windplay's command for the replay: the two files, the same modules and board, and this limit
+abbrev pub replay_of : CommandState → ℕ → SessionCommand
+replay_of c limit = record {
+  console = console_path c.record_folder;
+  ticks = ticks_path c.record_folder;
+  modules = c.modules;
+  limit = limit;
+  source = sources.Files;
+  profile = c.profile;
+  board = c.board;
+}
+
+-- the text has one word in each line, and windplay takes the words for the replay
+pub record IsReplayText (c : CommandState) (limit : ℕ) : Type 0 where
+  pub lines : command_text c limit ≡ word_lines (command_words c limit)
+  pub command : session_command (codes "windplay" ∷ command_words c limit) ≡ Some (replay_of c limit)
 
 -- the three files of a command's record were written, the words last, and no other
 pub record IsSaved (c : CommandState) (console ticks : List ℕ) (limit : ℕ) (old new : Option Files) : Type 0 where

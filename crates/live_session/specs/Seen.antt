@@ -1,5 +1,5 @@
 -- A live session as plain data.
-use Rattle.std.specs.Prelude.{◌≡◌, ◌⊎◌, ℕ, ◌+◌, ◌≤◌, List, [], ◌++◌}
+use Rattle.std.specs.Prelude.{◌≡◌, ℕ, ◌+◌, ◌≤◌, List, []}
 use Rattle.std.specs.declared.dyn_box.DynBox.{DynBox}
 use Rattle.std.specs.declared.alloc.Global.{Global}
 use Rattle.wind_base.specs.Limits.{most_steps}
@@ -60,10 +60,6 @@ pub record IsSound (l : LiveState) : Type 0 where
 abbrev pub IsLiveAt : Shelf → Setup → LiveState → Outside → Outside → Type 0
 IsLiveAt shelf setup l old now = IsLive shelf setup l.console.bytes l.ticks.bytes l.board old now
 
--- these bytes were sent, or refused; if they were refused, nothing has changed
-abbrev pub Sends : List ℕ → LiveState → LiveState → Type 0
-Sends bytes l m = (m.console.bytes ≡ l.console.bytes ++ bytes) ⊎ (m ≡ l)
-
 -- the board has run, which ended like this
 abbrev pub IsRun : RunEnd → Shelf → Setup → LiveState → Outside → Outside → Type 0
 IsRun end shelf setup l old now = IsAfterRun end shelf setup l.console.bytes l.ticks.bytes l.board old now
@@ -76,17 +72,14 @@ pub record GoesOn (end : RunEnd) (shelf : Shelf) (l : LiveState) (now : Outside)
 pub record Begins (setup : Setup) (l : LiveState) : Type 0 where
   pub sound : IsSound l
   pub empty : l.console.bytes ≡ []
+  pub no_ticks : l.ticks.bytes ≡ []
+  pub no_steps : l.board.steps ≡ 0
   pub live : (shelf : Shelf) (old : Outside) → IsLiveAt shelf setup l old old
 
 -- what is sent keeps a session sound, and live if it is
 pub record StaysLive (l m : LiveState) : Type 0 where
   pub sound : IsSound m
   pub live : (shelf : Shelf) (setup : Setup) (old now : Outside) → IsLiveAt shelf setup l old now → IsLiveAt shelf setup m old now
-
--- these bytes were sent, or refused
-pub record Delivers (bytes : List ℕ) (l m : LiveState) : Type 0 where
-  pub stays : StaysLive l m
-  pub sent : Sends bytes l m
 
 -- the board has run, which ended like this, with the modules of the folder with this name
 pub record Runs (end : RunEnd) (modules : List ℕ) (l : LiveState) (before : Around) (m : LiveState) (after : Around) : Type 0 where

@@ -1,11 +1,12 @@
 -- What a live session leaves.
-use Rattle.std.specs.Prelude.{◌≡◌, ◌≢◌, ◌⊎◌, ◌↔◌, ℕ, ◌-◌, ◌^◌, Bool, false, List, [], ◌∷◌, ◌++◌, Option, Some, None, IfSome, if◌then◌else◌, length}
+use Rattle.std.specs.Prelude.{◌≡◌, ◌≢◌, ◌⊎◌, ◌↔◌, ℕ, ◌-◌, ◌^◌, false, List, [], ◌∷◌, ◌++◌, Option, Some, None, IfSome, length}
 use Rattle.std.specs.Option.{option_map}
 use Rattle.wind_outside.specs.Devices.{DeviceState}
 use Rattle.wind_outside.specs.Files.{Files}
 use Rattle.wind_machine.specs.State.{State}
 use Rattle.wind_machine.specs.Extending.{Setup, booted}
 use Rattle.tick_file.specs.Schedule.{timetable_of}
+use Rattle.wind_session.specs.Keeping.{Around, Messages}
 use Rattle.wind_session.specs.Modules.{Shelf}
 use Rattle.wind_session.specs.Outside.{Outside}
 use Rattle.wind_session.specs.Plan.{Start, plan_of}
@@ -15,21 +16,26 @@ use Rattle.wind_session.specs.declared.run.RunEnd.TheVariants as ends
 use Rattle.live_session.specs.Command.{CommandState}
 use Rattle.live_session.specs.Ending.{IsAfterRun, IsGoing, is_quiet}
 use Rattle.live_session.specs.Input.{IsLongest, IsPart, Takes}
-use Rattle.live_session.specs.LiveAround.{LiveAround, ReadFailed, RecordFailed, WriteFailed}
-use Rattle.live_session.specs.Positions.{position_after, sent_of, asked_by}
-use Rattle.live_session.specs.Saving.{IsFree, IsSaved, IsTaken, WritesOnly, replay_limit}
+use Rattle.live_session.specs.LiveAround.{LiveAround, ReadFailed, RecordFailed, Store, WriteFailed}
+use Rattle.live_session.specs.Moments.{Moment, RunsFor, moment}
+use Rattle.live_session.specs.Obeying.{Serves}
+use Rattle.live_session.specs.Positions.{position_after, request_of, sent_of}
+use Rattle.live_session.specs.Saving.{IsFree, IsReplayText, IsSaved, IsTaken, WritesOnly, replay_limit}
+use Rattle.live_session.specs.Seen.{Begins, LiveState}
 use Rattle.live_session.specs.declared.dot_line.DotLine.TheVariants as lines
+use Rattle.live_session.specs.declared.record.Refusal.{Refusal}
 use Rattle.live_session.specs.declared.saving.Unsaved.{Unsaved}
 use Rattle.live_session.specs.declared.saving.Unsaved.TheVariants as unsaved
 use Rattle.live_session.specs.declared.serving.Position.{Position}
 use Rattle.live_session.specs.declared.serving.Position.TheVariants.{Start as LineStart}
+use Rattle.live_session.specs.declared.serving.Request.TheVariants as requests
 use Rattle.live_session.specs.declared.status.Status.{Status}
 use Rattle.live_session.specs.declared.status.Status.TheVariants as status
 
 -- ---- what was typed
--- the parts of the input that were taken, each with whether what it sends was sent, and not refused
+-- the parts of the input that were taken, each with why it was not sent, if it was refused
 abbrev pub Parts : Type 0
-Parts = List (List ℕ × Bool)
+Parts = List (List ℕ × Option Refusal)
 
 abbrev pub joined : Parts → List ℕ
 joined [] = []
@@ -45,17 +51,32 @@ abbrev pub position_of : Position → Parts → Position
 position_of position [] = position
 position_of position (x ∷ xs) = position_of (position_after position x.0) xs
 
+-- these bytes, if they were not refused
+abbrev pub sent_unless : Option Refusal → List ℕ → List ℕ
+sent_unless None bytes = bytes
+sent_unless (Some cause) bytes = []
+
 -- what they sent to the console
 abbrev pub sent_by : Position → Parts → List ℕ
 sent_by position [] = []
-sent_by position (x ∷ xs) = (if x.1 then sent_of position x.0 else []) ++ sent_by (position_after position x.0) xs
+sent_by position (x ∷ xs) = sent_unless x.1 (sent_of (request_of position x.0) x.0) ++ sent_by (position_after position x.0) xs
 
--- the last of them is the line `.quit`
+-- none of them is the line `.quit`
+abbrev pub NoneQuits : Position → Parts → Type 0
+NoneQuits position [] = Unit {0}
+NoneQuits position (x ∷ xs) = (request_of position x.0 ≢ requests.Obey lines.Quit) × NoneQuits (position_after position x.0) xs
+
+-- the last of them is the line `.quit`, and no other
 pub record EndsByQuit (parts : Parts) : Type 0 where
   pub before : Parts
-  pub last : List ℕ × Bool
+  pub last : List ℕ × Option Refusal
   pub parts_are : parts ≡ before ++ last ∷ []
-  pub quits : asked_by (position_of LineStart before) last.0 ≡ Some lines.Quit
+  pub none : NoneQuits LineStart before
+  pub quits : request_of (position_of LineStart before) last.0 ≡ requests.Obey lines.Quit
+
+-- no part follows the line `.quit`
+abbrev pub IsQuitLast : Parts → Type 0
+IsQuitLast parts = NoneQuits LineStart parts ⊎ EndsByQuit parts
 
 -- the most parts that a session takes: no computer reaches it
 abbrev pub most_parts : ℕ
@@ -71,13 +92,29 @@ IsStop status.Ended left parts = IsWhole left parts
 IsStop status.Unrecorded left parts = IsWhole left parts
 IsStop s left parts = Unit {0}
 
--- these bytes were sent, and they are those of the parts that were taken from the input
-pub record IsTyped (s : Status) (old new : Option (List ℕ)) (console : List ℕ) : Type 0 where
+-- these bytes were sent, and they are those of the parts that were taken from the input; and this holds of the parts
+pub record IsTyped (s : Status) (old new : Option (List ℕ)) (console : List ℕ) (holds : Parts → Type 0) : Type 0 where
   pub parts : Parts
   pub taken : Takes old new (joined parts)
   pub parts_are : AreParts parts new
   pub sent : console ≡ sent_by LineStart parts
   pub stop : IsStop s new parts
+  pub quit_last : IsQuitLast parts
+  pub held : holds parts
+
+-- ---- what the parts did
+-- the board could go on before each part, and each did what it asks for
+abbrev pub AreServed : CommandState → Shelf → Setup → Outside → Position → Parts → Moment → Moment → Store → Store → Type 0
+AreServed c shelf setup old position [] now later before after = (later ≡ now) × (after ≡ before)
+AreServed c shelf setup old position (x ∷ xs) now later before after =
+    (next : Moment) × (mid : Store) × IsGoing now.end × Serves c (request_of position x.0) x.0 x.1 shelf setup old now next before mid
+    × AreServed c shelf setup old (position_after position x.0) xs next later mid after
+
+-- the board ran, and then the parts were served
+pub record IsTalk (c : CommandState) (parts : Parts) (shelf : Shelf) (setup : Setup) (old : Outside) (begin : LiveState) (around : Around) (later : Moment) (before after : Store) : Type 0 where
+  pub first : Moment
+  pub opening : RunsFor c.quiet_after shelf setup old begin around first
+  pub served : AreServed c shelf setup old LineStart parts first later before after
 
 -- ---- how it ended
 -- the status, given how the board's last run ended: reading may also fail, and memory may also run out, outside the board
@@ -111,12 +148,13 @@ abbrev pub shelf_of : Option Files → CommandState → Shelf
 shelf_of modules c = record { files = modules; name = c.modules }
 
 -- the record was written, with this limit: a run of it by windplay, up to this limit, leaves what the session left. One
--- step more is allowed if the session's last run ended because no step was left
-pub record IsRecorded (end : RunEnd) (c : CommandState) (shelf : Shelf) (setup : Setup) (console ticks : List ℕ) (board : State) (old now : Outside) (new : Option Files) : Type 0 where
+-- step more is allowed if the session's last run ended because no step was left. windplay takes the record's words for
+-- this run
+pub record IsRecorded (end : RunEnd) (c : CommandState) (shelf : Shelf) (setup : Setup) (console ticks : List ℕ) (board : State) (old now : Outside) (before new : Option Files) : Type 0 where
   pub replay_end : RunEnd
   pub going : IsGoing replay_end
   pub replay : Ran replay_end shelf (booted setup console (timetable_of ticks)) (replay_limit board.steps (is_quiet end)) board old now
-  pub before : Option Files
+  pub replay_text : IsReplayText c (replay_limit board.steps (is_quiet end))
   pub saved : IsSaved c console ticks (replay_limit board.steps (is_quiet end)) before new
 
 -- ---- a session that was played
@@ -125,20 +163,26 @@ abbrev pub IsPermitted : CommandState → Option Files → Type 0
 IsPermitted c files = c.record_folder ≢ [] → c.force ≡ false → IsFree c.record_folder files
 
 -- a session was played with these arguments: its console file and its tick file, for which windplay starts a run; the
--- board of the first steps of that run; and what was shown is the text of these steps
+-- board of the first steps of that run; and what was shown is the text of these steps. It began with an empty record, and
+-- each part of the input did what it asks for, until the record was written at the end
 pub record Played (s : Status) (c : CommandState) (devices : List (Option DeviceState)) (before after : LiveAround) : Type 0 where
-  pub console : List ℕ
-  pub ticks : List ℕ
-  pub board : State
+  pub begin : LiveState
+  pub live : LiveState
   pub end : RunEnd
-  pub planned : plan_of (Some console) (Some ticks) ≡ Start console (timetable_of ticks)
-  pub run : IsAfterRun end (shelf_of before.session.files c) (setup_of c devices) console ticks board before.session.logged after.session.logged
+  pub told : Messages
+  pub opened : Store
+  pub closed : Store
+  pub planned : plan_of (Some live.console.bytes) (Some live.ticks.bytes) ≡ Start live.console.bytes (timetable_of live.ticks.bytes)
+  pub run : IsAfterRun end (shelf_of before.session.files c) (setup_of c devices) live.console.bytes live.ticks.bytes live.board before.session.logged after.session.logged
   pub status_is : IsStatusOf end s
-  pub typed : IsTyped s before.input after.input console
+  pub begins : Begins (setup_of c devices) begin
+  pub opened_is : opened.files ≡ before.records
+  pub typed : IsTyped s before.input after.input live.console.bytes
+      (λ parts. IsTalk c parts (shelf_of before.session.files c) (setup_of c devices) before.session.logged begin before.session (moment live after.session told end) opened closed)
   pub permitted : IsPermitted c before.records
   pub writes : WritesOnly c.record_folder before.records after.records
   pub recorded : s ≡ status.Ended → c.record_folder ≢ []
-      → IsRecorded end c (shelf_of before.session.files c) (setup_of c devices) console ticks board before.session.logged after.session.logged after.records
+      → IsRecorded end c (shelf_of before.session.files c) (setup_of c devices) live.console.bytes live.ticks.bytes live.board before.session.logged after.session.logged closed.files after.records
   pub unrecorded : s ≡ status.Unrecorded → (c.record_folder ≢ []) × RecordFailed before after
 
 -- ---- a session that was not played

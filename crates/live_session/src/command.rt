@@ -4,7 +4,7 @@ ghost use Rattle.std.specs.Prelude.{◌≡◌, ◌≢◌, ◌≤◌, false, IfOk
 ghost use Rattle.std.specs.Str.{bytes_eq};
 ghost use Rattle.clap.specs.Words.{app_of, found_of, rows_of, rule_of};
 ghost use Rattle.wind_base.specs.Limits.{most_steps};
-ghost use Rattle.live_session.specs.Command.{app as app_lem, command_of as command_of_lem, flag_rule};
+ghost use Rattle.live_session.specs.Command.{app as app_lem, command_of as command_of_lem, flag_rule, is_one_line as is_one_line_lem, names_value};
 ghost use Rattle.live_session.specs.Words.{command_state};
 ghost use Rattle.wind_session.specs.Command.{value_of as value_of_lem};
 ghost use Rattle.wind_session.specs.declared.command.CommandErr.TheVariants as errors;
@@ -27,7 +27,7 @@ pub struct Command<'a> {
     pub record: &'a str,
     /// Whether a record that is there may be replaced.
     pub force: bool,
-    /// The most steps between two lines.
+    /// The most steps after a part that was sent, and after each tick.
     pub quiet_after: u64,
     /// The rule of inheritance.
     pub profile: Profile,
@@ -37,6 +37,9 @@ pub struct Command<'a> {
 
 // The message for an invalid number of steps.
 const BAD_STEPS: &str = "'--quiet-after <N>' takes 1 to 13 digits, and at most 1000000000000";
+
+// The message for a name that has no line of a record to itself.
+const BAD_NAME: &str = "'--modules <DIR>' and '--record <DIR>' take no name with a line end";
 
 // Where the record goes.
 const RECORD_HELP: &str = "\
@@ -76,6 +79,24 @@ fn is_given(matches: &ArgMatches, name: &str) -> bool
     value_of(matches, name) == "true"
 }
 
+// Whether a name stands in one line.
+fn is_one_line(name: &str) -> bool
+    ensures { result ≡ is_one_line_lem name.now }
+{
+    name.as_bytes().iter().all(|byte| *byte != b'\n')
+}
+
+// Both names, if each stands in one line.
+fn names(modules: &str, record: &str) -> Option<()>
+    ensures { result ≡ names_value modules.now record.now }
+{
+    if is_one_line(modules) && is_one_line(record) {
+        Some(())
+    } else {
+        None
+    }
+}
+
 /// The command of these words; the first word is the program's name.
 #[tactic(auto, unfolding(crate::specs::Command::command_of))]
 pub fn command_of<'a>(alloc: Global, words: &'a [&'a str]) -> Result<Command<'a>, CommandErr>
@@ -88,9 +109,12 @@ pub fn command_of<'a>(alloc: Global, words: &'a [&'a str]) -> Result<Command<'a>
     let steps = number_of(&matches, "quiet-after", STEPS);
     let quiet_after = valid(alloc, &mut app, steps, BAD_STEPS)?;
     let options = board_options_of(alloc, &mut app, &matches)?;
+    let record = value_of(&matches, "record");
+    let names = names(options.modules, record);
+    valid(alloc, &mut app, names, BAD_NAME)?;
     Ok(Command {
         modules: options.modules,
-        record: value_of(&matches, "record"),
+        record,
         force: is_given(&matches, "force"),
         quiet_after,
         profile: options.profile,

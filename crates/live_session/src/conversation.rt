@@ -1,34 +1,48 @@
 //! A conversation: one part of the input after another, and what follows each.
 
-ghost use Rattle.std.specs.Prelude.{◌≡◌, ◌≢◌, ◌⊎◌, ◌≤◌, ◌↔◌, [], IsTrue, Err, IfOk, IfErr, OnErr, IfSome};
+ghost use Rattle.std.specs.Prelude.{◌≡◌, ◌≢◌, ◌⊎◌, ◌≤◌, ◌↔◌, ◌++◌, [], IsTrue, None, Err, IfOk, IfErr, OnErr, IfSome};
 ghost use Rattle.wind_outside.specs.Counts.{Rose};
 ghost use Rattle.wind_machine.specs.Machine.{IsOver};
-ghost use Rattle.wind_session.specs.Keeping.{around};
+ghost use Rattle.wind_session.specs.Keeping.{around, messages};
 ghost use Rattle.wind_session.specs.declared.run.RunEnd.TheVariants as ends;
 ghost use Rattle.live_session.specs.Ending.{IsGoing};
 ghost use Rattle.live_session.specs.Input.{Takes, IsPart, IsLongest};
-ghost use Rattle.live_session.specs.Positions.{IsIdle};
+ghost use Rattle.live_session.specs.LiveAround.{store};
+ghost use Rattle.live_session.specs.Moments.{Wherever, moment};
+ghost use Rattle.live_session.specs.Obeying.{Obeys, Serves};
+ghost use Rattle.live_session.specs.Positions.{dot_sent, sent_of};
 ghost use Rattle.live_session.specs.Saving.{WritesOnly};
 ghost use Rattle.live_session.specs.Seen.{live_seen, IsSound, Runs};
-ghost use Rattle.live_session.specs.Session.{IsStatusOf, IsTyped, status_of};
-ghost use Rattle.live_session.specs.Words.{IsTarget};
+ghost use Rattle.live_session.specs.Session.{IsStatusOf, IsTalk, IsTyped, sent_unless, status_of};
+ghost use Rattle.live_session.specs.Words.{command_state, IsTarget};
+ghost use Rattle.live_session.specs.declared.dot_line.DotLine.TheVariants as lines;
+ghost use Rattle.live_session.specs.declared.serving.Request.TheVariants as requests;
 ghost use Rattle.live_session.specs.declared.status.Status.TheVariants as status;
 
+use crate::dot_line::DotLine;
 use crate::input::{Input, InputPart};
-use crate::keeping::write_record;
+use crate::keeping::save_now;
 use crate::live::Live;
-use crate::messages::{tell, tell_of, tell_state};
+use crate::messages::{tell, tell_help, tell_state};
 use crate::record_folder::RecordFolder;
-use crate::running::run;
+use crate::running::{Served, run, run_ticks, send_and_run};
 use crate::saving::Target;
-use crate::serving::{Position, Then, position_after, take_part};
+use crate::serving::{Position, Request, position_after, request_of};
 use crate::status::Status;
 use std::alloc::Global;
+use tick_file::Event;
 use wind_outside::{Device, Folder, Sink};
 use wind_session::RunEnd;
 
-// Does what follows a part of the input. Returns how the board's last run ended.
-fn act<F: Folder, O: Sink, E: Sink, D: RecordFolder>(
+// Nothing was sent or refused since a run that ended like this.
+fn unsent(end: RunEnd) -> Served
+    ensures { result ≡ record { end = end; refusal = None } }
+{
+    Served { end, refusal: None }
+}
+
+// Does what a line for the program asks for.
+fn obey<F: Folder, O: Sink, E: Sink, D: RecordFolder>(
     alloc: Global,
     target: Target,
     live: &mut Live,
@@ -36,44 +50,108 @@ fn act<F: Folder, O: Sink, E: Sink, D: RecordFolder>(
     out: &mut O,
     err: &mut E,
     records: &mut D,
-    then: Then,
+    line: DotLine,
     end: RunEnd,
-) -> RunEnd
+) -> Served
     requires target { IsTarget target }
     requires going { IsGoing end }
-    requires over { end ≡ ends.Quiet → IsIdle then → IsOver (live_seen ⟦<dyn Device as Device>⟧ live.old).board }
+    requires over { end ≡ ends.Quiet → IsOver (live_seen ⟦<dyn Device as Device>⟧ live.old).board }
     requires sound { IsSound (live_seen ⟦<dyn Device as Device>⟧ live.old) }
-    ensures runs { Runs result target.entry.command.now.modules.now
+    ensures runs { Runs result.end target.entry.command.now.modules.now
         (live_seen ⟦<dyn Device as Device>⟧ live.old) (around ⟦<F as Folder>⟧ ⟦<O as Sink>⟧ folder.old out.old)
         (live_seen ⟦<dyn Device as Device>⟧ live.new) (around ⟦<F as Folder>⟧ ⟦<O as Sink>⟧ folder.new out.new) }
     ensures console { (live_seen ⟦<dyn Device as Device>⟧ live.new).console.bytes
-        ≡ (live_seen ⟦<dyn Device as Device>⟧ live.old).console.bytes }
+        ≡ (live_seen ⟦<dyn Device as Device>⟧ live.old).console.bytes ++ sent_unless result.refusal (dot_sent line) }
+    ensures obeys { Wherever target.entry.command.now.modules.now
+        (live_seen ⟦<dyn Device as Device>⟧ live.old) (around ⟦<F as Folder>⟧ ⟦<O as Sink>⟧ folder.old out.old)
+        (λ shelf setup old. Obeys (command_state target.entry.command.now) line result.refusal shelf setup old
+        (moment (live_seen ⟦<dyn Device as Device>⟧ live.old) (around ⟦<F as Folder>⟧ ⟦<O as Sink>⟧ folder.old out.old)
+        (messages ⟦<E as Sink>⟧ err.old) end)
+        (moment (live_seen ⟦<dyn Device as Device>⟧ live.new) (around ⟦<F as Folder>⟧ ⟦<O as Sink>⟧ folder.new out.new)
+        (messages ⟦<E as Sink>⟧ err.new) result.end)
+        (store ⟦<D as RecordFolder>⟧ records.old) (store ⟦<D as RecordFolder>⟧ records.new)) }
     ensures writes { WritesOnly target.entry.command.now.record.now (D.files records.old) (D.files records.new) }
     ensures record_faults { D.faults records.old ≤ D.faults records.new }
 {
-    match then {
-        Then::Nothing | Then::Quit => end,
-        Then::Sent => RunEnd::Limit,
-        Then::Run(most) => run(alloc, target.command, live, folder, out, err, most, 0),
-        Then::Ticks(ticks) => {
-            let most = target.command.quiet_after;
-            run(alloc, target.command, live, folder, out, err, most, ticks)
+    let command = target.command;
+    match line {
+        DotLine::Ticks(ticks) => unsent(run_ticks(alloc, command, live, folder, out, err, ticks)),
+        DotLine::Run(most) => unsent(run(alloc, command, live, folder, out, err, most)),
+        DotLine::Break => {
+            let abort = Event::Rx(1);
+            send_and_run(alloc, command, live, folder, out, err, abort, b"\x03", end)
         }
-        Then::State => {
+        DotLine::State => {
             tell_state(alloc, err, live);
-            end
+            unsent(end)
         }
-        Then::Save if target.command.record.is_empty() => {
-            tell(err, b"nothing is saved without --record");
-            end
+        DotLine::Save => {
+            save_now(alloc, target, live, err, records, end);
+            unsent(end)
         }
-        Then::Save => {
-            if write_record(alloc, target, live, err, records, end).is_ok() {
-                let name = target.command.record.as_bytes();
-                tell_of(err, name, b": the record was written\n");
-            }
-            end
+        DotLine::Quit => unsent(end),
+        DotLine::Help => {
+            tell_help(err);
+            unsent(end)
         }
+        DotLine::Unknown => {
+            tell(err, b"unknown; .help lists the lines that begin with `.`");
+            unsent(end)
+        }
+    }
+}
+
+// Does what a part of the input asks for.
+fn serve<F: Folder, O: Sink, E: Sink, D: RecordFolder>(
+    alloc: Global,
+    target: Target,
+    live: &mut Live,
+    folder: &mut F,
+    out: &mut O,
+    err: &mut E,
+    records: &mut D,
+    request: Request,
+    part: &[u8],
+    end: RunEnd,
+) -> Served
+    requires target { IsTarget target }
+    requires going { IsGoing end }
+    requires over { end ≡ ends.Quiet → IsOver (live_seen ⟦<dyn Device as Device>⟧ live.old).board }
+    requires sound { IsSound (live_seen ⟦<dyn Device as Device>⟧ live.old) }
+    requires part { IsPart part.now }
+    ensures runs { Runs result.end target.entry.command.now.modules.now
+        (live_seen ⟦<dyn Device as Device>⟧ live.old) (around ⟦<F as Folder>⟧ ⟦<O as Sink>⟧ folder.old out.old)
+        (live_seen ⟦<dyn Device as Device>⟧ live.new) (around ⟦<F as Folder>⟧ ⟦<O as Sink>⟧ folder.new out.new) }
+    ensures console { (live_seen ⟦<dyn Device as Device>⟧ live.new).console.bytes
+        ≡ (live_seen ⟦<dyn Device as Device>⟧ live.old).console.bytes ++ sent_unless result.refusal (sent_of request part.now) }
+    ensures serves { Wherever target.entry.command.now.modules.now
+        (live_seen ⟦<dyn Device as Device>⟧ live.old) (around ⟦<F as Folder>⟧ ⟦<O as Sink>⟧ folder.old out.old)
+        (λ shelf setup old. Serves (command_state target.entry.command.now) request part.now result.refusal shelf setup old
+        (moment (live_seen ⟦<dyn Device as Device>⟧ live.old) (around ⟦<F as Folder>⟧ ⟦<O as Sink>⟧ folder.old out.old)
+        (messages ⟦<E as Sink>⟧ err.old) end)
+        (moment (live_seen ⟦<dyn Device as Device>⟧ live.new) (around ⟦<F as Folder>⟧ ⟦<O as Sink>⟧ folder.new out.new)
+        (messages ⟦<E as Sink>⟧ err.new) result.end)
+        (store ⟦<D as RecordFolder>⟧ records.old) (store ⟦<D as RecordFolder>⟧ records.new)) }
+    ensures writes { WritesOnly target.entry.command.now.record.now (D.files records.old) (D.files records.new) }
+    ensures record_faults { D.faults records.old ≤ D.faults records.new }
+{
+    match request {
+        Request::Send => {
+            let bytes = Event::Rx(part.len() as u32);
+            send_and_run(
+                alloc,
+                target.command,
+                live,
+                folder,
+                out,
+                err,
+                bytes,
+                part,
+                end,
+            )
+        }
+        Request::Skip => unsent(end),
+        Request::Obey(line) => obey(alloc, target, live, folder, out, err, records, line, end),
     }
 }
 
@@ -90,6 +168,13 @@ fn is_going(end: RunEnd) -> bool
     ensures { IsTrue result ↔ IsGoing end }
 {
     matches!(end, RunEnd::Quiet | RunEnd::Limit)
+}
+
+// Whether a part is the line `.quit`.
+fn is_quit(request: Request) -> bool
+    ensures { IsTrue result ↔ (request ≡ requests.Obey lines.Quit) }
+{
+    matches!(request, Request::Obey(DotLine::Quit))
 }
 
 // A conversation that the board's last run decides.
@@ -143,7 +228,14 @@ pub(crate) fn converse<I: Input, F: Folder, O: Sink, E: Sink, D: RecordFolder>(
         (live_seen ⟦<dyn Device as Device>⟧ live.new) (around ⟦<F as Folder>⟧ ⟦<O as Sink>⟧ folder.new out.new) }
     ensures status_is { IsStatusOf result.end result.status × (result.status ≢ status.Unrecorded) }
     ensures typed { IsTyped result.status (I.left input.old) (I.left input.new)
-        (live_seen ⟦<dyn Device as Device>⟧ live.new).console.bytes }
+        (live_seen ⟦<dyn Device as Device>⟧ live.new).console.bytes
+        (λ parts. Wherever target.entry.command.now.modules.now
+        (live_seen ⟦<dyn Device as Device>⟧ live.old) (around ⟦<F as Folder>⟧ ⟦<O as Sink>⟧ folder.old out.old)
+        (λ shelf setup old. IsTalk (command_state target.entry.command.now) parts shelf setup old
+        (live_seen ⟦<dyn Device as Device>⟧ live.old) (around ⟦<F as Folder>⟧ ⟦<O as Sink>⟧ folder.old out.old)
+        (moment (live_seen ⟦<dyn Device as Device>⟧ live.new) (around ⟦<F as Folder>⟧ ⟦<O as Sink>⟧ folder.new out.new)
+        (messages ⟦<E as Sink>⟧ err.new) result.end)
+        (store ⟦<D as RecordFolder>⟧ records.old) (store ⟦<D as RecordFolder>⟧ records.new))) }
     ensures read_fault { result.status ≡ status.ReadFault
         → Rose (I.faults input.old) (I.faults input.new) ⊎ Rose (F.faults folder.old) (F.faults folder.new) }
     ensures fault { result.status ≡ status.WriteFault → Rose (O.faults out.old) (O.faults out.new) }
@@ -151,28 +243,27 @@ pub(crate) fn converse<I: Input, F: Folder, O: Sink, E: Sink, D: RecordFolder>(
     ensures record_faults { D.faults records.old ≤ D.faults records.new }
     ensures input_faults { I.faults input.old ≤ I.faults input.new }
 {
-    let steps = target.command.quiet_after;
     let mut position = Position::Start;
-    let mut end = run(alloc, target.command, live, folder, out, err, steps, 0);
+    let steps = target.command.quiet_after;
+    let mut end = run(alloc, target.command, live, folder, out, err, steps);
     for _ in 0..u64::MAX {
         if !is_going(end) {
             return closing_of(end);
         }
         let part = match hear(alloc, input) {
             Ok(part) => part,
-            // The last line has no end.
-            Err(Status::Ended) if position == Position::Text => {
-                let last = run(alloc, target.command, live, folder, out, err, steps, 0);
-                return closing_of(last);
-            }
             Err(status) => return Closing { end, status },
         };
-        let then = take_part(alloc, live, err, position, &part, steps);
-        end = act(alloc, target, live, folder, out, err, records, then, end);
-        if then == Then::Quit {
+        let bytes = part.as_slice();
+        let request = request_of(position, bytes);
+        let served = serve(
+            alloc, target, live, folder, out, err, records, request, bytes, end,
+        );
+        end = served.end;
+        if is_quit(request) {
             return closing_of(end);
         }
-        position = position_after(position, &part);
+        position = position_after(position, bytes);
     }
     closing_of(end)
 }

@@ -1,18 +1,23 @@
 //! Whether the record may be written, and the writing of it.
 
-ghost use Rattle.std.specs.Prelude.{◌≡◌, ◌≤◌, IsTrue, false, Err, OnOk};
+ghost use Rattle.std.specs.Prelude.{◌≡◌, ◌≤◌, IsTrue, false, Err, IfErr, OnOk};
 ghost use Rattle.wind_base.specs.Limits.{most_steps};
 ghost use Rattle.wind_outside.specs.Counts.{Rose};
+ghost use Rattle.wind_session.specs.Keeping.{messages};
 ghost use Rattle.live_session.specs.Ending.{is_quiet};
-ghost use Rattle.live_session.specs.Saving.{IsSaved, KeepsOthers, replay_limit as replay_limit_lem};
+ghost use Rattle.live_session.specs.LiveAround.{store};
+ghost use Rattle.live_session.specs.Moments.{IsTold};
+ghost use Rattle.live_session.specs.Obeying.{Saves};
+ghost use Rattle.live_session.specs.Saving.{IsSaved, KeepsOthers, WritesOnly, replay_limit as replay_limit_lem};
 ghost use Rattle.live_session.specs.Seen.{live_seen};
 ghost use Rattle.live_session.specs.Session.{IsPermitted, IsRefusal};
+ghost use Rattle.live_session.specs.Telling.{failure_text};
 ghost use Rattle.live_session.specs.Words.{command_state, IsTarget};
 ghost use Rattle.live_session.specs.declared.saving.Unsaved.TheVariants as unsaved;
 ghost use Rattle.live_session.specs.declared.status.Status.TheVariants as status;
 
 use crate::live::Live;
-use crate::messages::{tell_no_memory, tell_of};
+use crate::messages::{tell, tell_no_memory, tell_of};
 use crate::record_folder::RecordFolder;
 use crate::saving::{Claim, Target, Unsaved, find_claim, replay_limit, save};
 use std::alloc::Global;
@@ -68,6 +73,9 @@ pub(crate) fn write_record<E: Sink, D: RecordFolder>(
     ensures others { KeepsOthers target.entry.command.now.record.now (D.files records.old) (D.files records.new) }
     ensures failed { result ≡ Err unsaved.Failed → Rose (D.faults records.old) (D.faults records.new) }
     ensures never_falls { D.faults records.old ≤ D.faults records.new }
+    ensures quiet { OnOk result (messages ⟦<E as Sink>⟧ err.new ≡ messages ⟦<E as Sink>⟧ err.old) }
+    ensures told { IfErr result (λ failure. IsTold (failure_text target.entry.command.now.record.now failure)
+        (messages ⟦<E as Sink>⟧ err.old) (messages ⟦<E as Sink>⟧ err.new)) }
 {
     let limit = replay_limit(live.board.steps(), end == RunEnd::Quiet);
     let saved = save(alloc, records, target, &live.record, limit);
@@ -80,4 +88,31 @@ pub(crate) fn write_record<E: Sink, D: RecordFolder>(
         Err(Unsaved::NoMemory) => tell_no_memory(err),
     }
     saved
+}
+
+/// Writes the record now, if the command names a folder for it. Says what became of it.
+pub(crate) fn save_now<E: Sink, D: RecordFolder>(
+    alloc: Global,
+    target: Target,
+    live: &Live,
+    err: &mut E,
+    records: &mut D,
+    end: RunEnd,
+)
+    requires target { IsTarget target }
+    requires few { (live_seen ⟦<dyn Device as Device>⟧ live.now).board.steps ≤ most_steps }
+    ensures saves { Saves (command_state target.entry.command.now) (live_seen ⟦<dyn Device as Device>⟧ live.now) end
+        (messages ⟦<E as Sink>⟧ err.old) (messages ⟦<E as Sink>⟧ err.new)
+        (store ⟦<D as RecordFolder>⟧ records.old) (store ⟦<D as RecordFolder>⟧ records.new) }
+    ensures writes { WritesOnly target.entry.command.now.record.now (D.files records.old) (D.files records.new) }
+    ensures never_falls { D.faults records.old ≤ D.faults records.new }
+{
+    if target.command.record.is_empty() {
+        tell(err, b"nothing is saved without --record");
+        return;
+    }
+    if write_record(alloc, target, live, err, records, end).is_ok() {
+        let name = target.command.record.as_bytes();
+        tell_of(err, name, b": the record was written\n");
+    }
 }

@@ -1,12 +1,11 @@
 //! The board of a live session, and the record of what was sent to it.
 
-ghost use Rattle.std.specs.Prelude.{◌≡◌, ◌+◌, ◌<◌, ◌++◌, Err, length, max, OnOk, OnErr};
-ghost use Rattle.wind_base.specs.Limits.{greatest_word};
-ghost use Rattle.tick_file.specs.Writing.{event_line, IsInRange};
+ghost use Rattle.std.specs.Prelude.{◌≡◌, length, IfErr, OnOk, OnErr};
+ghost use Rattle.tick_file.specs.Writing.{IsInRange};
 ghost use Rattle.wind_machine.specs.Extending.{bytes_asked};
 ghost use Rattle.wind_session.specs.Keeping.{around};
+ghost use Rattle.live_session.specs.Moments.{HasRun, IsCause, IsSameRecord, IsSent, Wherever};
 ghost use Rattle.live_session.specs.Seen.{live_seen, IsSound, Runs, StaysLive};
-ghost use Rattle.live_session.specs.declared.record.Refusal.TheVariants as refusals;
 
 use crate::record::{Record, Refusal, add_event, line_of, next_time};
 use std::alloc::Global;
@@ -36,21 +35,13 @@ pub(crate) fn send(
     requires sound { IsSound (live_seen ⟦<dyn Device as Device>⟧ live.old) }
     requires asked { bytes_asked event ≡ length bytes.now }
     requires range { IsInRange event }
-    ensures stays { StaysLive (live_seen ⟦<dyn Device as Device>⟧ live.old)
-        (live_seen ⟦<dyn Device as Device>⟧ live.new) }
-    ensures ok { OnOk result ((live_seen ⟦<dyn Device as Device>⟧ live.new).console.bytes
-        ≡ (live_seen ⟦<dyn Device as Device>⟧ live.old).console.bytes ++ bytes.now) }
+    ensures ok { OnOk result (IsSent event bytes.now (live_seen ⟦<dyn Device as Device>⟧ live.old)
+        (live_seen ⟦<dyn Device as Device>⟧ live.new) × StaysLive (live_seen ⟦<dyn Device as Device>⟧ live.old)
+        (live_seen ⟦<dyn Device as Device>⟧ live.new)) }
     ensures err { OnErr result (live_seen ⟦<dyn Device as Device>⟧ live.new
         ≡ live_seen ⟦<dyn Device as Device>⟧ live.old) }
-    ensures time { result ≡ Err refusals.Time
-        → greatest_word < max ((live_seen ⟦<dyn Device as Device>⟧ live.old).board.time + 1)
-        (live_seen ⟦<dyn Device as Device>⟧ live.old).last }
-    ensures console { result ≡ Err refusals.Console
-        → (live_seen ⟦<dyn Device as Device>⟧ live.old).console.room < length bytes.now }
-    ensures ticks { result ≡ Err refusals.Ticks
-        → (live_seen ⟦<dyn Device as Device>⟧ live.old).ticks.room < length (event_line
-        (max ((live_seen ⟦<dyn Device as Device>⟧ live.old).board.time + 1)
-        (live_seen ⟦<dyn Device as Device>⟧ live.old).last) event) + 1 }
+    ensures cause { IfErr result (λ cause. IsCause cause event bytes.now
+        (live_seen ⟦<dyn Device as Device>⟧ live.old)) }
 {
     growing_law();
     writing_law();
@@ -85,8 +76,14 @@ pub(crate) fn go<F: Folder, O: Sink>(
     ensures runs { Runs result modules.now
         (live_seen ⟦<dyn Device as Device>⟧ live.old) (around ⟦<F as Folder>⟧ ⟦<O as Sink>⟧ folder.old out.old)
         (live_seen ⟦<dyn Device as Device>⟧ live.new) (around ⟦<F as Folder>⟧ ⟦<O as Sink>⟧ folder.new out.new) }
-    ensures console { (live_seen ⟦<dyn Device as Device>⟧ live.new).console
-        ≡ (live_seen ⟦<dyn Device as Device>⟧ live.old).console }
+    ensures record_is { IsSameRecord (live_seen ⟦<dyn Device as Device>⟧ live.old)
+        (live_seen ⟦<dyn Device as Device>⟧ live.new) }
+    ensures made { Wherever modules.now
+        (live_seen ⟦<dyn Device as Device>⟧ live.old) (around ⟦<F as Folder>⟧ ⟦<O as Sink>⟧ folder.old out.old)
+        (λ shelf setup old. HasRun result most
+        (live_seen ⟦<dyn Device as Device>⟧ live.old).board (live_seen ⟦<dyn Device as Device>⟧ live.new).board
+        (around ⟦<F as Folder>⟧ ⟦<O as Sink>⟧ folder.old out.old)
+        (around ⟦<F as Folder>⟧ ⟦<O as Sink>⟧ folder.new out.new)) }
 {
     let left = STEPS - live.board.steps();
     resume_board(alloc, &mut live.board, folder, modules, out, most.min(left))

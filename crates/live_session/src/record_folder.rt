@@ -38,7 +38,8 @@ pub trait RecordFolder {
         ensures never_falls { faults self.old ≤ faults self.new };
 
     /// Writes the file with this name beside its place, and then puts it there, instead of a file
-    /// that may be there. Writing can fail, and counts as a fault; then all files are as before.
+    /// that may be there. Writing can fail, and counts as a fault; then the files that a contract
+    /// sees are as before. The real folder may keep a part of the new file beside its place.
     fn replace(&mut self, alloc: Global, name: &str, bytes: &[u8]) -> Put
         ensures done { result ≡ puts.Done → Replaced (files self.old) (files self.new) name.now bytes.now }
         ensures kept { result ≡ puts.Failed → files self.new ≡ files self.old }

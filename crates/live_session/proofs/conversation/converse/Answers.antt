@@ -1,60 +1,161 @@
-use Rattle.std.proofs.Common.{◌≡◌, ◌∙◌, ℕ, List, ap, arith, rules, subst, sym}
+use Rattle.std.proofs.Common.{◌≡◌, ◌≢◌, ◌∙◌, ℕ, List, Option, Err, true, false, ap, arith, inl, inr, refl, rules, subst, sym}
+use Rattle.wind_base.specs.OutBuf.{Output}
+use Rattle.wind_session.specs.Keeping.{around, messages}
 use Rattle.live_session.specs.Ending.{IsGoing}
 use Rattle.live_session.specs.Input.{IsLongest, IsPart, Takes}
-use Rattle.live_session.specs.Positions.{position_after}
+use Rattle.live_session.specs.LiveAround.{store}
+use Rattle.live_session.specs.Moments.{moment}
 use Rattle.live_session.specs.Seen.{live_by}
-use Rattle.live_session.specs.Session.{IsTyped, status_of}
-use Rattle.live_session.specs.declared.serving.Then.TheVariants as thens
+use Rattle.live_session.specs.Session.{IsTyped}
+use Rattle.live_session.specs.Words.{command_state}
+use Rattle.live_session.specs.declared.dot_line.DotLine.TheVariants as lines
+use Rattle.live_session.specs.declared.serving.Request.TheVariants as requests
+use Rattle.live_session.specs.declared.status.Status.{Status}
+use Rattle.live_session.proofs.Closings.{decided, heard, read_end, stop_early, stop_heard, write_end}
 use Rattle.live_session.proofs.Flow.{runs_on, stays_same}
+use Rattle.live_session.proofs.Moving.{talk_more}
 use Rattle.live_session.proofs.OtherFiles.{writes_both}
-use Rattle.live_session.proofs.Typing.{typed_at, typed_more, typed_quit}
+use Rattle.live_session.proofs.Typing.{stop_whole, typed_heard, typed_more, typed_quit, typed_until, typing_begins}
 use Rattle.live_session.proofs.conversation.converse.Goals as goal
 
--- the last line had no end
-pub returns-in-Err-Ended-clause-runs : goal.returns-in-Err-Ended-clause-runs
-returns-in-Err-Ended-clause-runs g c =
-    let going : IsGoing c.loop.end = search rules in
-    rw c.closing_of-in-Err-Ended.ensures
-    (runs_on c.loop.end _ _ _ _ _ _ _ _ _ going c.loop.invariant.runs (stays_same _ c.loop.invariant.runs.sound) c.run-last.ensures.runs)
+-- the board has run, and no part is taken
+pub loop-init : goal.loop-init
+loop-init g c = record {
+  runs = c.run-end.ensures.runs;
+  typing =
+      typing_begins _ _ _ (ap (λ (o : Output). o.bytes) c.run-end.ensures.record_is.console ∙ c.requires.empty)
+      (λ shelf setup old here. record { first = _; opening = c.run-end.ensures.made shelf setup old here; served = (refl, refl) });
+  writes = search rules;
+  record_faults = omega arith;
+  input_faults = omega arith;
+}
 
--- the part asked for the end
-pub returns-then-eq-2-clause-runs : goal.returns-then-eq-2-clause-runs
-returns-then-eq-2-clause-runs g c =
-    let going : IsGoing c.loop.end = search rules in
-    rw c.closing_of-then-eq-2.ensures
-    (runs_on c.loop.end _ _ _ _ _ _ _ _ _ going c.loop.invariant.runs c.take_part-then.ensures.sent.stays c.act-end.ensures.runs)
-
-pub returns-then-eq-2-clause-typed : goal.returns-then-eq-2-clause-typed
-returns-then-eq-2-clause-typed g c =
-    let live = live_by (λ d. (goal.Device-dyn g (d.vtable, d.value)).kind_of d.value) (λ d. (goal.Device-dyn g (d.vtable, d.value)).words_of d.value) in
-    let old = g.I.Input.left c.args.input.now in
-    let mid = g.I.Input.left c.loop.input in
-    let new = g.I.Input.left c.hear.new.input in
-    let part = c.deref.result.now in
-    let heard = subst (λ (b : List ℕ). Takes mid new b × IsPart b × IsLongest b new) (sym c.deref.ensures.value) c.in-Ok.ensures.part in
-    let quits : c.take_part-then.result ≡ thens.Quit = search rules in
-    rw c.closing_of-then-eq-2.ensures
-    (subst (λ (b : List ℕ). IsTyped (status_of c.act-end.result) old new b) (sym c.act-end.ensures.console)
-    (typed_quit old mid new c.loop.position c.loop.counter part (live c.loop.live) (live c.take_part-then.new.live) c.loop.invariant.typing heard.0 heard.1 heard.2 c.take_part-then.ensures.sent.sent
-    (status_of c.act-end.result) (c.take_part-then.ensures.quits quits)))
-
--- another part was taken, and what follows it was done
+-- another part was taken, and did what it asks for
 pub loop-preserved : goal.loop-preserved
 loop-preserved g c =
     let live = live_by (λ d. (goal.Device-dyn g (d.vtable, d.value)).kind_of d.value) (λ d. (goal.Device-dyn g (d.vtable, d.value)).words_of d.value) in
     let on = c.loop.invariant in
-    let act = c.act-end in
+    let served = c.serve-served in
+    let begin = live c.args.live.now in
+    let before = around g.F.Folder g.O.Sink c.args.folder.now c.args.out.now in
+    let here = around g.F.Folder g.O.Sink c.loop.folder c.loop.out in
     let mid = g.I.Input.left c.loop.input in
     let new = g.I.Input.left c.hear.new.input in
-    let part = c.deref.result.now in
-    let heard = subst (λ (b : List ℕ). Takes mid new b × IsPart b × IsLongest b new) (sym c.deref.ensures.value) c.in-Ok.ensures.part in
+    let bytes = c.as_slice-bytes.result.now in
+    let command = command_state c.args.target.command.now in
+    let next = moment (live served.new.live) (around g.F.Folder g.O.Sink served.new.folder served.new.out) (messages g.E.Sink served.new.err) served.result.end in
     let going : IsGoing c.loop.end = search rules in
+    let heard = subst (λ (b : List ℕ). Takes mid new b × IsPart b × IsLongest b new) (sym c.as_slice-bytes.ensures.value) c.in-Ok.ensures.part in
+    let other : c.request_of-request.result ≢ requests.Obey lines.Quit = λ e. let given : c.is_quit.result ≡ true = c.is_quit.ensures.1 e in let differs : c.is_quit.result ≡ false = search rules in cc in
     record {
-      runs = runs_on c.loop.end _ _ _ _ _ _ _ _ _ going on.runs c.take_part-then.ensures.sent.stays act.ensures.runs;
+      runs = runs_on c.loop.end _ _ _ _ _ _ _ _ _ going on.runs (stays_same _ on.runs.sound) served.ensures.runs;
       typing =
-          typed_at _ _ _ _ _ _ _ act.ensures.console (c.position_after-position.ensures ∙ ap (position_after c.loop.position) (c.deref-in-loop.ensures.value ∙ sym c.deref.ensures.value))
-          (typed_more _ mid new c.loop.position c.loop.counter part (live c.loop.live) (live c.take_part-then.new.live) on.typing heard.0 heard.1 heard.2 c.take_part-then.ensures.sent.sent);
-      writes = writes_both _ _ _ _ on.writes act.ensures.writes;
-      record_faults = omega (arith, on.record_faults, act.ensures.record_faults);
+          rw c.position_after-position.ensures
+          (typed_more _ mid new c.loop.position c.loop.counter bytes c.request_of-request.result served.result.refusal _ _ _ _ on.typing
+          (record { takes = heard.0; is_part = heard.1; longest = heard.2; asks = c.request_of-request.ensures; sends = served.ensures.console })
+          (talk_more command c.request_of-request.result bytes served.result.refusal begin (live c.loop.live) before here (messages g.E.Sink c.loop.err) c.loop.end next
+          (store g.D.RecordFolder c.args.records.now) (store g.D.RecordFolder c.loop.records) (store g.D.RecordFolder served.new.records) c.loop.position
+          (record { going = going; runs = on.runs; serves = served.ensures.serves }) c.request_of-request.ensures)
+          other);
+      writes = writes_both _ _ _ _ on.writes served.ensures.writes;
+      record_faults = omega (arith, on.record_faults, served.ensures.record_faults);
       input_faults = omega (arith, on.input_faults, c.hear.ensures.never_falls);
     }
+
+-- the board can't go on
+pub returns-then-not-is_going-clause-runs : goal.returns-then-not-is_going-clause-runs
+returns-then-not-is_going-clause-runs g c = rw c.closing_of.ensures c.loop.invariant.runs
+
+pub returns-then-not-is_going-clause-status_is : goal.returns-then-not-is_going-clause-status_is
+returns-then-not-is_going-clause-status_is g c = rw c.closing_of.ensures (decided c.loop.end)
+
+pub returns-then-not-is_going-clause-typed : goal.returns-then-not-is_going-clause-typed
+returns-then-not-is_going-clause-typed g c =
+    let stuck : IsGoing c.loop.end → ⊥ = λ going. let given : c.is_going.result ≡ true = c.is_going.ensures.1 going in let differs : c.is_going.result ≡ false = search rules in cc in
+    rw c.closing_of.ensures (typed_until _ _ _ _ _ _ _ c.loop.invariant.typing (λ parts counted. stop_early c.loop.end _ parts stuck))
+
+pub returns-then-not-is_going-clause-read_fault : goal.returns-then-not-is_going-clause-read_fault
+returns-then-not-is_going-clause-read_fault g c = rw c.closing_of.ensures (λ e. inr (c.loop.invariant.runs.read_fault (read_end c.loop.end e)))
+
+pub returns-then-not-is_going-clause-fault : goal.returns-then-not-is_going-clause-fault
+returns-then-not-is_going-clause-fault g c = rw c.closing_of.ensures (λ e. c.loop.invariant.runs.write_fault (write_end c.loop.end e))
+
+-- no part came
+pub returns-in-Err-clause-status_is : goal.returns-in-Err-clause-status_is
+returns-in-Err-clause-status_is g c =
+    let going : IsGoing c.loop.end = search rules in
+    (heard c.loop.end c.in-Err.status going c.in-Err.ensures.ended.0, c.in-Err.ensures.ended.1)
+
+pub returns-in-Err-clause-typed : goal.returns-in-Err-clause-typed
+returns-in-Err-clause-typed g c =
+    typed_heard c.in-Err.status _ _ _ _ _ _ _ c.in-Err.ensures.kept c.loop.invariant.typing
+    (λ parts. stop_heard c.in-Err.status _ parts c.in-Err.ensures.ended.1 (λ e. c.in-Err.ensures.over (ap (λ (s : Status). Err s) e)))
+
+-- the part asked for the end
+pub returns-then-is_quit-clause-runs : goal.returns-then-is_quit-clause-runs
+returns-then-is_quit-clause-runs g c =
+    let on = c.loop.invariant in
+    let going : IsGoing c.loop.end = search rules in
+    rw c.closing_of-then-is_quit.ensures (runs_on c.loop.end _ _ _ _ _ _ _ _ _ going on.runs (stays_same _ on.runs.sound) c.serve-served.ensures.runs)
+
+pub returns-then-is_quit-clause-status_is : goal.returns-then-is_quit-clause-status_is
+returns-then-is_quit-clause-status_is g c = rw c.closing_of-then-is_quit.ensures (decided c.serve-served.result.end)
+
+pub returns-then-is_quit-clause-typed : goal.returns-then-is_quit-clause-typed
+returns-then-is_quit-clause-typed g c =
+    let live = live_by (λ d. (goal.Device-dyn g (d.vtable, d.value)).kind_of d.value) (λ d. (goal.Device-dyn g (d.vtable, d.value)).words_of d.value) in
+    let on = c.loop.invariant in
+    let served = c.serve-served in
+    let begin = live c.args.live.now in
+    let before = around g.F.Folder g.O.Sink c.args.folder.now c.args.out.now in
+    let here = around g.F.Folder g.O.Sink c.loop.folder c.loop.out in
+    let mid = g.I.Input.left c.loop.input in
+    let new = g.I.Input.left c.hear.new.input in
+    let bytes = c.as_slice-bytes.result.now in
+    let command = command_state c.args.target.command.now in
+    let next = moment (live served.new.live) (around g.F.Folder g.O.Sink served.new.folder served.new.out) (messages g.E.Sink served.new.err) served.result.end in
+    let going : IsGoing c.loop.end = search rules in
+    let heard = subst (λ (b : List ℕ). Takes mid new b × IsPart b × IsLongest b new) (sym c.as_slice-bytes.ensures.value) c.in-Ok.ensures.part in
+    let quits : c.request_of-request.result ≡ requests.Obey lines.Quit = c.is_quit.ensures.0 (search rules) in
+    rw c.closing_of-then-is_quit.ensures
+    (typed_quit _ mid new c.loop.position c.loop.counter bytes c.request_of-request.result served.result.refusal _ _ _ _ on.typing
+    (record { takes = heard.0; is_part = heard.1; longest = heard.2; asks = c.request_of-request.ensures; sends = served.ensures.console })
+    (talk_more command c.request_of-request.result bytes served.result.refusal begin (live c.loop.live) before here (messages g.E.Sink c.loop.err) c.loop.end next
+    (store g.D.RecordFolder c.args.records.now) (store g.D.RecordFolder c.loop.records) (store g.D.RecordFolder served.new.records) c.loop.position
+    (record { going = going; runs = on.runs; serves = served.ensures.serves }) c.request_of-request.ensures)
+    _ quits)
+
+pub returns-then-is_quit-clause-read_fault : goal.returns-then-is_quit-clause-read_fault
+returns-then-is_quit-clause-read_fault g c =
+    let on = c.loop.invariant in
+    let going : IsGoing c.loop.end = search rules in
+    let runs = runs_on c.loop.end c.serve-served.result.end _ _ _ _ _ _ _ _ going on.runs (stays_same _ on.runs.sound) c.serve-served.ensures.runs in
+    rw c.closing_of-then-is_quit.ensures (λ e. inr (runs.read_fault (read_end c.serve-served.result.end e)))
+
+pub returns-then-is_quit-clause-fault : goal.returns-then-is_quit-clause-fault
+returns-then-is_quit-clause-fault g c =
+    let on = c.loop.invariant in
+    let going : IsGoing c.loop.end = search rules in
+    let runs = runs_on c.loop.end c.serve-served.result.end _ _ _ _ _ _ _ _ going on.runs (stays_same _ on.runs.sound) c.serve-served.ensures.runs in
+    rw c.closing_of-then-is_quit.ensures (λ e. runs.write_fault (write_end c.serve-served.result.end e))
+
+pub returns-then-is_quit-clause-writes : goal.returns-then-is_quit-clause-writes
+returns-then-is_quit-clause-writes g c = writes_both _ _ _ _ c.loop.invariant.writes c.serve-served.ensures.writes
+
+-- there were as many parts as a session takes
+pub returns-clause-runs : goal.returns-clause-runs
+returns-clause-runs g c = rw c.closing_of-2.ensures c.loop.invariant.runs
+
+pub returns-clause-status_is : goal.returns-clause-status_is
+returns-clause-status_is g c = rw c.closing_of-2.ensures (decided c.loop.end)
+
+pub returns-clause-typed : goal.returns-clause-typed
+returns-clause-typed g c =
+    rw c.closing_of-2.ensures
+    (typed_until _ _ _ _ _ _ _ c.loop.invariant.typing (λ parts counted. stop_whole _ _ parts (inr (inr (omega (arith, counted))))))
+
+pub returns-clause-read_fault : goal.returns-clause-read_fault
+returns-clause-read_fault g c = rw c.closing_of-2.ensures (λ e. inr (c.loop.invariant.runs.read_fault (read_end c.loop.end e)))
+
+pub returns-clause-fault : goal.returns-clause-fault
+returns-clause-fault g c = rw c.closing_of-2.ensures (λ e. c.loop.invariant.runs.write_fault (write_end c.loop.end e))

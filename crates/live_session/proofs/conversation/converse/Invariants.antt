@@ -1,7 +1,11 @@
 use Rattle.std.proofs.Common.{◌≤◌}
-use Rattle.wind_session.specs.Keeping.{around}
+use Rattle.wind_session.specs.Keeping.{around, messages}
+use Rattle.live_session.specs.LiveAround.{store}
+use Rattle.live_session.specs.Moments.{Wherever, moment}
 use Rattle.live_session.specs.Saving.{WritesOnly}
 use Rattle.live_session.specs.Seen.{live_by, Runs}
+use Rattle.live_session.specs.Session.{IsTalk}
+use Rattle.live_session.specs.Words.{command_state}
 use Rattle.live_session.proofs.Typing.{Typing}
 use Rattle.live_session.proofs.conversation.converse.Given as goal
 
@@ -9,9 +13,14 @@ use Rattle.live_session.proofs.conversation.converse.Given as goal
 abbrev pub invariant-loop : goal.invariant-loop
 invariant-loop g l =
     let live = live_by (λ d. (goal.Device-dyn g (d.vtable, d.value)).kind_of d.value) (λ d. (goal.Device-dyn g (d.vtable, d.value)).words_of d.value) in
+    let before = around g.F.Folder g.O.Sink l.fn.folder l.fn.out in
+    let now = around g.F.Folder g.O.Sink l.folder l.out in
     record {
-      runs : Runs l.end l.target.command.now.modules.now (live l.fn.live) (around g.F.Folder g.O.Sink l.fn.folder l.fn.out) (live l.live) (around g.F.Folder g.O.Sink l.folder l.out);
-      typing : Typing (g.I.Input.left l.fn.input) (g.I.Input.left l.input) (live l.live).console.bytes l.position l.counter;
+      runs : Runs l.end l.target.command.now.modules.now (live l.fn.live) before (live l.live) now;
+      typing : Typing (g.I.Input.left l.fn.input) (g.I.Input.left l.input) (live l.live).console.bytes l.position l.counter
+          (λ parts. Wherever l.target.command.now.modules.now (live l.fn.live) before
+          (λ shelf setup old. IsTalk (command_state l.target.command.now) parts shelf setup old (live l.fn.live) before
+          (moment (live l.live) now (messages g.E.Sink l.err) l.end) (store g.D.RecordFolder l.fn.records) (store g.D.RecordFolder l.records)));
       writes : WritesOnly l.target.command.now.record.now (g.D.RecordFolder.files l.fn.records) (g.D.RecordFolder.files l.records);
       record_faults : g.D.RecordFolder.faults l.fn.records ≤ g.D.RecordFolder.faults l.records;
       input_faults : g.I.Input.faults l.fn.input ≤ g.I.Input.faults l.input;

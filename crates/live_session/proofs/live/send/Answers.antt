@@ -1,10 +1,10 @@
-use Rattle.std.proofs.Common.{length, ap, ◌∙◌, arith}
+use Rattle.std.proofs.Common.{length, ap, ◌∙◌, ◌+◌, max, arith}
 use Rattle.live_session.proofs.Sending.{sent_stays}
 use Rattle.live_session.proofs.live.send.Goals as goal
 
 -- the record has the event, and the board has taken it
-pub returns-clause-stays : goal.returns-clause-stays
-returns-clause-stays g c =
+pub returns-clause-ok : goal.returns-clause-ok
+returns-clause-ok g c =
     sent_stays c.writing_law.ensures.more _ (record { console = c.add_event.new.record.console; ticks = c.add_event.new.record.ticks; lines = c.add_event.new.record.lines; last = c.add_event.new.record.last; board = _ })
     c.in-Some.time c.args.event c.args.bytes.now c.deref.result.now c.requires.sound
     (record {
@@ -22,4 +22,4 @@ returns-clause-stays g c =
       console_room = omega (arith, c.if-room-bytes.false, c.room.ensures);
       ticks_room = omega (arith, c.if-room-len.false, c.len.ensures, c.room-2.ensures, ap length c.deref.ensures.value);
     })
-    c.growing_law.ensures
+    (c.in-Some.ensures.some.0 ∙ ap (λ now. max (now + 1) c.args.live.now.record.last) c.time.ensures) c.growing_law.ensures

@@ -2,18 +2,14 @@ use Rattle.std.proofs.Common.{refl, inl, ◌≡◌, ◌≢◌, ◌∙◌, ℕ, L
 use Rattle.std.proofs.lemmas.List.{nil_from_length}
 use Rattle.wind_outside.specs.Files.{Files}
 use Rattle.wind_session.proofs.AppendingLemmas.{rose_earlier}
-use Rattle.live_session.specs.LiveAround.{live_around}
+use Rattle.wind_session.specs.Keeping.{messages}
+use Rattle.live_session.specs.LiveAround.{live_around, store}
 use Rattle.live_session.specs.Saving.{WritesOnly}
 use Rattle.live_session.specs.Words.{command_state}
-use Rattle.live_session.proofs.OtherFiles.{writes_both, writes_record}
+use Rattle.live_session.proofs.OtherFiles.{named_by, writes_both, writes_record}
 use Rattle.live_session.proofs.Outcomes.{IsAfter, after_failed, after_recorded, after_status, after_typed, ended_going, ended_same, never_usage, put_same, read_same}
 use Rattle.live_session.proofs.Whole.{plays}
 use Rattle.live_session.proofs.playing.session.Goals as goal
-
--- a name that has bytes isn't empty
-named_by : (name : List ℕ) → eqb (length name) 0 ≡ false → name ≢ []
-named_by [] e = absurd (cc)
-named_by (b ∷ bs) e = λ same. cc
 
 -- ---- no record is asked for
 pub returns-then-is_empty-clause-leaves : goal.returns-then-is_empty-clause-leaves
@@ -24,16 +20,17 @@ returns-then-is_empty-clause-leaves g c =
     inr (plays c.writing_law.ensures.written closing.result.status (command_state c.args.target.command.now) closing.result.end _ _
     (live_around g.I.Input g.F.Folder g.O.Sink g.D.RecordFolder c.args.input.now c.args.folder.now c.args.out.now c.args.records.now)
     (live_around g.I.Input g.F.Folder g.O.Sink g.D.RecordFolder closing.new.input closing.new.folder closing.new.out closing.new.records)
-    (g.D.RecordFolder.files c.args.records.now)
+    (messages g.E.Sink closing.new.err) (store g.D.RecordFolder c.may_record.new.records) (store g.D.RecordFolder closing.new.records)
     (record {
       runs = closing.ensures.runs;
       status_is = closing.ensures.status_is.0;
       typed = closing.ensures.typed;
+      opened_is = c.may_record.ensures.files;
       writes = subst (λ (f : Option Files). WritesOnly folder f (g.D.RecordFolder.files closing.new.records)) c.may_record.ensures.files closing.ensures.writes;
       saved = λ e named. absurd (named none);
       unrecorded = λ e. absurd (closing.ensures.status_is.1 e);
     })
-    _ (c.may_record.ensures.permitted (search rules)) (c.in-Ok.ensures.begins.live _ _))
+    _ (c.may_record.ensures.permitted (search rules)) c.in-Ok.ensures.begins)
 
 pub returns-then-is_empty-clause-known : goal.returns-then-is_empty-clause-known
 returns-then-is_empty-clause-known g c = never_usage c.converse-closing.result.end c.converse-closing.result.status c.converse-closing.ensures.status_is.0
@@ -49,11 +46,12 @@ returns-clause-leaves g c =
     inr (plays c.writing_law.ensures.written c.status_after.result (command_state c.args.target.command.now) closing.result.end _ _
     (live_around g.I.Input g.F.Folder g.O.Sink g.D.RecordFolder c.args.input.now c.args.folder.now c.args.out.now c.args.records.now)
     (live_around g.I.Input g.F.Folder g.O.Sink g.D.RecordFolder closing.new.input closing.new.folder closing.new.out writing.new.records)
-    (g.D.RecordFolder.files closing.new.records)
+    (messages g.E.Sink closing.new.err) (store g.D.RecordFolder c.may_record.new.records) (store g.D.RecordFolder closing.new.records)
     (record {
       runs = closing.ensures.runs;
       status_is = after_status writing.result closing.result.status c.status_after.result closing.result.end after closing.ensures.status_is.0;
-      typed = after_typed writing.result closing.result.status c.status_after.result _ _ _ after closing.ensures.typed;
+      typed = after_typed writing.result closing.result.status c.status_after.result _ _ _ _ after closing.ensures.typed;
+      opened_is = c.may_record.ensures.files;
       writes =
           writes_both _ _ _ _
           (subst (λ (f : Option Files). WritesOnly folder f (g.D.RecordFolder.files closing.new.records)) c.may_record.ensures.files closing.ensures.writes)
@@ -69,7 +67,7 @@ returns-clause-leaves g c =
             (writing.ensures.failed (after_failed writing.result closing.result.status c.status_after.result after closing.ensures.status_is.1 e)),
       );
     })
-    _ (c.may_record.ensures.permitted (search rules)) (c.in-Ok.ensures.begins.live _ _))
+    _ (c.may_record.ensures.permitted (search rules)) c.in-Ok.ensures.begins)
 
 pub returns-clause-known : goal.returns-clause-known
 returns-clause-known g c =

@@ -1,0 +1,19 @@
+use Rattle.std.proofs.Common.{◌≡◌}
+use Rattle.wind_session.specs.Keeping.{around, messages}
+use Rattle.live_session.specs.Moments.{Wherever, moment}
+use Rattle.live_session.specs.Seen.{live_by, Runs}
+use Rattle.live_session.proofs.Ticking.{Ticking}
+use Rattle.live_session.proofs.running.run_ticks.Given as goal
+
+-- so many ticks have come
+abbrev pub invariant-loop : goal.invariant-loop
+invariant-loop g l =
+    let live = live_by (λ d. (goal.Device-dyn g (d.vtable, d.value)).kind_of d.value) (λ d. (goal.Device-dyn g (d.vtable, d.value)).words_of d.value) in
+    let before = around g.F.Folder g.O.Sink l.fn.folder l.fn.out in
+    let now = around g.F.Folder g.O.Sink l.folder l.out in
+    record {
+      runs : Runs l.end l.command.modules.now (live l.fn.live) before (live l.live) now;
+      console : (live l.live).console.bytes ≡ (live l.fn.live).console.bytes;
+      comes : Wherever l.command.modules.now (live l.fn.live) before
+          (λ shelf setup old. Ticking l.ticks l.command.quiet_after shelf setup old (live l.fn.live) before l.counter (moment (live l.live) now (messages g.E.Sink l.err) l.end));
+    }
