@@ -1,5 +1,5 @@
 -- The files that are none of a record's stay as they are.
-use Rattle.std.proofs.Common.{◌≡◌, ◌≢◌, ℕ, Bool, true, false, List, [], Option, None, Some, refl, ◌∙◌, subst}
+use Rattle.std.proofs.Common.{◌≡◌, ◌≢◌, ℕ, Bool, true, false, List, [], ◌∷◌, Option, None, Some, eqb, length, refl, ◌∙◌, subst}
 use Rattle.wind_outside.specs.Files.{Files}
 use Rattle.live_session.specs.Saving.{KeepsOthers, WritesOnly}
 
@@ -26,3 +26,8 @@ writes_both folder a b c first second = record { nothing = λ e. second.nothing 
 
 pub writes_record : (folder : List ℕ) (old new : Option Files) → folder ≢ [] → KeepsOthers folder old new → WritesOnly folder old new
 writes_record folder old new named others = record { nothing = λ e. absurd (named e); others = others }
+
+-- a name that has bytes isn't empty
+pub named_by : (name : List ℕ) → eqb (length name) 0 ≡ false → name ≢ []
+named_by [] e = absurd (cc)
+named_by (b ∷ bs) e = λ same. cc

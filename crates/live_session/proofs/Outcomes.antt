@@ -1,6 +1,6 @@
 -- The status of a session after its record was written, or not.
-use Rattle.std.proofs.Common.{◌≡◌, ◌≢◌, ℕ, List, Option, Result, Ok, Err, refl, sym, ap, ◌∙◌, subst, inr}
-use Rattle.std.specs.Prelude.{IfErr, OnOk}
+use Rattle.std.proofs.Common.{◌≡◌, ◌≢◌, ℕ, List, Option, Result, Ok, Err, true, refl, sym, ap, ◌∙◌, subst, inr}
+use Rattle.std.specs.Prelude.{IfErr, OnOk, is_ok}
 use Rattle.wind_session.specs.declared.run.RunEnd.{RunEnd}
 use Rattle.live_session.specs.Ending.{IsGoing}
 use Rattle.live_session.specs.Session.{IsStatusOf, IsStop, IsTyped, Parts, status_unless}
@@ -9,7 +9,12 @@ use Rattle.live_session.specs.declared.saving.Unsaved.TheVariants as unsaved
 use Rattle.live_session.specs.declared.status.Status.{Status}
 use Rattle.live_session.specs.declared.status.Status.TheVariants as status
 
--- ---- a record that was not written
+-- ---- a record that was written
+pub ok_holds : {A : Type 0} (written : Result A Unsaved) (holds : Type 0) → is_ok written ≡ true → OnOk written holds → holds
+ok_holds (Ok a) holds ok h = h
+ok_holds (Err failure) holds ok h = absurd (cc)
+
+-- ---- or not
 unless_status : (failure : Unsaved) (end : RunEnd) (s : Status) → IsStatusOf end s → IsStatusOf end (status_unless failure s)
 unless_status unsaved.Failed end status.Ended h = h
 unless_status unsaved.NoMemory end status.Ended h = inr h

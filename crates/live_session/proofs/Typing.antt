@@ -176,3 +176,9 @@ typed_until s old now console position count holds t stop = record {
   quit_last = inl t.none;
   held = t.held;
 }
+
+-- and nothing was taken since
+pub typed_heard : (s : Status) (old mid now : Option (List ℕ)) (console : List ℕ) (position : Position) (count : ℕ) (holds : Parts → Type 0) → now ≡ mid → Typing old mid console position count holds
+    → ((parts : Parts) → IsStop s mid parts) → IsTyped s old now console holds
+typed_heard s old mid now console position count holds kept t stop =
+    subst (λ (o : Option (List ℕ)). IsTyped s old o console holds) (sym kept) (typed_until s old mid console position count holds t (λ parts counted. stop parts))

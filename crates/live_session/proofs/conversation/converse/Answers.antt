@@ -15,7 +15,7 @@ use Rattle.live_session.proofs.Closings.{decided, heard, read_end, stop_early, s
 use Rattle.live_session.proofs.Flow.{runs_on, stays_same}
 use Rattle.live_session.proofs.Moving.{talk_more}
 use Rattle.live_session.proofs.OtherFiles.{writes_both}
-use Rattle.live_session.proofs.Typing.{stop_whole, typed_more, typed_quit, typed_until, typing_begins}
+use Rattle.live_session.proofs.Typing.{stop_whole, typed_heard, typed_more, typed_quit, typed_until, typing_begins}
 use Rattle.live_session.proofs.conversation.converse.Goals as goal
 
 -- the board has run, and no part is taken
@@ -88,10 +88,8 @@ returns-in-Err-clause-status_is g c =
 
 pub returns-in-Err-clause-typed : goal.returns-in-Err-clause-typed
 returns-in-Err-clause-typed g c =
-    let kept = c.in-Err.ensures.kept in
-    subst (λ (o : Option (List ℕ)). IsTyped c.in-Err.status (g.I.Input.left c.args.input.now) o _ _) (sym kept)
-    (typed_until c.in-Err.status _ _ _ _ _ _ c.loop.invariant.typing
-    (λ parts counted. stop_heard c.in-Err.status _ parts c.in-Err.ensures.ended.1 (λ e. c.in-Err.ensures.over (ap (λ (s : Status). Err s) e))))
+    typed_heard c.in-Err.status _ _ _ _ _ _ _ c.in-Err.ensures.kept c.loop.invariant.typing
+    (λ parts. stop_heard c.in-Err.status _ parts c.in-Err.ensures.ended.1 (λ e. c.in-Err.ensures.over (ap (λ (s : Status). Err s) e)))
 
 -- the part asked for the end
 pub returns-then-is_quit-clause-runs : goal.returns-then-is_quit-clause-runs

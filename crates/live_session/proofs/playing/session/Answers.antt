@@ -6,15 +6,10 @@ use Rattle.wind_session.specs.Keeping.{messages}
 use Rattle.live_session.specs.LiveAround.{live_around, store}
 use Rattle.live_session.specs.Saving.{WritesOnly}
 use Rattle.live_session.specs.Words.{command_state}
-use Rattle.live_session.proofs.OtherFiles.{writes_both, writes_record}
+use Rattle.live_session.proofs.OtherFiles.{named_by, writes_both, writes_record}
 use Rattle.live_session.proofs.Outcomes.{IsAfter, after_failed, after_recorded, after_status, after_typed, ended_going, ended_same, never_usage, put_same, read_same}
 use Rattle.live_session.proofs.Whole.{plays}
 use Rattle.live_session.proofs.playing.session.Goals as goal
-
--- a name that has bytes isn't empty
-named_by : (name : List ℕ) → eqb (length name) 0 ≡ false → name ≢ []
-named_by [] e = absurd (cc)
-named_by (b ∷ bs) e = λ same. cc
 
 -- ---- no record is asked for
 pub returns-then-is_empty-clause-leaves : goal.returns-then-is_empty-clause-leaves

@@ -26,15 +26,15 @@ returns-in-Err-clause-sends g c = λ shelf setup old here. record {
 }
 
 -- it was sent, and the board ran
-pub returns-in_default-clause-runs : goal.returns-in_default-clause-runs
-returns-in_default-clause-runs g c =
+pub returns-clause-runs : goal.returns-clause-runs
+returns-clause-runs g c =
     runs_on c.args.end _ _ _ _ _ _ _ _ _ c.requires.going (runs_none _ _ _ _ c.requires.going c.requires.sound c.requires.over) c.in_default.ensures.ok.1 c.run-end.ensures.runs
 
-pub returns-in_default-clause-console : goal.returns-in_default-clause-console
-returns-in_default-clause-console g c = ap (λ (o : Output). o.bytes) c.run-end.ensures.record_is.console ∙ c.in_default.ensures.ok.0.console
+pub returns-clause-console : goal.returns-clause-console
+returns-clause-console g c = ap (λ (o : Output). o.bytes) c.run-end.ensures.record_is.console ∙ c.in_default.ensures.ok.0.console
 
-pub returns-in_default-clause-sends : goal.returns-in_default-clause-sends
-returns-in_default-clause-sends g c = λ shelf setup old here.
+pub returns-clause-sends : goal.returns-clause-sends
+returns-clause-sends g c = λ shelf setup old here.
     let sent = c.in_default.ensures.ok.1.live shelf setup old _ here.live in
     record {
       mid = _;
