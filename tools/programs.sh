@@ -78,13 +78,13 @@ version() {
     fi
 }
 
-# Sets `program` to the proved program if it is up to date, else to one that is built without its proof. A line on standard error,
-# from the script SELF, says which.
+# Sets `program` to the program that a proof has left if no source is newer, else to one that is built without its proof. A line on
+# standard error, from the script SELF, says which. Nothing tells whether another than `build` and `rt ci` has put a file there.
 #
 # usage: choose SELF PROGRAM
 choose() {
     if is_proved "$2"; then
-        echo "$1: the proved program, crates/$2/out/$2" >&2
+        echo "$1: crates/$2/out/$2, which ./build or .ci/run has left; no source is newer" >&2
         program=$(proved_program "$2")
         return
     fi

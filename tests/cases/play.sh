@@ -21,7 +21,7 @@ plays_in() {
     (cd "$1" && shift && PATH=$work/bin:$PATH "$work/top/play" "$@") >"$work/stdout" 2>"$work/stderr" || status=$?
 }
 
-proved='play: the proved program, crates/windplay/out/windplay\n'
+proved='play: crates/windplay/out/windplay, which ./build or .ci/run has left; no source is newer\n'
 tried='play: without proof, some 1,000 to 2,000 times slower than the proved program (./build windplay)\n'
 building='play: building it takes about a minute, once\n'
 
