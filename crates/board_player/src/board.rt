@@ -9,7 +9,7 @@ use crate::Step;
 use crate::bursts::burst;
 use crate::clock::Clock;
 use crate::loading::load;
-use crate::order::{Known, is_early, make, next};
+use crate::order::{Known, found, is_early, make, next};
 use crate::parts::Parts;
 use board_actors::{Feed, Shell};
 use con_line::Console;
@@ -143,8 +143,8 @@ impl Board {
         make(&mut self.parts, &mut self.known, next)
     }
 
-    /// Makes at most `most` steps at once: instructions of the task or routine that is known to
-    /// make the next steps. They need no file and write nothing. Returns how many it made, which
+    /// Makes at most `most` steps at once: instructions of the task or routine that makes the next
+    /// steps. They need no file and write nothing. Returns how many it made, which
     /// may always be 0; only `step` tells what the next step is. The board has no reply afterwards.
     #[tactic(auto, using(crate::proofs::TaskBursts::holds_on))]
     #[inline(always)]
@@ -155,8 +155,8 @@ impl Board {
         ensures within { result ≤ most }
         ensures reply { last_reply self.new ≡ None }
     {
+        self.known = found(&self.parts, self.known);
         if !self.known.has_actor() {
-            self.known = self.known.unreplied();
             return 0;
         }
         step_law();

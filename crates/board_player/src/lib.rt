@@ -14,6 +14,7 @@ mod shell_steps;
 mod task_steps;
 
 pub use board::Board;
+pub use board_actors::{brought, chunk_len};
 pub use live_loading::FileAnswer;
 use wind_base::Name;
 pub use wind_machine::{Next, Phase, extend_law, instant_law, live_law, silent_law};

@@ -100,18 +100,6 @@ impl Known {
         }
     }
 
-    /// The same without the reply of the step before.
-    #[inline(always)]
-    pub(crate) fn unreplied(self) -> Known
-        ensures reply { reply_known result ≡ None }
-        ensures known { (k : KernState) (level : Option Regs) → IsKnown k level self → IsKnown k level result }
-    {
-        match self {
-            Known::Called(_) => Known::Nothing,
-            Known::Nothing | Known::Runner(_) | Known::Routine => self,
-        }
-    }
-
     /// The reply of the step before, if it was a kernel call.
     pub(crate) fn reply(self) -> Option<Reply>
         ensures { result ≡ reply_known self }
@@ -295,6 +283,25 @@ pub(crate) fn is_early(parts: &Parts)
 {
     if let Some((time, _)) = parts.schedule.next() {
         is_time(time);
+    }
+}
+
+/// Who makes the next step, found now if it isn't known from the step before, without the reply of
+/// that step. Nothing is known if an interrupt routine is active of which nothing was known.
+#[inline(always)]
+pub(crate) fn found(parts: &Parts, known: Known) -> Known
+    requires { IsKnown parts.now.world.kern parts.now.world.watch.level known }
+    ensures reply { reply_known result ≡ None }
+    ensures known { IsKnown parts.now.world.kern parts.now.world.watch.level result }
+{
+    match known {
+        Known::Runner(_) | Known::Routine => known,
+        Known::Nothing | Known::Called(_) => {
+            if parts.world.watch.active() {
+                return Known::Nothing;
+            }
+            Known::Runner(ask(parts))
+        }
     }
 }
 

@@ -6,7 +6,7 @@ use Rattle.std.proofs.lemmas.Bool.{eqb-true}
 use Rattle.std.proofs.lemmas.List.Folds.{list_any-append}
 use Rattle.con_line.specs.State.{opening_console}
 use Rattle.con_line.specs.Keys.{done_by, is_text, key_of}
-use Rattle.wind_machine.specs.Feed.{supplied}
+use Rattle.board_trace.specs.WindMachineFeed.{supplied}
 use Rattle.board_trace.specs.Before.{has_aborted, is_interrupt_byte}
 
 -- both choices have it, so what is chosen has it

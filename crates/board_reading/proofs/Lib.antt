@@ -1,4 +1,4 @@
-mod Collecting
+pub mod Collecting
 mod Coming
 mod Taking
 mod Reading

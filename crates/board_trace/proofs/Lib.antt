@@ -3,6 +3,5 @@ pub mod Naming
 pub mod Replying
 mod Replaying
 mod Observing
-mod Parts
-mod Owning
+pub mod Parts
 mod Timing

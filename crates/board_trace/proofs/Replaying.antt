@@ -3,7 +3,7 @@ use Rattle.std.proofs.Common.{◌≡◌, ℕ, Bool, true, false, cond, List, [],
 use Rattle.std.specs.Option.{option_map}
 use Rattle.std.proofs.lemmas.List.{append-nil}
 use Rattle.wind_machine.specs.Laws.{StepLaw}
-use Rattle.wind_owners.specs.Owners.{mutex_named}
+use Rattle.board_trace.specs.Mutexes.{mutex_named}
 use Rattle.wind_machine.specs.Replies.{step_reply}
 use Rattle.wind_machine.specs.State.{State}
 use Rattle.wind_machine.specs.declared.next.Next.{Next}

@@ -29,7 +29,7 @@ use Rattle.wind_machine.specs.declared.phase.Phase.{Phase}
 use Rattle.wind_machine.specs.declared.phase.Phase.TheVariants as phases
 use Rattle.wind_machine.proofs.Asking.{own_gate, shells, at_load}
 use Rattle.board_trace.proofs.Parts.{Each, HoldsElse, each_change, each_fault, each_instruction, each_message, each_outside, each_owner, each_routine, each_switch, each_write}
-use Rattle.wind_owners.specs.Owners.{mutex_named}
+use Rattle.board_trace.specs.Mutexes.{mutex_named}
 use Rattle.board_trace.specs.Before.{before_step, is_calling, counter_at, gate_there, call_there}
 use Rattle.board_trace.specs.Laws.{reply_in, replies_in, listed, ReplyLaw}
 use Rattle.board_trace.specs.Level.{is_exception, faults, routines}

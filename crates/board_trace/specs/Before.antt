@@ -15,7 +15,7 @@ use Rattle.kernel_world.specs.CallWords.{call_by}
 use Rattle.kernel_world.specs.declared.actor.Actor.{Actor}
 use Rattle.kernel_world.specs.declared.call.Call.{Call}
 use Rattle.wind_machine.specs.State.{State}
-use Rattle.wind_owners.specs.Owners.{mutex_named, owner_in}
+use Rattle.board_trace.specs.Mutexes.{mutex_named, owner_in}
 use Rattle.wind_machine.specs.Feed.{chunk, brought}
 use Rattle.wind_machine.specs.Next.{next}
 use Rattle.wind_machine.specs.Machine.{actor_of}

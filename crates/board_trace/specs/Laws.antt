@@ -16,7 +16,6 @@ use Rattle.wind_machine.specs.Machine.{machine_step}
 use Rattle.wind_machine.specs.State.{State}
 use Rattle.wind_machine.specs.Replies.{step_reply}
 use Rattle.wind_machine.specs.Run.{Answers}
-use Rattle.wind_owners.specs.Owners.{owner_in}
 use Rattle.board_changes.specs.Replay.{Life, life_of, replayed, changes_naming}
 use Rattle.board_changes.specs.Spans.{view_of}
 use Rattle.board_changes.specs.Tasks.{has_result, wait_changes}
@@ -71,29 +70,12 @@ StepReplayLaw = (said : FileSaid) (s t : State) (who : ℕ) → IfSome (next_eve
     → is_instruction (before_step s) t.world.output ≡ false
     → replayed (changes_naming who (changes_told (happenings said s t))) (life_in s who) ≡ life_in t who
 
--- who owns this mutex after something happens
-abbrev pub owner_then : ℕ → Happening → Option ℕ → Option ℕ
-owner_then id (told.Owned mutex owner) o = if mutex == id then Some owner else o
-owner_then id (told.Freed mutex owner) o = if mutex == id then None else o
-owner_then id h o = o
-
--- the same after happenings, one after another
-abbrev pub owner_replayed : ℕ → List Happening → Option ℕ → Option ℕ
-owner_replayed id [] o = o
-owner_replayed id (h ∷ hs) o = owner_replayed id hs (owner_then id h o)
-
--- in each step from a state with the invariant, who owns a mutex before the step and the lines of the step give who owns it
--- after the step. So a mutex gets or loses an owner only where a line says so
-abbrev pub OwnersLaw : Type 0
-OwnersLaw = (said : FileSaid) (s t : State) (id : ℕ) → Good s → machine_step said s ≡ Some t
-    → owner_replayed id (happenings said s t) (owner_in s.world id) ≡ owner_in t.world id
-
 -- the time of the newest of some lines
 abbrev pub newest_time : List Line → ℕ
 newest_time [] = 0
 newest_time (l ∷ ls) = l.time
 
--- lines of which each newer one has the same time or a later one; the newest is first
+-- the lines of a run, newest first: none has an earlier time than an older one
 abbrev pub AreInTime : List Line → Type 0
 AreInTime [] = Unit {0}
 AreInTime (l ∷ ls) = (newest_time ls ≤ l.time) × AreInTime ls

@@ -1,5 +1,6 @@
 pub mod Views
 pub mod Waited
+pub mod Mutexes
 pub mod Before
 pub mod Snapshots
 pub mod Errors
@@ -13,10 +14,10 @@ pub mod Runs
 pub mod Laws
 pub mod Running
 pub mod Observed
-pub use Rattle.wind_owners.specs.Owners as WindOwnersOwners
 pub use Rattle.wind_machine.specs.Silent as WindMachineSilent
 pub use Rattle.wind_machine.specs.Machine as WindMachineMachine
 pub use Rattle.wind_machine.specs.State as WindMachineState
 pub use Rattle.wind_machine.specs.Next as WindMachineNext
+pub use Rattle.wind_machine.specs.Feed as WindMachineFeed
 pub use Rattle.wind_machine.specs.declared.next.Next as WindMachineNextType
 pub use Rattle.wind_machine.specs.declared.phase.Phase as WindMachinePhase

@@ -1,6 +1,6 @@
 -- A mutex that gets or loses its owner.
 use Rattle.std.specs.Prelude.{ℕ, ◌==◌, Bool, true, false, if◌then◌else◌, List, [], ◌∷◌, ◌++◌, Option, None, Some}
-use Rattle.wind_owners.specs.Owners.{mutex_named}
+use Rattle.board_trace.specs.Mutexes.{mutex_named}
 use Rattle.board_trace.specs.declared.moment.BeforeStep.{BeforeStep}
 use Rattle.board_trace.specs.declared.moment.AfterStep.{AfterStep}
 use Rattle.board_trace.specs.declared.happening.Happening.{Happening}

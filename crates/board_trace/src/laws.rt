@@ -1,11 +1,10 @@
 //! What follows from the definitions of a trace alone.
 
-ghost use Rattle.board_trace.specs.Laws.{ReplyLaw, ErrorLaw, OwnersLaw, StepReplayLaw, TimeLaw, WaitEndLaw};
+ghost use Rattle.board_trace.specs.Laws.{ReplyLaw, ErrorLaw, StepReplayLaw, TimeLaw, WaitEndLaw};
 ghost use Rattle.board_trace.specs.Observed.{RunOneRunsLaw, RunTilingLaw};
 
 use board_changes::spans_law;
 use wind_machine::{extend_law, run_law, step_law};
-use wind_owners::owner_law;
 
 /// The law of replies: the happenings of a step tell exactly one call if the step makes one, with
 /// the reply of that call. So a line tells a refusal exactly if the call was refused, with its
@@ -32,15 +31,6 @@ pub fn step_replay_law()
     ensures { StepReplayLaw }
 {
     step_law();
-}
-
-/// The law of owners: in each step from a state with the invariant, who owns a mutex after the step
-/// follows from who owned it before and the step's lines. So a mutex gets or loses an owner only
-/// where a line says so.
-pub fn owners_law()
-    ensures { OwnersLaw }
-{
-    owner_law();
 }
 
 /// The law of time: along the lines of a run, board time never decreases.

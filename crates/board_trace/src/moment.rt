@@ -1,7 +1,7 @@
 //! What is read of a state before and after a step.
 
 ghost use Rattle.std.specs.Prelude.{◌≡◌};
-ghost use Rattle.wind_owners.specs.Owners.{mutex_of as mutex_of_lem};
+ghost use Rattle.board_trace.specs.Mutexes.{mutex_of as mutex_of_lem};
 
 use kernel_world::{Actor, Call, Reply};
 use wind_base::Gate;

@@ -2,7 +2,7 @@
 
 ghost use Rattle.std.specs.Prelude.{◌≡◌, ◌++◌, OnOk};
 ghost use Rattle.board_trace.specs.Owners.{freed, owned, owners, same_owner as same_owner_lem};
-ghost use Rattle.wind_owners.specs.Owners.{mutex_named as mutex_named_lem};
+ghost use Rattle.board_trace.specs.Mutexes.{mutex_named as mutex_named_lem};
 
 use crate::happening::Happening;
 use crate::list::add;

@@ -1,10 +1,10 @@
 -- A load that comes next writes no RAM outside its own blocks.
 use Rattle.std.proofs.Common.{◌≡◌, ℕ, List, subst}
 use Rattle.id_table.specs.Idents.{shell_id}
-use Rattle.live_loading.specs.KernelWorldObjects.{IsReady}
-use Rattle.live_loading.specs.Said.{FileSaid}
-use Rattle.live_loading.specs.Loading.{load_call}
-use Rattle.live_loading.specs.Laws.{AloneLaw, OnlyLoads}
+use Rattle.wind_machine.specs.KernelWorldObjects.{IsReady}
+use Rattle.wind_machine.specs.LiveLoadingSaid.{FileSaid}
+use Rattle.wind_machine.specs.LiveLoadingLoading.{load_call}
+use Rattle.wind_machine.specs.LiveLoadingLaws.{AloneLaw, OnlyLoads}
 use Rattle.wind_machine.specs.State.{State}
 use Rattle.wind_machine.specs.Good.{Good}
 use Rattle.wind_machine.specs.ActorSteps.{shell_world}

@@ -7,8 +7,8 @@ use Rattle.wind_outside.specs.Devices.{DeviceState}
 use Rattle.tick_file.specs.Schedule.{timetable_of}
 use Rattle.msg_queue.specs.State.{QueueState}
 use Rattle.msg_queue.specs.Laws.{IsConserved as AreConserved}
-use Rattle.live_loading.specs.Laws.{OnlyLoads}
-use Rattle.live_loading.specs.Loading.{load_call}
+use Rattle.wind_machine.specs.LiveLoadingLaws.{OnlyLoads}
+use Rattle.wind_machine.specs.LiveLoadingLoading.{load_call}
 use Rattle.wind_machine.specs.State.{State}
 use Rattle.wind_machine.specs.ActorSteps.{shell_world}
 use Rattle.wind_machine.specs.Instants.{IsInstant}

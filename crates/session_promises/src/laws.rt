@@ -2,9 +2,8 @@
 
 ghost use Rattle.session_promises.specs.Promises.{PromiseLaw};
 
-use live_loading::loading_law;
 use wind_console::console_law;
-use wind_machine::{interrupt_law, run_law};
+use wind_machine::{interrupt_law, loading_law, run_law};
 use wind_messages::message_law;
 
 /// The law of runs, all in one: after any number of steps of every run, the most urgent ready task

@@ -19,7 +19,7 @@ use Rattle.board_trace.specs.Level.{begins, exception_told, faults, is_abort, is
 use Rattle.board_trace.specs.Messages.{messages, messages_by, messages_of, sent_to, then_queued}
 use Rattle.board_trace.specs.Outside.{event_told, from_outside, is_last, switches}
 use Rattle.board_trace.specs.Owners.{freed, owned, owners, owners_at, same_owner}
-use Rattle.board_trace.specs.WindOwnersOwners.{mutex_named}
+use Rattle.board_trace.specs.Mutexes.{mutex_named}
 use Rattle.board_trace.specs.Steps.{called, causes, changes, effects, happenings_from, has_written, instruction_of, is_instruction, step_happenings, writes}
 use Rattle.board_trace.specs.Views.{SnapshotState}
 use Rattle.board_trace.specs.declared.moment.AfterStep.{AfterStep}

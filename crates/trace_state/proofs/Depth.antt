@@ -4,9 +4,9 @@ use Rattle.wind_base.specs.declared.regs.Regs.{Regs}
 use Rattle.task_block.specs.declared.task.Task.{Task}
 use Rattle.kernel_world.specs.declared.objects.Objects.{Objects}
 use Rattle.board_changes.specs.declared.awaited.Awaited.{Awaited}
-use Rattle.board_trace.specs.Running.{running_task}
-use Rattle.board_trace.specs.Waited.{awaited_by}
-use Rattle.wind_machine.specs.State.{State}
+use Rattle.board_reading.specs.BoardTraceRunning.{running_task}
+use Rattle.board_reading.specs.BoardTraceWaited.{awaited_by}
+use Rattle.board_reading.specs.WindMachineState.{State}
 use Rattle.serde_json.specs.Data.{Data, depth}
 use Rattle.serde_json.specs.Read.{max_depth}
 use Rattle.trace_state.specs.Json.{number_of}

@@ -1,4 +1,3 @@
-mod Collecting
 mod Rows
 mod Shallow
 mod Nesting

@@ -3,10 +3,10 @@ use Rattle.std.specs.Prelude.{◌≡◌, ℕ, ◌-◌, ◌^◌, List, [], ◌∷
 use Rattle.serde_json.specs.Data.{Data, string}
 use Rattle.serde_json.specs.Read.{read}
 use Rattle.kernel_world.specs.State.{WorldState}
-use Rattle.wind_machine.specs.State.{State}
-use Rattle.wind_machine.specs.declared.phase.Phase.{Phase}
-use Rattle.wind_machine.specs.declared.phase.Phase.TheVariants as phases
-use Rattle.board_trace.specs.Running.{running_task}
+use Rattle.board_reading.specs.WindMachineState.{State}
+use Rattle.board_reading.specs.WindMachinePhase.{Phase}
+use Rattle.board_reading.specs.WindMachinePhase.TheVariants as phases
+use Rattle.board_reading.specs.BoardTraceRunning.{running_task}
 use Rattle.trace_state.specs.Json.{list_of, number_of, number_or_null, object_of}
 use Rattle.trace_state.specs.Memory.{block_data, ram_data}
 use Rattle.trace_state.specs.Modules.{devices_data, module_data, symbol_data}

@@ -6,7 +6,7 @@ use Rattle.task_block.specs.declared.task.Task.{Task}
 use Rattle.kernel_world.specs.declared.objects.Objects.{Objects}
 use Rattle.board_changes.specs.declared.awaited.Awaited.{Awaited}
 use Rattle.board_changes.specs.declared.awaited.Awaited.TheVariants as awaited
-use Rattle.board_trace.specs.Waited.{awaited_by}
+use Rattle.board_reading.specs.BoardTraceWaited.{awaited_by}
 use Rattle.trace_state.specs.Json.{list_of, number_of, number_or_null, object_of, text_of}
 
 -- the word for what is waited for

@@ -3,7 +3,7 @@
 ghost use Rattle.std.specs.Prelude.{◌≡◌, IfOk, OnOk};
 ghost use Rattle.serde_json.specs.View.{view};
 ghost use Rattle.kernel_world.specs.Seen.{world_seen};
-ghost use Rattle.board_player.specs.Seen.{seen};
+ghost use Rattle.board_reading.specs.BoardPlayerSeen.{seen};
 ghost use Rattle.trace_state.specs.Held.{members_in};
 ghost use Rattle.trace_state.specs.Board.{IsTextOf, board_data, console_data, memory_members, module_members, object_members, phase_word as phase_word_lem, shell_data, shell_members, task_members, time_members, time_shown as time_shown_lem};
 ghost use Rattle.trace_state.specs.Json.{with_all};

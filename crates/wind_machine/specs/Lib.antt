@@ -23,4 +23,6 @@ pub use Rattle.live_loading.specs.KernelCallsCalls
 pub use Rattle.live_loading.specs.KernelCallsSpace
 pub use Rattle.live_loading.specs.Said as LiveLoadingSaid
 pub use Rattle.live_loading.specs.Loading as LiveLoadingLoading
+pub use Rattle.live_loading.specs.Laws as LiveLoadingLaws
+pub use Rattle.live_loading.specs.KernelWorldObjects
 pub use Rattle.live_loading.specs.Replies as LiveLoadingReplies

@@ -11,5 +11,6 @@ pub use laws::{
     instant_law, interrupt_law, order_law, run_law, safety_law, settle_law, silent_law, slot_law,
     step_law,
 };
+pub use live_loading::loading_law;
 pub use next::Next;
 pub use phase::Phase;

@@ -13,7 +13,7 @@ use Rattle.kernel_world.specs.State.{WorldState}
 use Rattle.id_table.specs.Idents.{shell_id}
 use Rattle.kernel_world.specs.Actors.{is_interrupt, is_shell, caller_words}
 use Rattle.call_rows.specs.Unless.{unless}
-use Rattle.kernel_calls.specs.Calls.{Row, scene_of, row_of, declined, allowed_row, made, answered, call}
+use Rattle.wind_machine.specs.KernelCallsCalls.{Row, scene_of, row_of, declined, allowed_row, made, answered, call}
 use Rattle.kernel_world.specs.Allowed.{is_call, is_isr_callable, is_shells_own}
 use Rattle.kernel_world.specs.Replies.{left_gate}
 use Rattle.kernel_world.specs.declared.actor.Actor.{Actor}

@@ -12,7 +12,7 @@ use Rattle.wind_machine.specs.State.{State}
 use Rattle.wind_machine.specs.Good.{Good}
 use Rattle.wind_machine.specs.Machine.{opening}
 use Rattle.wind_machine.specs.Run.{Answers, after}
-use Rattle.live_loading.specs.Laws.{AloneLaw}
+use Rattle.wind_machine.specs.LiveLoadingLaws.{AloneLaw}
 use Rattle.wind_machine.specs.Laws.{RunLaw}
 use Rattle.wind_messages.specs.Messages.{step_accepts, step_takes}
 use Rattle.wind_messages.specs.Laws.{ConservationLaw}

@@ -18,7 +18,7 @@ use Rattle.msg_queue.specs.Kept.{IsKept}
 use Rattle.kernel_world.specs.State.{WorldState}
 use Rattle.id_table.specs.Idents.{shell_id}
 use Rattle.kernel_world.specs.Actors.{caller_words}
-use Rattle.kernel_calls.specs.Calls.{scene_of}
+use Rattle.wind_machine.specs.KernelCallsCalls.{scene_of}
 use Rattle.kernel_world.specs.Allowed.{is_call}
 use Rattle.kernel_world.specs.Replies.{left_gate}
 use Rattle.call_rows.specs.Ending.{ended}

@@ -39,7 +39,7 @@ use Rattle.call_rows.specs.SemRows as sem
 use Rattle.call_rows.specs.QueueRows as queue
 use Rattle.call_rows.specs.WatchRows as watch
 use Rattle.call_rows.specs.Spawning.{SpawnState, SpawnRow, no_spawn, spawned_at, spawned_if, stack_bytes, task_wanted, quick_wanted, spawn_state}
-use Rattle.kernel_calls.specs.Calls.{of_objects, of_queues, of_watch, of_ram, scene_of, row_of}
+use Rattle.wind_machine.specs.KernelCallsCalls.{of_objects, of_queues, of_watch, of_ram, scene_of, row_of}
 use Rattle.kernel_world.specs.CallWords.{ten_arguments, quick_arguments, call_of}
 use Rattle.kernel_world.specs.declared.actor.Actor.{Actor}
 use Rattle.kernel_world.specs.declared.actor.Actor.TheVariants.{Task as by_task, Interrupt}

@@ -20,14 +20,14 @@ use Rattle.msg_queue.proofs.Calm.{next-tick, calms}
 use Rattle.kernel_world.specs.State.{WorldState}
 use Rattle.kernel_world.specs.Objects.{IsReady}
 use Rattle.id_table.specs.Idents.{shell_id}
-use Rattle.kernel_calls.specs.Calls.{scene_of}
+use Rattle.wind_machine.specs.KernelCallsCalls.{scene_of}
 use Rattle.kernel_world.specs.Replies.{left_gate}
 use Rattle.kernel_world.specs.declared.actor.Actor.{Actor}
 use Rattle.kernel_world.specs.declared.actor.Actor.TheVariants.{Task as by_task, Interrupt}
 use Rattle.kernel_world.proofs.Calming.{queues-calm}
-use Rattle.live_loading.specs.Said.{FileSaid}
-use Rattle.live_loading.specs.Loading.{shell}
-use Rattle.live_loading.specs.Laws.{AloneLaw}
+use Rattle.wind_machine.specs.LiveLoadingSaid.{FileSaid}
+use Rattle.wind_machine.specs.LiveLoadingLoading.{shell}
+use Rattle.wind_machine.specs.LiveLoadingLaws.{AloneLaw}
 use Rattle.wind_machine.specs.State.{State}
 use Rattle.wind_machine.specs.Good.{Good}
 use Rattle.wind_machine.specs.Feed.{chunk, after_chunk, brought}

@@ -10,7 +10,7 @@ use Rattle.kernel_world.specs.CallWords.{call_by}
 use Rattle.kernel_world.specs.declared.call.Call.{Call}
 use Rattle.kernel_world.specs.declared.call.Call.TheVariants as calls
 use Rattle.kernel_world.specs.Replies.{left_gate}
-use Rattle.kernel_calls.specs.Calls.{scene_of}
+use Rattle.wind_machine.specs.KernelCallsCalls.{scene_of}
 use Rattle.call_rows.specs.QueueRows.{sending}
 use Rattle.kernel_world.specs.declared.actor.Actor.{Actor}
 use Rattle.kernel_world.specs.declared.actor.Actor.TheVariants.{Task as by_task, Interrupt}

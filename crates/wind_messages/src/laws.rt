@@ -2,8 +2,7 @@
 
 ghost use Rattle.wind_messages.specs.Laws.{ConservationLaw};
 
-use live_loading::loading_law;
-use wind_machine::run_law;
+use wind_machine::{loading_law, run_law};
 
 /// The law of messages, for every console file, tick file and list of devices, and whatever is said
 /// of module files. For each queue that is live after *k* steps, the accepted messages are, each as

@@ -12,9 +12,9 @@ use Rattle.kernel_world.specs.declared.actor.Actor.TheVariants.{Task as by_task,
 use Rattle.kernel_world.specs.declared.reply.Reply.{Reply}
 use Rattle.kernel_world.specs.declared.reply.Reply.TheVariants.{Answer, Refusal, Later, Gone}
 use Rattle.call_rows.specs.Unless.{unless}
-use Rattle.kernel_calls.specs.Calls.{allowed_row, call, declined, made, refusal_before, row_of}
+use Rattle.wind_machine.specs.KernelCallsCalls.{allowed_row, call, declined, made, refusal_before, row_of}
 use Rattle.wind_machine.specs.Processor.{called, without_own}
-use Rattle.wind_owners.specs.Owners.{mutex_named, owner_in}
+use Rattle.board_trace.specs.Mutexes.{mutex_named, owner_in}
 use Rattle.wind_owners.proofs.Lists.{owner_among}
 use Rattle.wind_owners.proofs.Rows.{row_keeps}
 

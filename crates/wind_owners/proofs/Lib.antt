@@ -3,3 +3,4 @@ mod Rows
 mod Calls
 mod Parts
 mod Steps
+mod Owning

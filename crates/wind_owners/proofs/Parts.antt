@@ -24,7 +24,8 @@ use Rattle.wind_machine.specs.Task.{aborted, listening}
 use Rattle.wind_machine.specs.Text.{prompt_text}
 use Rattle.wind_machine.specs.Shell.{at_prompt, came_to, eval_part, eval_state, prompt_part, prompted, returned, with_eval}
 use Rattle.wind_machine.specs.Processor.{actor_part, bus_of, called, executed, gate_part, gate_under, is_return, part_at, regs_of, return_part, trap_text, trapped, without_own, word_part}
-use Rattle.wind_owners.specs.Owners.{call_at, mutex_named, owner_in}
+use Rattle.wind_owners.specs.Owners.{call_at}
+use Rattle.board_trace.specs.Mutexes.{mutex_named, owner_in}
 use Rattle.wind_owners.proofs.Calls.{call_keeps}
 
 module _ (id : ℕ) (w : WorldState) where

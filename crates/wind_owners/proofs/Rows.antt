@@ -23,8 +23,8 @@ use Rattle.kernel_world.specs.declared.actor.Actor.{Actor}
 use Rattle.kernel_world.specs.declared.actor.Actor.TheVariants.{Task as by_task, Interrupt}
 use Rattle.call_rows.specs.SemRows.{ObjectRow, refused, mutexes, made, binary_row, counting_row, mutex_row, take_row, give_row, flush_row, delete_row, priority_row}
 use Rattle.call_rows.proofs.RowWalks.{on_made, on_binary, on_counting, on_mutex, on_plain_take, on_mutex_take, on_take, on_plain_give, on_mutex_give, on_give, on_flush, on_delete, on_priority}
-use Rattle.kernel_calls.specs.Calls.{row_of}
-use Rattle.wind_owners.specs.Owners.{mutex_named, owner_in}
+use Rattle.wind_machine.specs.KernelCallsCalls.{row_of}
+use Rattle.board_trace.specs.Mutexes.{mutex_named, owner_in}
 use Rattle.wind_owners.proofs.Lists.{owner_among, made as made_among, taken_out, written}
 
 module _ (id : ℕ) where

@@ -14,9 +14,9 @@ use Rattle.kernel_world.specs.declared.objects.Objects.{Objects}
 use Rattle.kernel_world.specs.declared.actor.Actor.{Actor}
 use Rattle.kernel_world.specs.declared.actor.Actor.TheVariants.{Task as by_task, Interrupt}
 use Rattle.kernel_world.specs.declared.call.Call.{Call}
-use Rattle.live_loading.specs.Said.{FileSaid}
-use Rattle.live_loading.specs.Loading.{shell}
-use Rattle.live_loading.specs.Laws.{AloneLaw}
+use Rattle.wind_machine.specs.LiveLoadingSaid.{FileSaid}
+use Rattle.wind_machine.specs.LiveLoadingLoading.{shell}
+use Rattle.wind_machine.specs.LiveLoadingLaws.{AloneLaw}
 use Rattle.wind_machine.specs.State.{State}
 use Rattle.wind_machine.specs.Good.{Good}
 use Rattle.wind_machine.specs.Shell.{read_part}
@@ -31,7 +31,8 @@ use Rattle.wind_machine.proofs.Free.{runner_ready, step_start_ready}
 use Rattle.wind_machine.proofs.Order.{by_next}
 use Rattle.wind_machine.proofs.Steps.{step_start_advances}
 use Rattle.wind_messages.specs.Messages.{is_call, step_start_world}
-use Rattle.wind_owners.specs.Owners.{OwnerLaw, call_at, call_by_actor, mutex_named, owner_in, step_call}
+use Rattle.wind_owners.specs.Owners.{OwnerLaw, call_at, call_by_actor, step_call}
+use Rattle.board_trace.specs.Mutexes.{mutex_named, owner_in}
 use Rattle.wind_owners.proofs.Lists.{owner_among}
 use Rattle.wind_owners.proofs.Parts.{actor_keeps, evaluates, prompts}
 

@@ -1,35 +1,20 @@
--- Who owns each mutex, and the call of a step that may change it.
-use Rattle.std.specs.Prelude.{◌≡◌, ℕ, if◌then◌else◌, Option, None, Some}
+-- Who owns each mutex: the call of a step that may change it, and the lines of a trace that tell it.
+use Rattle.std.specs.Prelude.{◌≡◌, ℕ, ◌==◌, if◌then◌else◌, List, [], ◌∷◌, Option, None, Some}
 use Rattle.wind_base.specs.declared.gate.Gate.{Gate}
-use Rattle.id_table.specs.Rows.{object_of}
-use Rattle.inheritance.specs.Mutexes.{owner_in as owner_of}
 use Rattle.kernel_world.specs.State.{WorldState}
 use Rattle.kernel_world.specs.CallWords.{call_by}
 use Rattle.kernel_world.specs.declared.actor.Actor.{Actor}
 use Rattle.kernel_world.specs.declared.call.Call.{Call}
-use Rattle.kernel_world.specs.declared.call.Call.TheVariants as calls
-use Rattle.live_loading.specs.Said.{FileSaid}
+use Rattle.wind_machine.specs.LiveLoadingSaid.{FileSaid}
 use Rattle.wind_machine.specs.Good.{Good}
 use Rattle.wind_machine.specs.Machine.{machine_step, stepping}
 use Rattle.wind_machine.specs.Processor.{gate_under}
 use Rattle.wind_machine.specs.State.{State}
 use Rattle.wind_messages.specs.Messages.{is_at_work, step_start_world}
-
--- the owner of the mutex with this id, if there is one
-abbrev pub owner_in : WorldState → ℕ → Option ℕ
-owner_in w id = owner_of (object_of w.objects.mutexes.rows id)
-
--- the mutex that a call may give an owner, or take it from
-abbrev pub mutex_of : Call → Option ℕ
-mutex_of (calls.SemTake id timeout) = Some id
-mutex_of (calls.SemGive id) = Some id
-mutex_of (calls.SemDelete id) = Some id
-mutex_of c = None
-
--- the mutex that a call names
-abbrev pub mutex_named : Option Call → Option ℕ
-mutex_named None = None
-mutex_named (Some c) = mutex_of c
+use Rattle.board_trace.specs.Mutexes.{mutex_named, owner_in}
+use Rattle.board_trace.specs.Steps.{happenings}
+use Rattle.board_trace.specs.declared.happening.Happening.{Happening}
+use Rattle.board_trace.specs.declared.happening.Happening.TheVariants as told
 
 -- ---- the call of a step
 -- the call at a gate
@@ -53,3 +38,21 @@ step_call s = call_by_actor s (stepping s)
 abbrev pub OwnerLaw : Type 0
 OwnerLaw = (said : FileSaid) (s t : State) (id : ℕ) → Good s → machine_step said s ≡ Some t
     → (mutex_named (step_call s) ≡ Some id → ⊥) → owner_in t.world id ≡ owner_in s.world id
+
+-- ---- the lines of a trace
+-- who owns this mutex after something happens
+abbrev pub owner_then : ℕ → Happening → Option ℕ → Option ℕ
+owner_then id (told.Owned mutex owner) o = if mutex == id then Some owner else o
+owner_then id (told.Freed mutex owner) o = if mutex == id then None else o
+owner_then id h o = o
+
+-- the same after happenings, one after another
+abbrev pub owner_replayed : ℕ → List Happening → Option ℕ → Option ℕ
+owner_replayed id [] o = o
+owner_replayed id (h ∷ hs) o = owner_replayed id hs (owner_then id h o)
+
+-- in each step from a state with the invariant, who owns a mutex before the step and the lines of the step give who owns it
+-- after the step. So a mutex gets or loses an owner only where a line says so
+abbrev pub OwnersLaw : Type 0
+OwnersLaw = (said : FileSaid) (s t : State) (id : ℕ) → Good s → machine_step said s ≡ Some t
+    → owner_replayed id (happenings said s t) (owner_in s.world id) ≡ owner_in t.world id

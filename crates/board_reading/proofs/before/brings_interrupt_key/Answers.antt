@@ -1,6 +1,6 @@
 use Rattle.std.proofs.Common.{sym, take, ap, ◌∙◌}
 use Rattle.std.specs.List.{list_any}
-use Rattle.wind_machine.specs.declared.next.Next.TheVariants.{Come}
+use Rattle.board_trace.specs.WindMachineNextType.TheVariants.{Come}
 use Rattle.board_trace.specs.Before.{has_interrupt_key, is_interrupt_byte}
 use Rattle.board_reading.proofs.InterruptKey.{in_bytes}
 use Rattle.board_reading.proofs.before.brings_interrupt_key.Goals as goal

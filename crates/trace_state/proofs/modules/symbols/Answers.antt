@@ -3,7 +3,7 @@ use Rattle.std.specs.Prelude.{option_copied}
 use Rattle.std.proofs.lemmas.Option.{get_or_from_slice_get}
 use Rattle.serde_json.specs.Data.{array}
 use Rattle.serde_json.specs.View.{items_of}
-use Rattle.trace_state.proofs.Collecting.{all_items, next_item}
+use Rattle.board_reading.proofs.Collecting.{all_items, next_item}
 use Rattle.trace_state.specs.Held.{items_in}
 use Rattle.trace_state.specs.Modules.{symbol_data}
 use Rattle.trace_state.proofs.modules.symbols.Goals as goal

@@ -1,7 +1,7 @@
 use Rattle.std.proofs.Common.{◌<◌, ◌≤◌, ◌++◌, ◌∷◌, [], length, map, ap, ◌∙◌, arith}
 use Rattle.serde_json.specs.Data.{array}
 use Rattle.serde_json.specs.View.{items_of}
-use Rattle.trace_state.proofs.Collecting.{all_items, next_item}
+use Rattle.board_reading.proofs.Collecting.{all_items, next_item}
 use Rattle.trace_state.specs.Held.{items_in}
 use Rattle.trace_state.proofs.Rows.{row_at}
 use Rattle.trace_state.proofs.objects.rows.Goals as goal

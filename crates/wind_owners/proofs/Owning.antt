@@ -21,9 +21,9 @@ use Rattle.wind_machine.specs.declared.phase.Phase.{Phase}
 use Rattle.wind_machine.specs.declared.phase.Phase.TheVariants as phases
 use Rattle.wind_machine.proofs.Asking.{own_gate, own_words}
 use Rattle.wind_messages.specs.Messages.{is_at_work, is_call, step_start_world}
-use Rattle.wind_owners.specs.Owners.{OwnerLaw, call_at, call_by_actor, mutex_named, owner_in, step_call}
+use Rattle.wind_owners.specs.Owners.{OwnerLaw, OwnersLaw, call_at, call_by_actor, owner_replayed, owner_then, step_call}
+use Rattle.board_trace.specs.Mutexes.{mutex_named, owner_in}
 use Rattle.board_trace.specs.Before.{before_step, call_of, call_there, counter_at, counter_of, gate_of, gate_there, is_calling, is_on_processor, owner_at}
-use Rattle.board_trace.specs.Laws.{OwnersLaw, owner_replayed, owner_then}
 use Rattle.board_trace.specs.Owners.{owner_changes, owners, owners_at, same_owner}
 use Rattle.board_trace.specs.Snapshots.{after_step, snapshot_of}
 use Rattle.board_trace.specs.Steps.{causes, changes, effects, happenings, happenings_from, has_written, instruction_of, is_instruction, step_happenings, writes}
