@@ -5,7 +5,7 @@ ghost use Rattle.std.specs.Option.{ForSome};
 ghost use Rattle.linked_lists.specs.Chains.{Chains, all_cells, chain_at, first_key, value_in, value_of, first_value as first_value_lem, with_cell, without_cell, with_value, AreChains, NextIs};
 ghost use Rattle.linked_lists.specs.Named.{list_found};
 
-use crate::index::{key_at, key_of};
+use crate::index::{Index, key_at, key_of};
 use crate::lists::Lists;
 use id_table::entry::{Entry, position_of, rank_of};
 use id_table::{Ident, NoMemory};
@@ -24,8 +24,7 @@ pub(crate) struct Member<T> {
 #[derive(Drop)]
 pub struct IdLists<T> {
     lists: Lists<Member<T>>,
-    // by rising id
-    index: Vec<Entry>,
+    index: Index,
 }
 
 impl<T> Model for IdLists<T> {
@@ -35,12 +34,12 @@ impl<T> Model for IdLists<T> {
 
     ghost coded = { chains_code T.code };
 
-    ghost use Rattle.std.specs.Prelude.{◌≤◌, vec_capacity};
+    ghost use Rattle.std.specs.Prelude.{◌≤◌};
     ghost use Rattle.linked_lists.specs.Named.{named, IsIndexed};
 
     ghost view = { λ t. named t.lists };
 
-    ghost invariant = { λ t. (t.lists.room ≤ vec_capacity t.index) × IsIndexed t.lists.chains t.index.items };
+    ghost invariant = { λ t. (t.lists.room ≤ t.index.room) × IsIndexed t.lists.chains t.index.entries };
 }
 
 impl<T> IdLists<T> {
@@ -48,7 +47,7 @@ impl<T> IdLists<T> {
     pub fn reserved(alloc: Global, lists: u32, n: u32) -> Result<IdLists<T>, NoMemory>
         ensures { IfOk result (λ t. t ≡ record { chains = replicate lists []; room = n }) }
     {
-        let index = Vec::with_capacity(alloc, n as usize)?;
+        let index = Index::with_capacity(alloc, 2 * n as usize)?;
         let lists = Lists::reserved(alloc, lists, n)?;
         Ok(IdLists { lists, index })
     }
@@ -66,7 +65,7 @@ impl<T> IdLists<T> {
     pub fn len(&self) -> usize
         ensures { result ≡ length (all_cells self.now.chains) }
     {
-        self.index.len()
+        self.index.entries().len()
     }
 
     /// The greatest number of ids in all lists together.
@@ -94,12 +93,10 @@ impl<T> IdLists<T> {
         requires room { length (all_cells self.old.chains) < self.old.room }
         ensures { self.new ≡ with_cell self.old list next (who, value) }
     {
-        let next = key_of(&self.index, next);
-        let rank = rank_of(&self.index, who);
+        let next = key_of(self.index.entries(), next);
+        let rank = rank_of(self.index.entries(), who);
         let key = self.lists.insert_before(list, next, Member { who, value });
-        let Ok(()) = self.index.insert(rank, Entry { id: who, key }) else {
-            unreachable!()
-        };
+        self.index.insert(rank, Entry { id: who, key });
     }
 
     /// Removes an id and returns its value. None if it is in no list; then nothing changes.
@@ -107,7 +104,7 @@ impl<T> IdLists<T> {
         ensures value { result ≡ value_of self.old.chains who }
         ensures chains { self.new ≡ without_cell self.old who }
     {
-        let at = position_of(&self.index, who)?;
+        let at = position_of(self.index.entries(), who)?;
         let Entry { id: _, key } = self.index.remove(at);
         let Member { who: _, value } = self.lists.remove(key);
         Some(value)
@@ -117,8 +114,9 @@ impl<T> IdLists<T> {
     pub fn list_of(&self, who: Ident) -> Option<usize>
         ensures { list_found self.now.chains who result }
     {
-        let at = position_of(&self.index, who)?;
-        Some(self.lists.list_of(self.index[at].key))
+        let index = self.index.entries();
+        let at = position_of(index, who)?;
+        Some(self.lists.list_of(index[at].key))
     }
 
     /// The value of an id, which must be in a list.
@@ -126,7 +124,7 @@ impl<T> IdLists<T> {
         requires { IsSome (value_of self.now.chains who) }
         ensures { value_of self.now.chains who ≡ Some result.now }
     {
-        &self.lists.value(key_at(&self.index, who)).value
+        &self.lists.value(key_at(self.index.entries(), who)).value
     }
 
     /// The value of the first id of a list. None if the list is empty.
@@ -143,8 +141,9 @@ impl<T> IdLists<T> {
         ensures after { NextIs self.now.chains who result }
         ensures absent { value_of self.now.chains who ≡ None → result ≡ None }
     {
-        let position = position_of(&self.index, who)?;
-        let next = self.lists.next(self.index[position].key)?;
+        let index = self.index.entries();
+        let at = position_of(index, who)?;
+        let next = self.lists.next(index[at].key)?;
         Some(self.lists.value(next).who)
     }
 
@@ -155,7 +154,7 @@ impl<T> IdLists<T> {
         requires { IsSome (value_of self.old.chains who) }
         ensures { self.new ≡ with_value self.old who value }
     {
-        let key = key_at(&self.index, who);
+        let key = key_at(self.index.entries(), who);
         self.lists.set(key, Member { who, value });
     }
 }
