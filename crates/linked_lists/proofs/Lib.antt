@@ -9,4 +9,3 @@ pub use Rattle.id_table.proofs.Arrivals as IdTableArrivals
 pub use Rattle.id_table.proofs.Sorting as IdTableSorting
 pub use Rattle.id_table.proofs.Orders as IdTableOrders
 pub use Rattle.id_table.proofs.Passing as IdTablePassing
-mod Gaps

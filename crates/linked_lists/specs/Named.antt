@@ -38,11 +38,6 @@ module _ {T : Type 0} where
   abbrev pub list_found : List (List (ℕ × T)) → ℕ → Option ℕ → Type 0
   list_found cs id found = MatchOption found (value_of cs id ≡ None) (IsOnlyIn cs id)
 
--- what a contract sees of an index: its entries, and the greatest number of them
-pub record Entries : Type 0 where
-  pub entries : List Entry
-  pub room : ℕ
-
 -- the key of the entry of an id, if there is an id and an entry
 abbrev pub key_found : List Entry → Option ℕ → Option ℕ
 key_found index next = option_and_then (λ id. option_map (λ (e : Entry). e.key) (of_id entry_id index id)) next

@@ -5,8 +5,9 @@ ghost use Rattle.std.specs.Option.{ForSome};
 ghost use Rattle.linked_lists.specs.Chains.{Chains, all_cells, chain_at, first_key, value_in, value_of, first_value as first_value_lem, with_cell, without_cell, with_value, AreChains, NextIs};
 ghost use Rattle.linked_lists.specs.Named.{list_found};
 
-use crate::index::{Index, key_at, key_of};
+use crate::index::{key_at, key_of};
 use crate::lists::Lists;
+use gap_vec::GapVec;
 use id_table::entry::{Entry, position_of, rank_of};
 use id_table::{Ident, NoMemory};
 use std::alloc::Global;
@@ -24,7 +25,8 @@ pub(crate) struct Member<T> {
 #[derive(Drop)]
 pub struct IdLists<T> {
     lists: Lists<Member<T>>,
-    index: Index,
+    // by rising id
+    index: GapVec<Entry>,
 }
 
 impl<T> Model for IdLists<T> {
@@ -39,7 +41,7 @@ impl<T> Model for IdLists<T> {
 
     ghost view = { λ t. named t.lists };
 
-    ghost invariant = { λ t. (t.lists.room ≤ t.index.room) × IsIndexed t.lists.chains t.index.entries };
+    ghost invariant = { λ t. (t.lists.room ≤ t.index.room) × IsIndexed t.lists.chains t.index.items };
 }
 
 impl<T> IdLists<T> {
@@ -47,7 +49,7 @@ impl<T> IdLists<T> {
     pub fn reserved(alloc: Global, lists: u32, n: u32) -> Result<IdLists<T>, NoMemory>
         ensures { IfOk result (λ t. t ≡ record { chains = replicate lists []; room = n }) }
     {
-        let index = Index::with_capacity(alloc, 2 * n as usize)?;
+        let index = GapVec::with_capacity(alloc, 2 * n as usize)?;
         let lists = Lists::reserved(alloc, lists, n)?;
         Ok(IdLists { lists, index })
     }
@@ -65,7 +67,7 @@ impl<T> IdLists<T> {
     pub fn len(&self) -> usize
         ensures { result ≡ length (all_cells self.now.chains) }
     {
-        self.index.entries().len()
+        self.index.as_slice().len()
     }
 
     /// The greatest number of ids in all lists together.
@@ -93,8 +95,8 @@ impl<T> IdLists<T> {
         requires room { length (all_cells self.old.chains) < self.old.room }
         ensures { self.new ≡ with_cell self.old list next (who, value) }
     {
-        let next = key_of(self.index.entries(), next);
-        let rank = rank_of(self.index.entries(), who);
+        let next = key_of(self.index.as_slice(), next);
+        let rank = rank_of(self.index.as_slice(), who);
         let key = self.lists.insert_before(list, next, Member { who, value });
         self.index.insert(rank, Entry { id: who, key });
     }
@@ -104,7 +106,7 @@ impl<T> IdLists<T> {
         ensures value { result ≡ value_of self.old.chains who }
         ensures chains { self.new ≡ without_cell self.old who }
     {
-        let at = position_of(self.index.entries(), who)?;
+        let at = position_of(self.index.as_slice(), who)?;
         let Entry { id: _, key } = self.index.remove(at);
         let Member { who: _, value } = self.lists.remove(key);
         Some(value)
@@ -114,7 +116,7 @@ impl<T> IdLists<T> {
     pub fn list_of(&self, who: Ident) -> Option<usize>
         ensures { list_found self.now.chains who result }
     {
-        let index = self.index.entries();
+        let index = self.index.as_slice();
         let at = position_of(index, who)?;
         Some(self.lists.list_of(index[at].key))
     }
@@ -124,7 +126,7 @@ impl<T> IdLists<T> {
         requires { IsSome (value_of self.now.chains who) }
         ensures { value_of self.now.chains who ≡ Some result.now }
     {
-        &self.lists.value(key_at(self.index.entries(), who)).value
+        &self.lists.value(key_at(self.index.as_slice(), who)).value
     }
 
     /// The value of the first id of a list. None if the list is empty.
@@ -141,7 +143,7 @@ impl<T> IdLists<T> {
         ensures after { NextIs self.now.chains who result }
         ensures absent { value_of self.now.chains who ≡ None → result ≡ None }
     {
-        let index = self.index.entries();
+        let index = self.index.as_slice();
         let at = position_of(index, who)?;
         let next = self.lists.next(index[at].key)?;
         Some(self.lists.value(next).who)
@@ -154,7 +156,7 @@ impl<T> IdLists<T> {
         requires { IsSome (value_of self.old.chains who) }
         ensures { self.new ≡ with_value self.old who value }
     {
-        let key = key_at(self.index.entries(), who);
+        let key = key_at(self.index.as_slice(), who);
         self.lists.set(key, Member { who, value });
     }
 }

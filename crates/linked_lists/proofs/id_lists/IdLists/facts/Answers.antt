@@ -14,5 +14,5 @@ returns g c =
       few = omega (arith, c.facts.ensures.few, ap length (named_cells cs), length-map (all_cells cs) named_cell);
       apart = λ list h.
           let within = subst (λ n. list < n) (length-map cs (map named_cell)) h in
-          apart_at cs c.self.inside.index.entries list c.self.invariant.1 within (c.facts.ensures.apart list within);
+          apart_at cs c.self.inside.index.items list c.self.invariant.1 within (c.facts.ensures.apart list within);
     })

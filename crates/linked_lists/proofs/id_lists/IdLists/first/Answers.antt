@@ -9,5 +9,5 @@ value-requires g c =
 
 pub returns : goal.returns
 returns g c =
-    first_named c.self.inside.lists.chains c.self.inside.index.entries c.args.list c.in_ok-key.key c.value.result.now c.self.invariant.1 (place_within c.self.inside.lists c.args.self.now c.args.list c.self.view_is c.requires) (sym c.in_ok-key.ensures) c.value.ensures.value
+    first_named c.self.inside.lists.chains c.self.inside.index.items c.args.list c.in_ok-key.key c.value.result.now c.self.invariant.1 (place_within c.self.inside.lists c.args.self.now c.args.list c.self.view_is c.requires) (sym c.in_ok-key.ensures) c.value.ensures.value
     ∙ ap (λ t. first_key (chain_at t.chains c.args.list)) c.self.view_is

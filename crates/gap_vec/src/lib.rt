@@ -1,0 +1,8 @@
+//! Vectors with a gap before their elements, in which an insertion or a removal moves the fewer of
+//! them.
+#![tactic(auto)]
+
+mod gap_vec;
+
+pub use gap_vec::GapVec;
+pub use wind_base::NoMemory;

@@ -1,6 +1,0 @@
-use Rattle.std.proofs.Common.{ap, ◌∙◌, drop}
-use Rattle.linked_lists.proofs.Gaps.{moved_down}
-use Rattle.linked_lists.proofs.index.move_down.Goals as goal
-
-pub returns-clause-items : goal.returns-clause-items
-returns-clause-items c = ap (drop c.args.start) c.remove.ensures.items ∙ moved_down c.args.held.now.items c.args.start c.args.at c.requires

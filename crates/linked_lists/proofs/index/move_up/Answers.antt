@@ -1,6 +1,0 @@
-use Rattle.std.proofs.Common.{ap, ◌∙◌, ◌+◌, drop}
-use Rattle.linked_lists.proofs.Gaps.{moved_up}
-use Rattle.linked_lists.proofs.index.move_up.Goals as goal
-
-pub returns-clause-items : goal.returns-clause-items
-returns-clause-items c = ap (drop (c.args.start + 1)) c.copy_within.ensures.items ∙ moved_up c.args.held.now.items c.args.start c.args.at c.requires
