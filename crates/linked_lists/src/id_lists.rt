@@ -144,8 +144,8 @@ impl<T> IdLists<T> {
         ensures absent { value_of self.now.chains who ≡ None → result ≡ None }
     {
         let index = self.index.as_slice();
-        let at = position_of(index, who)?;
-        let next = self.lists.next(index[at].key)?;
+        let position = position_of(index, who)?;
+        let next = self.lists.next(index[position].key)?;
         Some(self.lists.value(next).who)
     }
 
