@@ -84,6 +84,9 @@ pub fn position_of(order: &[Entry], id: Ident) -> Option<usize>
     requires { Rising entry_id order.now }
     ensures { MatchOption result (of_id entry_id order.now id ≡ None) (λ position. StandsAt entry_id order.now id position) }
 {
+    if are_below(order, id) {
+        return None;
+    }
     let near = from_first(order, id);
     if near < order.len() && order[near].id == id {
         return Some(near);
