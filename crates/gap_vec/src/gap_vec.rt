@@ -1,15 +1,15 @@
 //! A vector with a gap.
 
-ghost use Rattle.std.specs.Prelude.{◌≡◌, ◌≤◌, ◌<◌, ◌+◌, [], IfOk, length, drop, slice_index_or, vec_capacity};
+ghost use Rattle.std.specs.Prelude.{◌≡◌, ◌≤◌, ◌<◌, ◌+◌, ◌-◌, [], IfOk, length, drop, slice_index_or, vec_capacity};
 ghost use Rattle.std.specs.List.{insert, remove};
 
 use std::alloc::Global;
 use std::marker::Model;
 use wind_base::NoMemory;
 
-/// Elements in order, after a gap of `start` free places. An element of the first half is removed
-/// into the gap, so that a removal moves the fewer elements. A contract sees the elements, and the
-/// greatest number of them.
+/// Elements in order, after a gap of `start` free places, which grows and shrinks by changes among
+/// the first half. So a removal moves the fewer elements, and so does an insertion if there is a
+/// gap. A contract sees the elements, and the greatest number of them.
 #[derive(Drop)]
 pub struct GapVec<T> {
     start: usize,
@@ -52,6 +52,18 @@ fn put<T: Drop>(held: &mut Vec<T>, start: usize, at: usize, value: T)
     let Ok(()) = held.insert(start + at, value) else {
         unreachable!()
     };
+}
+
+// Inserts an element at a position after the gap: those before it move down by one place.
+fn put_in_gap<T: Copy>(held: &mut Vec<T>, start: usize, at: usize, value: T)
+    requires some { 0 < start }
+    requires within { start + at ≤ length held.old.items }
+    ensures items { drop (start - 1) held.new.items ≡ insert (drop start held.old.items) at value }
+    ensures within { start - 1 ≤ length held.new.items }
+    ensures capacity { vec_capacity held.new ≡ vec_capacity held.old }
+{
+    held.copy_within(start..start + at, start - 1);
+    held[start + at - 1] = value;
 }
 
 // Moves the elements between the gap and the position `at` up by one place, over the one there.
@@ -101,7 +113,10 @@ impl<T: Copy> GapVec<T> {
         ensures items { self.new.items ≡ insert self.old.items at value }
         ensures room { self.old.room ≤ self.new.room }
     {
-        if self.held.len() < self.held.capacity() {
+        if self.start > 0 && at < self.held.len() - self.start - at {
+            put_in_gap(&mut self.held, self.start, at, value);
+            self.start -= 1;
+        } else if self.held.len() < self.held.capacity() {
             put(&mut self.held, self.start, at, value);
         } else {
             close_gap(&mut self.held, self.start);

@@ -1,4 +1,4 @@
-//! Vectors with a gap before their elements, in which a removal moves the fewer of them.
+//! Vectors with a gap before their elements, so that a change moves the fewer of them.
 #![tactic(auto)]
 
 mod gap_vec;
