@@ -126,7 +126,7 @@ def ticks(bench):
 def calls(bench):
     # the gate of tickGet; a branch back
     loop = "*0x1000 = 0x49000133; *0x1004 = 0x4bfffffc\n"
-    for words, bound, last in ((), 370, 40000), (("--profile", "2"), 440, 22000):
+    for words, bound, last in ((), 340, 40000), (("--profile", "2"), 440, 22000):
         bench.row("a task's kernel call, tasks that sleep" + (", profile 2" if words else ""),
                   TASKS, bound,
                   lambda n: bench.step(loop + sleepers(n) + "sp 0x1000\n", "", 20000, last, words))
@@ -144,16 +144,13 @@ def blocks(bench):
     def holed(n):
         return made(n) + lines([address(i) for i in range(0, n, 2)])
 
-    # half of the blocks are moved, five host instructions each
-    def moved(n):
-        return 9400 + 2.6 * n
-
     bench.row("malloc of 1 byte, no holes", sizes, 9900, lambda n: bench.more(made(n), made(n), n))
-    bench.row("free, from the first block up", sizes, moved,
+    bench.row("free, from the first block up", sizes, 9900,
               lambda n: bench.more(made(n), lines([address(i) for i in range(n)]), n))
-    bench.row("free, from the last block down", sizes, moved,
+    bench.row("free, from the last block down", sizes, 9900,
               lambda n: bench.more(made(n), lines([address(i) for i in reversed(range(n))]), n))
-    bench.row("free of every second block", sizes, lambda n: 9500 + 2.6 * n,
+    # a sixth of the blocks are moved, five host instructions each
+    bench.row("free of every second block", sizes, lambda n: 9500 + 1.3 * n,
               lambda n: bench.more(made(n), holed(n)[len(made(n)):], n // 2))
     # first fit passes every hole, as a half of the blocks
     bench.row("malloc past a hole for every second block", sizes, lambda n: 10400 + 8.2 * n,

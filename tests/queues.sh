@@ -7,7 +7,7 @@ room=$(mktemp -d)
 trap 'rm -rf "$room"' EXIT
 mkdir "$room/crates"
 cp "$top/HANDLES" "$room"
-for crate in wind_base id_table linked_lists ready_queue delay_queue wait_order; do
+for crate in wind_base id_table gap_vec linked_lists ready_queue delay_queue wait_order; do
     mkdir "$room/crates/$crate"
     cp -r "$top/crates/$crate/src" "$room/crates/$crate"
     for part in specs proofs; do

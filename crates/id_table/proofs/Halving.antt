@@ -1,9 +1,10 @@
 -- A search that halves a list of records whose ids rise.
-use Rattle.std.proofs.Common.{◌≡◌, ℕ, zero, suc, ◌+◌, ◌<◌, ◌≤◌, true, false, cond, ltb, leb, map, List, [], ◌∷◌, length, get_or, None, Some, refl, sym, ap, ◌∙◌, subst, arith, ⊎_elim}
+use Rattle.std.proofs.Common.{◌≡◌, ℕ, zero, suc, ◌-◌, ◌<◌, ◌≤◌, true, false, cond, ltb, leb, map, List, [], ◌∷◌, length, get_or, None, Some, refl, sym, ap, ◌∙◌, subst, arith, ⊎_elim}
 use Rattle.std.specs.Prelude.{nat_lt}
 use Rattle.std.specs.List.Sorted.{IsPartitionPoint, IsNonDecreasingBy}
 use Rattle.std.specs.List.{find}
 use Rattle.std.proofs.lemmas.Bool.{cases_eq, cases_lt, ne_eqb, ltb-true, ltb-false, leb-true, leb-false, lt-ltb, le-ltb}
+use Rattle.std.proofs.lemmas.List.{get_or_default}
 use Rattle.id_table.specs.Records.{of_id, Rising}
 
 -- the first i records have an id below this one, and the others don't
@@ -16,6 +17,14 @@ rising_ids id xs up i j d hij hj =
     (λ (same : i ≡ j). omega (arith, ap (λ k. id (get_or xs k d)) same))
     (λ (ne : i ≡ j → ⊥). let rise = up i j d (omega (arith, hij, ne)) hj in omega (arith, rise))
     (cases_eq i j)
+
+-- no id is above that of the last record
+pub below_last : {X : Type 0} (id : X → ℕ) (xs : List X) (x : X) (n : ℕ) → Rising id xs → x ≡ get_or xs (length xs - 1) x → id x < n
+    → (k : ℕ) (d : X) → k < length xs → id (get_or xs k d) < n
+below_last id xs x n up last less k d h =
+    let same : get_or xs (length xs - 1) d ≡ x = get_or_default xs (length xs - 1) d x (omega (arith, h)) ∙ sym last in
+    let most = rising_ids id xs up k (length xs - 1) d (omega (arith, h)) (omega (arith, h)) in
+    omega (arith, most, ap id same, less)
 
 -- if the record at the rank has another id, no record has this id
 pub rank_absent : {X : Type 0} (id : X → ℕ) (xs : List X) (n i : ℕ) → Rising id xs → IsRank id xs n i → ((d : X) → i < length xs → id (get_or xs i d) ≡ n → ⊥)

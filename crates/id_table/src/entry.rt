@@ -1,7 +1,7 @@
 //! An index by rising id: where in a slab what each id names is.
 
-ghost use Rattle.std.specs.Prelude.{◌≡◌, ◌≤◌, length, map, nat_lt, true, false, None, MatchOption};
-ghost use Rattle.std.specs.List.{find};
+ghost use Rattle.std.specs.Prelude.{◌≡◌, ◌<◌, ◌≤◌, length, map, nat_lt, true, false, None, MatchOption, IsTrue};
+ghost use Rattle.std.specs.List.{All, find};
 ghost use Rattle.std.specs.List.Sorted.{IsPartitionPoint};
 ghost use Rattle.id_table.specs.Records.{of_id, Rising, StandsAt};
 ghost use Rattle.id_table.specs.Entries.{entry_id};
@@ -17,19 +17,35 @@ pub struct Entry {
     pub key: usize,
 }
 
-/// The number of entries with an id below this one.
+// Whether all ids are below this one.
+#[inline(always)]
+fn are_below(order: &[Entry], id: Ident) -> bool
+    requires { Rising entry_id order.now }
+    ensures { IsTrue result → All (λ e. e.id < id) order.now }
+{
+    if order.is_empty() {
+        return true;
+    }
+    order[order.len() - 1].id.get() < id.get()
+}
+
+/// The number of entries with an id below this one. A new id, which is the greatest, costs one
+/// comparison.
 pub fn rank_of(order: &[Entry], id: Ident) -> usize
     requires { Rising entry_id order.now }
     ensures within { result ≤ length order.now }
     ensures split { IsPartitionPoint (λ e. nat_lt e.id id ≡ true) (λ e. nat_lt e.id id ≡ false) order.now result }
 {
+    if are_below(order, id) {
+        return order.len();
+    }
     let number = id.get();
     order.partition_point(|entry| entry.id.get() < number)
 }
 
-/// The position of the entry with this id. None if there is none.
+// The position of the entry with this id, found by halving. None if there is none.
 #[inline(never)]
-pub fn position_of(order: &[Entry], id: Ident) -> Option<usize>
+fn search(order: &[Entry], id: Ident) -> Option<usize>
     requires { Rising entry_id order.now }
     ensures { MatchOption result (of_id entry_id order.now id ≡ None) (λ position. StandsAt entry_id order.now id position) }
 {
@@ -42,6 +58,44 @@ pub fn position_of(order: &[Entry], id: Ident) -> Option<usize>
     } else {
         None
     }
+}
+
+// The position of an id if every number from the first id up to it is in the order.
+#[inline(always)]
+fn from_first(order: &[Entry], id: Ident) -> usize {
+    match order.first() {
+        Some(first) => id.get().wrapping_sub(first.id.get()) as usize,
+        None => 0,
+    }
+}
+
+// The position of an id if every number from it up to the last id is in the order.
+#[inline(always)]
+fn from_last(order: &[Entry], id: Ident) -> usize {
+    match order.last() {
+        Some(last) => (order.len() - 1).wrapping_sub(last.id.get().wrapping_sub(id.get()) as usize),
+        None => 0,
+    }
+}
+
+/// The position of the entry with this id. None if there is none. It costs the same in every order
+/// whose ids follow each other without a gap before or after this one.
+pub fn position_of(order: &[Entry], id: Ident) -> Option<usize>
+    requires { Rising entry_id order.now }
+    ensures { MatchOption result (of_id entry_id order.now id ≡ None) (λ position. StandsAt entry_id order.now id position) }
+{
+    if are_below(order, id) {
+        return None;
+    }
+    let near = from_first(order, id);
+    if near < order.len() && order[near].id == id {
+        return Some(near);
+    }
+    let near = from_last(order, id);
+    if near < order.len() && order[near].id == id {
+        return Some(near);
+    }
+    search(order, id)
 }
 
 // The same, but looks first at the position `near`: usually that of the last entry found.

@@ -44,6 +44,10 @@ entry_at es who at d stands up = sym (ap (of_id entry_id es) (stands.same d)) �
 pub entry_found : (es : List Entry) (who at : ℕ) (e : Entry) → StandsAt entry_id es who at → Rising entry_id es → e ≡ get_or es at e → of_id entry_id es who ≡ Some e
 entry_found es who at e stands up here = entry_at es who at e stands up ∙ ap (λ (x : Entry). Some x) (sym here)
 
+-- an entry that is read from a list that equals the index
+pub entry_got : (es xs : List Entry) (at : ℕ) (d : Entry) → xs ≡ es → d ≡ get_or xs at d → get_or xs at d ≡ get_or es at (get_or xs at d)
+entry_got es xs at d same is = subst (λ e. e ≡ get_or es at e) is (is ∙ ap (λ zs. get_or zs at d) same)
+
 -- an entry that is inserted at its rank
 pub entry_placed : (es after : List Entry) (e : Entry) (rank : ℕ) → IsRank entry_id es e.id rank → rank ≤ length es → after ≡ insert es rank e → after ≡ with_record entry_id es e
 entry_placed es after e rank is within put = put ∙ ap (λ k. insert es k e) (sym (rank_place es e rank is within)) ∙ insert_place entry_id e es

@@ -7,6 +7,7 @@ ghost use Rattle.linked_lists.specs.Named.{list_found};
 
 use crate::index::{key_at, key_of};
 use crate::lists::Lists;
+use gap_vec::GapVec;
 use id_table::entry::{Entry, position_of, rank_of};
 use id_table::{Ident, NoMemory};
 use std::alloc::Global;
@@ -25,7 +26,7 @@ pub(crate) struct Member<T> {
 pub struct IdLists<T> {
     lists: Lists<Member<T>>,
     // by rising id
-    index: Vec<Entry>,
+    index: GapVec<Entry>,
 }
 
 impl<T> Model for IdLists<T> {
@@ -35,12 +36,12 @@ impl<T> Model for IdLists<T> {
 
     ghost coded = { chains_code T.code };
 
-    ghost use Rattle.std.specs.Prelude.{◌≤◌, vec_capacity};
+    ghost use Rattle.std.specs.Prelude.{◌≤◌};
     ghost use Rattle.linked_lists.specs.Named.{named, IsIndexed};
 
     ghost view = { λ t. named t.lists };
 
-    ghost invariant = { λ t. (t.lists.room ≤ vec_capacity t.index) × IsIndexed t.lists.chains t.index.items };
+    ghost invariant = { λ t. (t.lists.room ≤ t.index.room) × IsIndexed t.lists.chains t.index.items };
 }
 
 impl<T> IdLists<T> {
@@ -48,7 +49,7 @@ impl<T> IdLists<T> {
     pub fn reserved(alloc: Global, lists: u32, n: u32) -> Result<IdLists<T>, NoMemory>
         ensures { IfOk result (λ t. t ≡ record { chains = replicate lists []; room = n }) }
     {
-        let index = Vec::with_capacity(alloc, n as usize)?;
+        let index = GapVec::with_capacity(alloc, 2 * n as usize)?;
         let lists = Lists::reserved(alloc, lists, n)?;
         Ok(IdLists { lists, index })
     }
@@ -66,7 +67,7 @@ impl<T> IdLists<T> {
     pub fn len(&self) -> usize
         ensures { result ≡ length (all_cells self.now.chains) }
     {
-        self.index.len()
+        self.index.as_slice().len()
     }
 
     /// The greatest number of ids in all lists together.
@@ -94,12 +95,10 @@ impl<T> IdLists<T> {
         requires room { length (all_cells self.old.chains) < self.old.room }
         ensures { self.new ≡ with_cell self.old list next (who, value) }
     {
-        let next = key_of(&self.index, next);
-        let rank = rank_of(&self.index, who);
+        let next = key_of(self.index.as_slice(), next);
+        let rank = rank_of(self.index.as_slice(), who);
         let key = self.lists.insert_before(list, next, Member { who, value });
-        let Ok(()) = self.index.insert(rank, Entry { id: who, key }) else {
-            unreachable!()
-        };
+        self.index.insert(rank, Entry { id: who, key });
     }
 
     /// Removes an id and returns its value. None if it is in no list; then nothing changes.
@@ -107,7 +106,7 @@ impl<T> IdLists<T> {
         ensures value { result ≡ value_of self.old.chains who }
         ensures chains { self.new ≡ without_cell self.old who }
     {
-        let at = position_of(&self.index, who)?;
+        let at = position_of(self.index.as_slice(), who)?;
         let Entry { id: _, key } = self.index.remove(at);
         let Member { who: _, value } = self.lists.remove(key);
         Some(value)
@@ -117,8 +116,9 @@ impl<T> IdLists<T> {
     pub fn list_of(&self, who: Ident) -> Option<usize>
         ensures { list_found self.now.chains who result }
     {
-        let at = position_of(&self.index, who)?;
-        Some(self.lists.list_of(self.index[at].key))
+        let index = self.index.as_slice();
+        let at = position_of(index, who)?;
+        Some(self.lists.list_of(index[at].key))
     }
 
     /// The value of an id, which must be in a list.
@@ -126,7 +126,7 @@ impl<T> IdLists<T> {
         requires { IsSome (value_of self.now.chains who) }
         ensures { value_of self.now.chains who ≡ Some result.now }
     {
-        &self.lists.value(key_at(&self.index, who)).value
+        &self.lists.value(key_at(self.index.as_slice(), who)).value
     }
 
     /// The value of the first id of a list. None if the list is empty.
@@ -143,8 +143,9 @@ impl<T> IdLists<T> {
         ensures after { NextIs self.now.chains who result }
         ensures absent { value_of self.now.chains who ≡ None → result ≡ None }
     {
-        let position = position_of(&self.index, who)?;
-        let next = self.lists.next(self.index[position].key)?;
+        let index = self.index.as_slice();
+        let position = position_of(index, who)?;
+        let next = self.lists.next(index[position].key)?;
         Some(self.lists.value(next).who)
     }
 
@@ -155,7 +156,7 @@ impl<T> IdLists<T> {
         requires { IsSome (value_of self.old.chains who) }
         ensures { self.new ≡ with_value self.old who value }
     {
-        let key = key_at(&self.index, who);
+        let key = key_at(self.index.as_slice(), who);
         self.lists.set(key, Member { who, value });
     }
 }

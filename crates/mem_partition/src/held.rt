@@ -1,12 +1,13 @@
 //! The allocated blocks, in order of address.
 
-ghost use Rattle.std.specs.Prelude.{◌≡◌, ◌<◌, ◌≤◌, ◌^◌, ◌==◌, ◌&&◌, None, length, option_copied, MatchOption, vec_len, vec_capacity, nat_lt};
+ghost use Rattle.std.specs.Prelude.{◌≡◌, ◌<◌, ◌≤◌, ◌^◌, ◌==◌, ◌&&◌, None, length, option_copied, MatchOption, nat_lt};
 ghost use Rattle.std.specs.List.{position_or_len};
 ghost use Rattle.std.specs.List.Sorted.{IsNonDecreasingBy};
 ghost use Rattle.mem_partition.specs.State.{with_block, same_class, block_at, own_block, used};
 ghost use Rattle.mem_partition.specs.Own.{Rising, IsOwn};
 
 use crate::block::{Block, Class};
+use gap_vec::GapVec;
 
 /// How many blocks begin at or before an address.
 fn rank_of(blocks: &[Block], at: u32) -> usize
@@ -18,16 +19,14 @@ fn rank_of(blocks: &[Block], at: u32) -> usize
 }
 
 /// Inserts the block at its position.
-pub(crate) fn put_block(blocks: &mut Vec<Block>, block: Block)
-    requires room { vec_len blocks.old < vec_capacity blocks.old }
+pub(crate) fn put_block(blocks: &mut GapVec<Block>, block: Block)
+    requires room { length blocks.old.items < blocks.old.room }
     requires order { IsNonDecreasingBy (λ b. b.addr) blocks.old.items }
     ensures items { blocks.new.items ≡ with_block block blocks.old.items }
-    ensures capacity { vec_capacity blocks.new ≡ vec_capacity blocks.old }
+    ensures room { blocks.old.room ≤ blocks.new.room }
 {
-    let position = rank_of(blocks, block.addr);
-    let Ok(()) = blocks.insert(position, block) else {
-        unreachable!()
-    };
+    let position = rank_of(blocks.as_slice(), block.addr);
+    blocks.insert(position, block);
 }
 
 fn is_same(a: Class, b: Class) -> bool

@@ -10,6 +10,7 @@ use crate::block::{Block, Class, PartErr};
 use crate::gaps::{GRAIN, is_align, round_up};
 use crate::held::{count_used, find_at, own_position, put_block};
 use crate::hole::{Hole, cut, merge, put_in, with_room};
+use gap_vec::GapVec;
 use std::alloc::Global;
 use std::marker::Model;
 use wind_base::{NoMemory, Side};
@@ -22,7 +23,7 @@ pub struct Holes {
     start: u32,
     end: u32,
     room: u32,
-    blocks: Vec<Block>,
+    blocks: GapVec<Block>,
     list: Vec<Hole>,
 }
 
@@ -37,7 +38,7 @@ impl Model for Holes {
       holes = h.list.items;
     } };
 
-    ghost invariant = { λ h. (h.room ≤ vec_capacity h.blocks)
+    ghost invariant = { λ h. (h.room ≤ h.blocks.room)
         × (h.room < vec_capacity h.list)
         × AreHoles (record {
           part = record { start = h.start; end = h.end; room = h.room; blocks = h.blocks.items };
@@ -52,7 +53,7 @@ impl Holes {
         requires { room ≤ most_room }
         ensures { IfOk result (λ h. h ≡ with_holes (empty_part start end room)) }
     {
-        let blocks = Vec::with_capacity(alloc, room as usize)?;
+        let blocks = GapVec::with_capacity(alloc, 2 * room as usize)?;
         let mut list = Vec::with_capacity(alloc, room as usize + 1)?;
         put_in(&mut list, 0, start, end);
         Ok(Holes {
@@ -68,7 +69,7 @@ impl Holes {
     pub fn blocks(&self) -> &[Block]
         ensures { result.now ≡ self.now.part.blocks }
     {
-        &self.blocks
+        self.blocks.as_slice()
     }
 
     /// The holes in order of address. The contract also gives their invariant.
@@ -118,7 +119,7 @@ impl Holes {
         ensures answer { result ≡ alloc_on side self.now.part n align }
         ensures sound { AreHoles self.now }
     {
-        let full = self.blocks.len() >= self.room as usize;
+        let full = self.blocks.as_slice().len() >= self.room as usize;
         if !is_align(align) {
             return Err(PartErr::BadAlign);
         }
@@ -157,7 +158,7 @@ impl Holes {
         ensures answer { result ≡ free_of self.old.part addr class }
         ensures after { self.new ≡ with_holes (after_free self.old.part addr class) }
     {
-        let Some(position) = own_position(&self.blocks, addr, class) else {
+        let Some(position) = own_position(self.blocks.as_slice(), addr, class) else {
             return Err(PartErr::NotABlock);
         };
         let block = self.blocks.remove(position);
@@ -169,7 +170,7 @@ impl Holes {
     pub(crate) fn size_of(&self, addr: u32) -> Option<u32>
         ensures { result ≡ option_map (λ b. b.size) (block_at self.now.part.blocks addr) }
     {
-        find_at(&self.blocks, addr).map(|block| block.size)
+        find_at(self.blocks.as_slice(), addr).map(|block| block.size)
     }
 
     /// As `Part::free_total`.
@@ -178,7 +179,7 @@ impl Holes {
         ensures { result ≡ free_bytes self.now.part }
     {
         let _room = self.room;
-        let used = count_used(&self.blocks);
+        let used = count_used(self.blocks.as_slice());
         let pool = u64::from(self.end.saturating_sub(self.start));
         pool.saturating_sub(used) as u32
     }

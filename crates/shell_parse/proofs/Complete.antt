@@ -160,7 +160,7 @@ regrouped (Some x) f g = refl
 regrouped None f g = refl
 
 -- ---- an operand that no assignment follows
-more_stops : (n k : ℕ) (a : PlainTree) (ts : List Token) → 1 ≤ n → operator_at k ts ≡ None → more_at n k a ts ≡ Some (a, ts)
+pub more_stops : (n k : ℕ) (a : PlainTree) (ts : List Token) → 1 ≤ n → operator_at k ts ≡ None → more_at n k a ts ≡ Some (a, ts)
 unfolding more_at
 more_stops zero k a ts h e = absurd (omega arith)
 more_stops (suc n) k a ts h e = ap (more_by (λ us. level_at n k us) (λ b us. more_at n k b us) a ts) e

@@ -1,4 +1,5 @@
 pub mod Chains
+pub mod Climbing
 pub mod Complete
 pub mod Fits
 pub mod Follow

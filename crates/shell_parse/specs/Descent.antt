@@ -77,6 +77,11 @@ abbrev pub operator_at : ℕ → List Token → Reads BinOp
 operator_at n (Operator op ∷ ts) = if level_of op == n then Some (op, ts) else None
 operator_at n _ = None
 
+-- the level of the operator that comes first, or the number of levels if none does
+abbrev pub level_ahead : List Token → ℕ
+level_ahead (Operator op ∷ ts) = level_of op
+level_ahead _ = levels
+
 -- a right side for each operator of a level, from left to right
 abbrev pub more_by : (List Token → Reads PlainTree) → (PlainTree → List Token → Reads PlainTree) → PlainTree → List Token → Reads BinOp → Reads PlainTree
 more_by right go a ts (Some x) = do

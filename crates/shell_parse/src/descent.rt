@@ -6,7 +6,7 @@ ghost use Rattle.shell_parse.specs.Levels.{level_of};
 ghost use Rattle.shell_parse.specs.Trees.{plain_tree, plain_arguments};
 ghost use Rattle.shell_parse.specs.Trees as trees;
 ghost use Rattle.shell_parse.specs.Gives.{Gives};
-ghost use Rattle.shell_parse.specs.Descent.{whole_at, star_at, climb_at, more_at, level_at, unary_at, calls_at, args_at, listed_at, closed, after_mark as after_mark_lem, named as named_lem, assigned as assigned_lem, name_assigned as name_assigned_lem, operator_at, mapped};
+ghost use Rattle.shell_parse.specs.Descent.{whole_at, star_at, climb_at, more_at, level_at, unary_at, calls_at, args_at, listed_at, closed, after_mark as after_mark_lem, named as named_lem, assigned as assigned_lem, name_assigned as name_assigned_lem, operator_at, level_ahead as level_ahead_lem, mapped};
 
 use crate::token::{Token, Word};
 use crate::tree::{BinOp, Tree, UnOp};
@@ -226,6 +226,19 @@ fn first_operator<'a>(at: u32, tokens: Tokens<'a>) -> Option<(BinOp, Tokens<'a>)
     }
 }
 
+// The level of the operator that comes first. If none does, the number of levels.
+fn level_ahead(tokens: Tokens) -> u32
+    ensures { result ≡ level_ahead_lem tokens.now }
+{
+    let [first, ..] = tokens else {
+        return LEVELS;
+    };
+    match first {
+        Token::Operator(op) => level(*op),
+        _ => LEVELS,
+    }
+}
+
 // The address of the name that comes first.
 fn address<'a>(alloc: Global, tokens: Tokens<'a>) -> Reads<'a, Tree>
     ensures { Gives (λ x. (plain_tree x.0, x.1.now)) result (mapped trees.Address (named_lem tokens.now)) }
@@ -289,7 +302,7 @@ fn star<'a>(alloc: Global, depth: u32, tokens: Tokens<'a>) -> Reads<'a, Tree>
 }
 
 #[cycle(trees)]
-#[tactic(auto, unfolding(crate::specs::Descent::climb_at))]
+#[tactic(auto, unfolding(crate::specs::Descent::climb_at), using(crate::proofs::Climbing::passes))]
 fn climb<'a>(
     alloc: Global,
     depth: u32,
@@ -301,6 +314,10 @@ fn climb<'a>(
 {
     let depth = inner(depth)?;
     if count == 0 {
+        return Ok((first, tokens));
+    }
+    // no level down from here has an operator to read
+    if depth > count && level_ahead(tokens) >= count {
         return Ok((first, tokens));
     }
     let (left, rest) = climb(alloc, depth, count - 1, first, tokens)?;

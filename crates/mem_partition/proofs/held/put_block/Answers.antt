@@ -4,5 +4,5 @@ use Rattle.mem_partition.proofs.held.put_block.Goals as goal
 
 pub returns-clause-items : goal.returns-clause-items
 returns-clause-items c =
-    c.in-Ok.ensures.items
-    ∙ inserted c.args.block c.args.blocks.now.items c.rank_of-position.result (rw c.deref.ensures.value at c.rank_of-position.ensures.value)
+    c.insert.ensures.items
+    ∙ inserted c.args.block c.args.blocks.now.items c.rank_of-position.result (rw c.as_slice.ensures at c.rank_of-position.ensures.value)

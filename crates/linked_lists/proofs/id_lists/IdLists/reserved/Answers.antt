@@ -5,7 +5,7 @@ use Rattle.linked_lists.proofs.id_lists.IdLists.reserved.Goals as goal
 
 pub invariant_of-result : goal.invariant_of-result
 invariant_of-result g c = (
-  omega (arith, c.in_ok-index.ensures.capacity, ap (λ t. t.room) c.in_ok-lists.ensures),
+  omega (arith, c.in_ok-index.ensures.room, ap (λ t. t.room) c.in_ok-lists.ensures),
   rw (c.in_ok-index.ensures.items, c.in_ok-lists.ensures) (indexed_empty c.args.lists),
 )
 

@@ -12,7 +12,7 @@ use Rattle.mem_partition.proofs.holes.Holes.free.Goals as goal
 
 pub returns-in_default-clause-after : goal.returns-in_default-clause-after
 returns-in_default-clause-after c =
-    let none : own_block c.self.inside.blocks.items c.args.addr c.args.class ≡ None = rw c.deref.ensures.value at c.in_default.ensures in
+    let none : own_block c.self.inside.blocks.items c.args.addr c.args.class ≡ None = rw c.as_slice.ensures at c.in_default.ensures in
     sym c.self.view_is
     ∙ whole_is (the_view c.self.inside) c.self.invariant.2
     ∙ ap with_holes (sym (not_freed (the_view c.self.inside).part c.args.addr c.args.class none))
@@ -22,7 +22,7 @@ pub overflow_add-block : goal.overflow_add-block
 overflow_add-block c =
     let s = the_view c.self.inside in
     let k = c.in-Some.position in
-    let own : IsOwn s.part.blocks c.args.addr c.args.class k = rw c.deref.ensures.value at c.in-Some.ensures in
+    let own : IsOwn s.part.blocks c.args.addr c.args.class k = rw c.as_slice.ensures at c.in-Some.ensures in
     let inside = place_inside s.part.start s.part.end s.part.blocks k c.remove-block.result c.self.invariant.2.part.laid own.within in
     let bound = c.self.invariant.2.part.bound in
     let is : c.remove-block.result ≡ get_or s.part.blocks k c.remove-block.result = c.remove-block.ensures.value in
@@ -33,13 +33,13 @@ overflow_add-block c =
 pub own_position-requires : goal.own_position-requires
 own_position-requires c =
     let s = the_view c.self.inside in
-    rw c.deref.ensures.value (laid_rising s.part.start s.part.end s.part.blocks c.self.invariant.2.part.laid)
+    rw c.as_slice.ensures (laid_rising s.part.start s.part.end s.part.blocks c.self.invariant.2.part.laid)
 
 pub merge-requires : goal.merge-requires
 merge-requires c =
     let s = the_view c.self.inside in
     let k = c.in-Some.position in
-    let own : IsOwn s.part.blocks c.args.addr c.args.class k = rw c.deref.ensures.value at c.in-Some.ensures in
+    let own : IsOwn s.part.blocks c.args.addr c.args.class k = rw c.as_slice.ensures at c.in-Some.ensures in
     let few = merged_few s k c.remove-block.result c.self.invariant.2 own.within c.remove-block.ensures.value in
     let spare = c.self.invariant.1 in
     record {
@@ -51,8 +51,8 @@ pub invariant_of-self : goal.invariant_of-self
 invariant_of-self c =
     let s = the_view c.self.inside in
     let k = c.in-Some.position in
-    let own : IsOwn s.part.blocks c.args.addr c.args.class k = rw c.deref.ensures.value at c.in-Some.ensures in (
-      rw c.remove-block.ensures.capacity c.self.invariant.0,
+    let own : IsOwn s.part.blocks c.args.addr c.args.class k = rw c.as_slice.ensures at c.in-Some.ensures in (
+      rw c.remove-block.ensures.room c.self.invariant.0,
       rw c.merge.ensures.capacity c.self.invariant.1,
       free_holes s c.args.addr c.args.class k c.remove-block.result c.remove-block.new.self.items c.merge.new.list.items c.self.invariant.2 own c.remove-block.ensures.value
           c.remove-block.ensures.items c.merge.ensures.items,
@@ -62,7 +62,7 @@ pub returns-clause-after : goal.returns-clause-after
 returns-clause-after c =
     let s = the_view c.self.inside in
     let k = c.in-Some.position in
-    let own : IsOwn s.part.blocks c.args.addr c.args.class k = rw c.deref.ensures.value at c.in-Some.ensures in
+    let own : IsOwn s.part.blocks c.args.addr c.args.class k = rw c.as_slice.ensures at c.in-Some.ensures in
     free_is_whole s c.args.addr c.args.class k c.remove-block.result c.remove-block.new.self.items c.merge.new.list.items c.self.invariant.2 own c.remove-block.ensures.value
     c.remove-block.ensures.items c.merge.ensures.items
     ∙ ap (λ (x : HolesState). with_holes (after_free x.part c.args.addr c.args.class)) c.self.view_is

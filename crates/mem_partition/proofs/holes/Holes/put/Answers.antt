@@ -31,7 +31,7 @@ invariant_of-self c =
     let room : length s.part.blocks < s.part.room = subst (λ (x : HolesState). length x.part.blocks < x.part.room) (sym c.self.view_is) c.requires.room in
     let lies : Lies s.part.start s.part.end s.part.blocks c.args.block.size c.args.block.addr =
     subst (λ (x : HolesState). Lies x.part.start x.part.end x.part.blocks c.args.block.size c.args.block.addr) (sym c.self.view_is) c.requires.lies in (
-      rw c.put_block.ensures.capacity c.self.invariant.0,
+      omega (arith, c.put_block.ensures.room, c.self.invariant.0),
       rw c.cut.ensures.capacity c.self.invariant.1,
       put_holes s c.args.block c.put_block.new.blocks.items c.cut.new.list.items c.self.invariant.2 c.requires.some lies room c.put_block.ensures.items c.cut.ensures.items,
     )
