@@ -25,7 +25,7 @@ use Rattle.live_loading.specs.KernelWorldActors.{found_regs}
 use Rattle.live_loading.specs.KernelWorldActor.{Actor}
 use Rattle.wind_machine.specs.Processor.{bus_of, regs_of}
 use Rattle.wind_machine.proofs.Executing.{IfDone, executing_lasts, sizes_last}
-use Rattle.board_actors.specs.Instructions.{ExecutesMany, IsNext, MayRead, MayRun, Names, executed_to}
+use Rattle.board_actors.specs.Instructions.{EndsAt, ExecutesMany, IsNext, MayEnd, MayRead, MayRun, Names, executed_to}
 use Rattle.board_actors.specs.Running.{RanMany}
 
 -- no gate is below the first
@@ -148,18 +148,32 @@ pub entry_ran : (k pc page place next : ℕ) (r m after : Regs) (b c bus : BusSt
 entry_ran k pc page place next r m after b c bus entries e d runs words is_page aligned is within entry copy some done =
     one_more_at k d.word pc next r m after b c bus runs (next_is d c pc (entry_next c pc page place entries e d words is_page aligned is within entry copy) some) done
 
--- a stretch that is longer by the next instruction, if that was executed
-pub record IsStretch (s : Stretch) (k : ℕ) (r : Regs) (b : BusState) (after : Regs) (bus : BusState) : Type 0 where
-  pub runs : RunsBelow s.made r b (at_pc after s.pc) bus
-  pub most : s.made ≤ k + 1
-  pub some : s.stopped ≡ false → 0 < s.made
+-- a burst goes on by the next instruction, or ends before it
+pub record IsStretch (s from : Stretch) (k : ℕ) (r : Regs) (b : BusState) (after : Regs) (bus : BusState) : Type 0 where
+  pub more : ℕ
+  pub count : s.made ≡ from.made + more
+  pub runs : RunsBelow (k + more) r b (at_pc after s.pc) bus
+  pub within : (s.made ≤ s.end) × (s.end ≤ from.end)
+  pub less : s.end - s.made < from.end - from.made
 
-pub stretched : (k pc : ℕ) (r m after : Regs) (b c bus : BusState) (next : Option ℕ) (s : Stretch) → RunsBelow k r b (at_pc m pc) c → MayRun pc m c after bus next
-    → MatchOption next (s ≡ record { pc = pc; made = k; stopped = true }) (λ n. s ≡ record { pc = n; made = k + 1; stopped = false }) → IsStretch s k r b after bus
-stretched k pc r m after b c bus None s runs may is =
-    subst (λ (x : Stretch). IsStretch x k r b after bus) (sym is) (record { runs = ran_none k pc r m after b c bus runs may; most = omega arith; some = λ e. absurd (cc) })
-stretched k pc r m after b c bus (Some n) s runs may is =
-    subst (λ (x : Stretch). IsStretch x k r b after bus) (sym is) (record { runs = ran_next k pc n r m after b c bus runs may; most = omega arith; some = λ e. omega arith })
+pub stretched : (k : ℕ) (from : Stretch) (r m after : Regs) (b c bus : BusState) (s : Stretch) → from.made < from.end → RunsBelow k r b (at_pc m from.pc) c
+    → MayEnd from m c after bus s → IsStretch s from k r b after bus
+stretched k from r m after b c bus s more runs (None, may, is) =
+    subst (λ (x : Stretch). IsStretch x from k r b after bus) (sym is) (record {
+      more = 0;
+      count = omega arith;
+      runs = subst (λ (n : ℕ). RunsBelow n r b (at_pc after from.pc) bus) (sym (add-zero k)) (ran_none k from.pc r m after b c bus runs may);
+      within = (omega arith, omega arith);
+      less = omega arith;
+    })
+stretched k from r m after b c bus s more runs (Some n, may, is) =
+    subst (λ (x : Stretch). IsStretch x from k r b after bus) (sym is) (record {
+      more = 1;
+      count = refl;
+      runs = ran_next k from.pc n r m after b c bus runs may;
+      within = (omega arith, omega arith);
+      less = omega arith;
+    })
 
 -- an instruction that left the bus is executed, by its decoded word
 pub may_run_next : (pc next : ℕ) (d : Decoded) (old regs : Regs) (b bus : BusState) → IsNext d b pc → (d.op ≡ ops.Empty → ⊥) → LeavesAt (exec_of board_meaning (at_pc old pc) d.word b) pc old b regs bus (Ok next) → MayRun pc old b regs bus (Some next)

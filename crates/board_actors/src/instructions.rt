@@ -1,6 +1,6 @@
 //! Instructions of one actor, one after the other, with nothing in between.
 
-ghost use Rattle.std.specs.Prelude.{◌≡◌, ◌≢◌, ℕ, ◌≤◌, ◌<◌, ◌+◌, ◌*◌, ◌/◌, ◌%◌, ◌^◌, false, true, length, Some, IfSome, MatchOption};
+ghost use Rattle.std.specs.Prelude.{◌≡◌, ◌≢◌, ℕ, ◌≤◌, ◌<◌, ◌+◌, ◌-◌, ◌*◌, ◌/◌, ◌%◌, ◌^◌, true, length, Some, IfSome};
 ghost use Rattle.wind_base.specs.Boards.{board_rules};
 ghost use Rattle.ppc_word.specs.declared.op.Op.TheVariants as ops;
 ghost use Rattle.ppc_core.specs.Stepping.{at_pc};
@@ -8,7 +8,7 @@ ghost use Rattle.board_mem.specs.Pages.{page_bytes};
 ghost use Rattle.board_bus.specs.Access.{fetched};
 ghost use Rattle.board_bus.specs.Seen.{bus_seen};
 ghost use Rattle.live_loading.specs.KernelWorldSeen.{world_seen};
-ghost use Rattle.board_actors.specs.{Instructions.{ExecutesMany, IsNext, MayRead, MayRun, Names}, Running.{IsThere, RanMany}};
+ghost use Rattle.board_actors.specs.{Instructions.{EndsAt, ExecutesMany, IsNext, MayEnd, MayRead, MayRun, Names}, Running.{IsThere, RanMany}};
 
 use board_bus::BoardBus;
 use board_mem::{PAGE, WORDS};
@@ -37,13 +37,13 @@ fn copied(entry: &Decoded) -> Decoded
     }
 }
 
-// What was executed of a page: the next address, the number of instructions, and whether the
-// instruction there can't be fetched or causes an exception.
+// How far a burst is: the next address, the number of instructions executed, and the number at
+// which it ends. If the instruction there can't be fetched or causes an exception, it ends here.
 #[derive(Drop)]
 struct Stretch {
     pc: u32,
     made: u64,
-    stopped: bool,
+    end: u64,
 }
 
 // The decoded word at an address. None if it can't be fetched, or is no instruction.
@@ -166,63 +166,88 @@ fn run_reading(pc: u32, regs: &mut Regs, insn: Decoded, bus: &BoardBus) -> Progr
     }
 }
 
-// Executes the instruction at an address that `run_reading` has left, and returns the next address.
-// None if its word can't be fetched, is no instruction, or causes an exception; then nothing changes
-// but, perhaps, `regs.pc`, which isn't read.
-#[inline(always)]
-fn run_left(
-    left: Progress,
-    pc: u32,
-    regs: &mut Regs,
-    insn: Decoded,
-    bus: &mut BoardBus,
-) -> Option<u32>
-    requires next { IsNext insn (bus_seen ⟦<dyn Device as Device>⟧ bus.old) pc }
-    requires named { Names left insn.op }
-    ensures { MayRun pc regs.old (bus_seen ⟦<dyn Device as Device>⟧ bus.old) regs.new
-        (bus_seen ⟦<dyn Device as Device>⟧ bus.new) result }
-{
-    match left {
-        Progress::StoreWord => match store_word(pc, regs, insn, bus) {
-            Ok(next) => Some(next),
-            Err(_) => None,
-        },
-        Progress::Stwu => match store_word_update(pc, regs, insn, bus) {
-            Ok(next) => Some(next),
-            Err(_) => None,
-        },
-        _ => run_with_bus(pc, regs, insn, bus),
-    }
-}
-
-// The stretch before an instruction that can't be executed. It is a call, so that the other stretch
-// is made without a choice between the two.
+// The burst that ends before an instruction that can't be executed. It is a call, so that the
+// other one is made without a choice between the two.
 #[cold]
 #[inline(never)]
 fn stopped(pc: u32, made: u64) -> Stretch
-    ensures { result ≡ record { pc = pc; made = made; stopped = true } }
+    ensures { result ≡ record { pc = pc; made = made; end = made } }
 {
     Stretch {
         pc,
         made,
-        stopped: true,
+        end: made,
     }
 }
 
-// The stretch before an address, longer by the instruction there, if that was executed.
+// The burst after the instruction at an address, if that was executed, and otherwise before it.
 #[inline(always)]
-fn stretch_to(next: Option<u32>, pc: u32, made: u64) -> Stretch
+fn stretch_to(next: Option<u32>, pc: u32, made: u64, end: u64) -> Stretch
     requires { made + 1 < 2 ^ 64 }
-    ensures { MatchOption next (result ≡ record { pc = pc; made = made; stopped = true })
-        (λ next. result ≡ record { pc = next; made = made + 1; stopped = false }) }
+    ensures { EndsAt next pc made end result }
 {
     match next {
         Some(next) => Stretch {
             pc: next,
             made: made + 1,
-            stopped: false,
+            end,
         },
         None => stopped(pc, made),
+    }
+}
+
+// Executes `StoreWord` at an address, and returns the next address. None if it causes an exception;
+// then nothing changes but, perhaps, `regs.pc`, which isn't read.
+#[inline(always)]
+fn put_word(pc: u32, regs: &mut Regs, insn: Decoded, bus: &mut BoardBus) -> Option<u32>
+    requires next { IsNext insn (bus_seen ⟦<dyn Device as Device>⟧ bus.old) pc }
+    requires named { insn.op ≡ ops.StoreWord }
+    ensures { MayRun pc regs.old (bus_seen ⟦<dyn Device as Device>⟧ bus.old) regs.new
+        (bus_seen ⟦<dyn Device as Device>⟧ bus.new) result }
+{
+    match store_word(pc, regs, insn, bus) {
+        Ok(next) => Some(next),
+        Err(_) => None,
+    }
+}
+
+// Executes `Stwu` in the same way.
+#[inline(always)]
+fn put_word_update(pc: u32, regs: &mut Regs, insn: Decoded, bus: &mut BoardBus) -> Option<u32>
+    requires next { IsNext insn (bus_seen ⟦<dyn Device as Device>⟧ bus.old) pc }
+    requires named { insn.op ≡ ops.Stwu }
+    ensures { MayRun pc regs.old (bus_seen ⟦<dyn Device as Device>⟧ bus.old) regs.new
+        (bus_seen ⟦<dyn Device as Device>⟧ bus.new) result }
+{
+    match store_word_update(pc, regs, insn, bus) {
+        Ok(next) => Some(next),
+        Err(_) => None,
+    }
+}
+
+// Executes the instruction at an address that `run_reading` has left: the burst after it, or before
+// it, if its word can't be fetched, is no instruction, or causes an exception; then nothing changes
+// but, perhaps, `regs.pc`, which isn't read. Each arm makes its burst itself, so that none is looked
+// at twice.
+#[inline(always)]
+fn run_left(
+    left: Progress,
+    from: Stretch,
+    regs: &mut Regs,
+    insn: Decoded,
+    bus: &mut BoardBus,
+) -> Stretch
+    requires next { IsNext insn (bus_seen ⟦<dyn Device as Device>⟧ bus.old) from.pc }
+    requires named { Names left insn.op }
+    requires more { from.made + 1 < 2 ^ 64 }
+    ensures { MayEnd from regs.old (bus_seen ⟦<dyn Device as Device>⟧ bus.old) regs.new
+        (bus_seen ⟦<dyn Device as Device>⟧ bus.new) result }
+{
+    let Stretch { pc, made, end } = from;
+    match left {
+        Progress::StoreWord => stretch_to(put_word(pc, regs, insn, bus), pc, made, end),
+        Progress::Stwu => stretch_to(put_word_update(pc, regs, insn, bus), pc, made, end),
+        _ => stretch_to(run_with_bus(pc, regs, insn, bus), pc, made, end),
     }
 }
 
@@ -239,39 +264,38 @@ fn is_word_of(page: u32, pc: u32) -> bool
     at / 4 + at % 4 * 0x4000_0000 < WORDS as u32
 }
 
-// Executes instructions from an address on, as long as they are in its page and use registers only,
-// and one more of the page; at most `most`.
+// Executes instructions of a burst, as long as they are in the page of the next address and use
+// registers only or read RAM, and one more of the page.
 #[inline(always)]
-fn run_page(start: u32, regs: &mut Regs, bus: &mut BoardBus, most: u64) -> Stretch
-    requires { 0 < most }
-    ensures ran { (gates : ℕ) → length bus.old.ram.bytes ≤ gates
-        → ExecutesMany gates result.made (at_pc regs.old start) (bus_seen ⟦<dyn Device as Device>⟧ bus.old)
-        (at_pc regs.new result.pc) (bus_seen ⟦<dyn Device as Device>⟧ bus.new) }
+fn run_page(from: Stretch, regs: &mut Regs, bus: &mut BoardBus) -> Stretch
+    requires { from.made < from.end }
+    ensures ran { (k : ℕ) × (result.made ≡ from.made + k) × ((gates : ℕ) → length bus.old.ram.bytes ≤ gates
+        → ExecutesMany gates k (at_pc regs.old from.pc) (bus_seen ⟦<dyn Device as Device>⟧ bus.old)
+        (at_pc regs.new result.pc) (bus_seen ⟦<dyn Device as Device>⟧ bus.new)) }
     ensures size { length bus.new.ram.bytes ≡ length bus.old.ram.bytes }
-    ensures within { result.made ≤ most }
-    ensures some { result.stopped ≡ false → 0 < result.made }
+    ensures within { (result.made ≤ result.end) × (result.end ≤ from.end) }
+    ensures less { result.end - result.made < from.end - from.made }
 {
-    let page = start / PAGE as u32;
+    let Stretch {
+        mut pc,
+        mut made,
+        end,
+    } = from;
+    let page = pc / PAGE as u32;
     let entries = bus.ram.code_of(page);
-    if entries.len() != WORDS || start % 4 != 0 {
-        return stretch_to(run_elsewhere(start, regs, bus), start, 0);
+    if entries.len() != WORDS || pc % 4 != 0 {
+        return stretch_to(run_elsewhere(pc, regs, bus), pc, made, end);
     }
-    let mut pc = start;
-    let mut made = 0;
-    while made < most && is_word_of(page, pc) {
+    while made < end && is_word_of(page, pc) {
         let insn = copied(&entries[pc as usize % PAGE / 4]);
         let left = run_reading(pc, regs, insn, bus);
         let Progress::Executed(next) = left else {
-            return stretch_to(run_left(left, pc, regs, insn, bus), pc, made);
+            return run_left(left, Stretch { pc, made, end }, regs, insn, bus);
         };
         pc = next;
         made += 1;
     }
-    Stretch {
-        pc,
-        made,
-        stopped: false,
-    }
+    Stretch { pc, made, end }
 }
 
 // Executes at most `most` instructions, and returns how many it executed. It stops before an
@@ -285,19 +309,16 @@ fn run_words(regs: &mut Regs, bus: &mut BoardBus, most: u64) -> u64
         regs.new (bus_seen ⟦<dyn Device as Device>⟧ bus.new) }
     ensures within { result ≤ most }
 {
-    let mut pc = regs.pc;
-    let mut made = 0;
-    while made < most {
-        let stretch = run_page(pc, regs, bus, most - made);
-        pc = stretch.pc;
-        made += stretch.made;
-        if stretch.stopped {
-            regs.pc = pc;
-            return made;
-        }
+    let mut burst = Stretch {
+        pc: regs.pc,
+        made: 0,
+        end: most,
+    };
+    while burst.made < burst.end {
+        burst = run_page(burst, regs, bus);
     }
-    regs.pc = pc;
-    made
+    regs.pc = burst.pc;
+    burst.made
 }
 
 /// Executes at most `most` instructions of an actor, as long as each can be fetched and causes no
