@@ -221,9 +221,7 @@ impl Ram {
             return Err(Outside);
         }
         if left_in_page(addr) >= 4 {
-            let mut bytes = [0; 4];
-            BigEndian::write_u32(&mut bytes, v);
-            self.pages.put(addr, &bytes);
+            self.pages.put_word(addr, v);
             return Ok(());
         }
         self.put_word_across(addr, v);
