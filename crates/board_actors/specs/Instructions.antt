@@ -1,5 +1,5 @@
 -- Instructions of one actor, one after the other.
-use Rattle.std.specs.Prelude.{◌≡◌, ◌≢◌, ◌⊎◌, ℕ, ◌+◌, zero, suc, Option, None, Some}
+use Rattle.std.specs.Prelude.{◌≡◌, ◌≢◌, ◌⊎◌, ℕ, ◌+◌, ◌-◌, ◌*◌, ◌<◌, ◌≤◌, ◌==◌, if◌then◌else◌, zero, suc, Option, None, Some}
 use Rattle.wind_base.specs.Gates.{gate_at}
 use Rattle.wind_base.specs.declared.regs.Regs.{Regs}
 use Rattle.ppc_core.specs.Instructions.{exec_of}
@@ -67,11 +67,23 @@ abbrev pub MayRead : Decoded → ℕ → Regs → Regs → BusState → Progress
 MayRead d pc old regs b (progress.Executed next) = (d.op ≢ ops.Empty) × (exec_of board_meaning (at_pc old pc) d.word b ≡ Done (at_pc regs next) b)
 MayRead d pc old regs b left = Names left d.op × (regs ≡ old)
 
--- a burst that ends before an address, or goes on after the instruction there: then it has the next address
-abbrev pub EndsAt : Option ℕ → ℕ → ℕ → ℕ → Stretch → Type 0
-EndsAt None pc made end s = s ≡ record { pc = pc; made = made; end = made }
-EndsAt (Some next) pc made end s = s ≡ record { pc = next; made = made + 1; end = end }
+-- how often a burst can go on at most: at each instruction that is left its word may be decoded first, once
+abbrev pub turns_left : Stretch → ℕ
+turns_left s = 2 * (s.end - s.made) + (if s.tried == s.made then 0 else 1)
 
--- the next instruction of a burst may be executed, and leads to this burst, these registers and this bus; or it ends there
+-- a burst goes on as another one: at this address, after this number of instructions, and nearer to its end
+pub record GoesOn (s to : Stretch) (pc made : ℕ) : Type 0 where
+  pub at : to.pc ≡ pc
+  pub count : to.made ≡ made
+  pub within : to.made ≤ to.end
+  pub end : to.end ≤ s.end
+  pub less : turns_left to < turns_left s
+
+-- a burst goes on after its next instruction, or before it
+abbrev pub EndsAt : Option ℕ → Stretch → Stretch → Type 0
+EndsAt None s to = GoesOn s to s.pc s.made
+EndsAt (Some next) s to = GoesOn s to next (s.made + 1)
+
+-- the next instruction of a burst may be executed, and leads to this burst, these registers and this bus; or it goes on before it
 abbrev pub MayEnd : Stretch → Regs → BusState → Regs → BusState → Stretch → Type 0
-MayEnd s r b after bus to = (next : Option ℕ) × MayRun s.pc r b after bus next × EndsAt next s.pc s.made s.end to
+MayEnd s r b after bus to = (next : Option ℕ) × MayRun s.pc r b after bus next × EndsAt next s to

@@ -1,20 +1,19 @@
 //! Instructions of one actor, one after the other, with nothing in between.
 
-ghost use Rattle.std.specs.Prelude.{◌≡◌, ◌≢◌, ℕ, ◌≤◌, ◌<◌, ◌+◌, ◌-◌, ◌*◌, ◌/◌, ◌%◌, ◌^◌, true, length, Some, IfSome};
+ghost use Rattle.std.specs.Prelude.{◌≡◌, ◌≢◌, ℕ, ◌≤◌, ◌<◌, ◌+◌, ◌-◌, ◌*◌, ◌/◌, ◌%◌, ◌^◌, true, length};
 ghost use Rattle.wind_base.specs.Boards.{board_rules};
 ghost use Rattle.ppc_word.specs.declared.op.Op.TheVariants as ops;
 ghost use Rattle.ppc_core.specs.Stepping.{at_pc};
 ghost use Rattle.board_mem.specs.Pages.{page_bytes};
-ghost use Rattle.board_bus.specs.Access.{fetched};
 ghost use Rattle.board_bus.specs.Seen.{bus_seen};
 ghost use Rattle.live_loading.specs.KernelWorldSeen.{world_seen};
-ghost use Rattle.board_actors.specs.{Instructions.{EndsAt, ExecutesMany, IsNext, MayEnd, MayRead, MayRun, Names}, Running.{IsThere, RanMany}};
+ghost use Rattle.board_actors.specs.{Instructions.{EndsAt, ExecutesMany, GoesOn, IsNext, MayEnd, MayRead, MayRun, Names, turns_left}, Running.{IsThere, RanMany}};
 
 use board_bus::BoardBus;
 use board_mem::{PAGE, WORDS};
 use live_loading::{Actor, World};
 use ppc_core::{
-    Progress, exec, finish_load, finish_load_byte, finish_load_update, load_address, offset,
+    Progress, finish_load, finish_load_byte, finish_load_update, load_address, offset,
     run_bus, run_registers, store_word, store_word_update,
 };
 use ppc_word::{Decoded, Op};
@@ -37,56 +36,25 @@ fn copied(entry: &Decoded) -> Decoded
     }
 }
 
-// How far a burst is: the next address, the number of instructions executed, and the number at
-// which it ends. If the instruction there can't be fetched or causes an exception, it ends here.
+// How far a burst is: the next address, the number of instructions executed, the number at which
+// it ends, and the number after which a word was decoded last. If the next instruction can't be
+// fetched or causes an exception, the burst ends before it.
 #[derive(Drop)]
 struct Stretch {
     pc: u32,
     made: u64,
     end: u64,
+    tried: u64,
 }
 
-// The decoded word at an address. None if it can't be fetched, or is no instruction.
+// Decodes the word at an address, for its entry. `false` if it can't be fetched, or is no
+// instruction.
 #[inline(always)]
-fn decoded(pc: u32, bus: &mut BoardBus) -> Option<Decoded>
+fn decode(pc: u32, bus: &mut BoardBus) -> bool
     requires { Unit {0} }
-    ensures bus { bus_seen ⟦<dyn Device as Device>⟧ bus.new ≡ bus_seen ⟦<dyn Device as Device>⟧ bus.old }
-    ensures word { IfSome result
-        (λ d. fetched (bus_seen ⟦<dyn Device as Device>⟧ bus.old) pc ≡ Some d.word) }
+    ensures { bus_seen ⟦<dyn Device as Device>⟧ bus.new ≡ bus_seen ⟦<dyn Device as Device>⟧ bus.old }
 {
-    bus.ram.decode_at(pc)
-}
-
-// Executes the instruction at an address whose word isn't decoded yet, and returns the next address.
-// None if its word can't be fetched, is no instruction, or causes an exception; then nothing changes
-// but, perhaps, `regs.pc`, which isn't read.
-#[cold]
-#[inline(never)]
-fn run_undecoded(pc: u32, regs: &mut Regs, bus: &mut BoardBus) -> Option<u32>
-    requires { Unit {0} }
-    ensures { MayRun pc regs.old (bus_seen ⟦<dyn Device as Device>⟧ bus.old) regs.new
-        (bus_seen ⟦<dyn Device as Device>⟧ bus.new) result }
-{
-    let insn = decoded(pc, bus)?;
-    regs.pc = pc;
-    match exec(regs, insn.word, bus) {
-        Ok(()) => Some(regs.pc),
-        Err(_) => None,
-    }
-}
-
-// Executes the instruction at an address of a page without decoded words, in the same way. A burst
-// that comes to a gate ends here: the gates come after RAM, so no word is looked for.
-#[inline(always)]
-fn run_elsewhere(pc: u32, regs: &mut Regs, bus: &mut BoardBus) -> Option<u32>
-    requires { Unit {0} }
-    ensures { MayRun pc regs.old (bus_seen ⟦<dyn Device as Device>⟧ bus.old) regs.new
-        (bus_seen ⟦<dyn Device as Device>⟧ bus.new) result }
-{
-    if !bus.ram.has(pc, 4) {
-        return None;
-    }
-    run_undecoded(pc, regs, bus)
+    bus.ram.decode_at(pc).is_some()
 }
 
 // Whether an entry isn't empty.
@@ -97,22 +65,19 @@ fn is_decoded(insn: Decoded) -> bool
     insn.op != Op::Empty
 }
 
-// Executes the instruction at an address, whose decoded word is known or empty, and returns the
-// next address. None if its word can't be fetched, is no instruction, or causes an exception; then
-// nothing changes but, perhaps, `regs.pc`, which isn't read.
+// Executes the instruction at an address, and returns the next address. None if it causes an
+// exception; then nothing changes but, perhaps, `regs.pc`, which isn't read.
 #[inline(always)]
 fn run_with_bus(pc: u32, regs: &mut Regs, insn: Decoded, bus: &mut BoardBus) -> Option<u32>
-    requires { IsNext insn (bus_seen ⟦<dyn Device as Device>⟧ bus.old) pc }
+    requires next { IsNext insn (bus_seen ⟦<dyn Device as Device>⟧ bus.old) pc }
+    requires decoded { insn.op ≢ ops.Empty }
     ensures { MayRun pc regs.old (bus_seen ⟦<dyn Device as Device>⟧ bus.old) regs.new
         (bus_seen ⟦<dyn Device as Device>⟧ bus.new) result }
 {
-    if is_decoded(insn) {
-        return match run_bus(pc, regs, insn, bus) {
-            Ok(next) => Some(next),
-            Err(_) => None,
-        };
+    match run_bus(pc, regs, insn, bus) {
+        Ok(next) => Some(next),
+        Err(_) => None,
     }
-    run_undecoded(pc, regs, bus)
 }
 
 // Executes `LoadWord` from RAM. `Other` if the bytes aren't all in RAM; then nothing changes.
@@ -171,29 +136,64 @@ fn run_reading(pc: u32, regs: &mut Regs, insn: Decoded, bus: &BoardBus) -> Progr
 #[cold]
 #[inline(never)]
 fn stopped(pc: u32, made: u64) -> Stretch
-    ensures { result ≡ record { pc = pc; made = made; end = made } }
+    ensures { result ≡ record { pc = pc; made = made; end = made; tried = made } }
 {
     Stretch {
         pc,
         made,
         end: made,
+        tried: made,
     }
 }
 
-// The burst after the instruction at an address, if that was executed, and otherwise before it.
+// The burst after the next instruction, if that was executed, and otherwise before it.
 #[inline(always)]
-fn stretch_to(next: Option<u32>, pc: u32, made: u64, end: u64) -> Stretch
-    requires { made + 1 < 2 ^ 64 }
-    ensures { EndsAt next pc made end result }
+fn stretch_to(next: Option<u32>, from: Stretch) -> Stretch
+    requires { from.made < from.end }
+    ensures { EndsAt next from result }
 {
     match next {
         Some(next) => Stretch {
             pc: next,
-            made: made + 1,
-            end,
+            made: from.made + 1,
+            end: from.end,
+            tried: from.tried,
         },
-        None => stopped(pc, made),
+        None => stopped(from.pc, from.made),
     }
+}
+
+// Decodes the word of the next instruction, and executes nothing. The burst ends if the word can't
+// be fetched, is no instruction, or was decoded just before.
+#[inline(always)]
+fn after_decoding(from: Stretch, bus: &mut BoardBus) -> Stretch
+    requires { from.made < from.end }
+    ensures bus { bus_seen ⟦<dyn Device as Device>⟧ bus.new ≡ bus_seen ⟦<dyn Device as Device>⟧ bus.old }
+    ensures goes { GoesOn from result from.pc from.made }
+{
+    if from.tried == from.made || !decode(from.pc, bus) {
+        return stopped(from.pc, from.made);
+    }
+    Stretch {
+        pc: from.pc,
+        made: from.made,
+        end: from.end,
+        tried: from.made,
+    }
+}
+
+// The same in a page without decoded words. A burst that comes to a gate ends here: the gates come
+// after RAM, so no word is looked for.
+#[inline(always)]
+fn after_first_decoding(from: Stretch, bus: &mut BoardBus) -> Stretch
+    requires { from.made < from.end }
+    ensures bus { bus_seen ⟦<dyn Device as Device>⟧ bus.new ≡ bus_seen ⟦<dyn Device as Device>⟧ bus.old }
+    ensures goes { GoesOn from result from.pc from.made }
+{
+    if !bus.ram.has(from.pc, 4) {
+        return stopped(from.pc, from.made);
+    }
+    after_decoding(from, bus)
 }
 
 // Executes `StoreWord` at an address, and returns the next address. None if it causes an exception;
@@ -225,10 +225,8 @@ fn put_word_update(pc: u32, regs: &mut Regs, insn: Decoded, bus: &mut BoardBus) 
     }
 }
 
-// Executes the instruction at an address that `run_reading` has left: the burst after it, or before
-// it, if its word can't be fetched, is no instruction, or causes an exception; then nothing changes
-// but, perhaps, `regs.pc`, which isn't read. Each arm makes its burst itself, so that none is looked
-// at twice.
+// Executes the next instruction, which `run_reading` has left, if its word is decoded, and decodes
+// it otherwise. Each arm makes its burst itself, so that none is looked at twice.
 #[inline(always)]
 fn run_left(
     left: Progress,
@@ -239,15 +237,20 @@ fn run_left(
 ) -> Stretch
     requires next { IsNext insn (bus_seen ⟦<dyn Device as Device>⟧ bus.old) from.pc }
     requires named { Names left insn.op }
-    requires more { from.made + 1 < 2 ^ 64 }
+    requires more { from.made < from.end }
     ensures { MayEnd from regs.old (bus_seen ⟦<dyn Device as Device>⟧ bus.old) regs.new
         (bus_seen ⟦<dyn Device as Device>⟧ bus.new) result }
 {
-    let Stretch { pc, made, end } = from;
+    let pc = from.pc;
     match left {
-        Progress::StoreWord => stretch_to(put_word(pc, regs, insn, bus), pc, made, end),
-        Progress::Stwu => stretch_to(put_word_update(pc, regs, insn, bus), pc, made, end),
-        _ => stretch_to(run_with_bus(pc, regs, insn, bus), pc, made, end),
+        Progress::StoreWord => stretch_to(put_word(pc, regs, insn, bus), from),
+        Progress::Stwu => stretch_to(put_word_update(pc, regs, insn, bus), from),
+        _ => {
+            if !is_decoded(insn) {
+                return after_decoding(from, bus);
+            }
+            stretch_to(run_with_bus(pc, regs, insn, bus), from)
+        }
     }
 }
 
@@ -274,28 +277,29 @@ fn run_page(from: Stretch, regs: &mut Regs, bus: &mut BoardBus) -> Stretch
         (at_pc regs.new result.pc) (bus_seen ⟦<dyn Device as Device>⟧ bus.new)) }
     ensures size { length bus.new.ram.bytes ≡ length bus.old.ram.bytes }
     ensures within { (result.made ≤ result.end) × (result.end ≤ from.end) }
-    ensures less { result.end - result.made < from.end - from.made }
+    ensures less { turns_left result < turns_left from }
 {
     let Stretch {
         mut pc,
         mut made,
         end,
+        tried,
     } = from;
     let page = pc / PAGE as u32;
     let entries = bus.ram.code_of(page);
     if entries.len() != WORDS || pc % 4 != 0 {
-        return stretch_to(run_elsewhere(pc, regs, bus), pc, made, end);
+        return after_first_decoding(Stretch { pc, made, end, tried }, bus);
     }
     while made < end && is_word_of(page, pc) {
         let insn = copied(&entries[pc as usize % PAGE / 4]);
         let left = run_reading(pc, regs, insn, bus);
         let Progress::Executed(next) = left else {
-            return run_left(left, Stretch { pc, made, end }, regs, insn, bus);
+            return run_left(left, Stretch { pc, made, end, tried }, regs, insn, bus);
         };
         pc = next;
         made += 1;
     }
-    Stretch { pc, made, end }
+    Stretch { pc, made, end, tried }
 }
 
 // Executes at most `most` instructions, and returns how many it executed. It stops before an
@@ -313,6 +317,7 @@ fn run_words(regs: &mut Regs, bus: &mut BoardBus, most: u64) -> u64
         pc: regs.pc,
         made: 0,
         end: most,
+        tried: most,
     };
     while burst.made < burst.end {
         burst = run_page(burst, regs, bus);
