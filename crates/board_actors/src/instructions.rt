@@ -49,7 +49,8 @@ struct Stretch {
 
 // Decodes the word at an address, for its entry. `false` if it can't be fetched, or is no
 // instruction.
-#[inline(always)]
+#[cold]
+#[inline(never)]
 fn decode(pc: u32, bus: &mut BoardBus) -> bool
     requires { Unit {0} }
     ensures { bus_seen ⟦<dyn Device as Device>⟧ bus.new ≡ bus_seen ⟦<dyn Device as Device>⟧ bus.old }

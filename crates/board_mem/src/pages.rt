@@ -117,6 +117,7 @@ impl Pages {
     }
 
     /// Keeps the decoded word at an address.
+    #[inline(always)]
     pub fn keep_decoded(&mut self, at: u32, decoded: Decoded)
         requires aligned { at % 4 ≡ 0 }
         requires word { read 4 self.old.bytes at ≡ Some decoded.word }
