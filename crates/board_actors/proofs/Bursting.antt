@@ -25,7 +25,7 @@ use Rattle.live_loading.specs.KernelWorldActors.{found_regs}
 use Rattle.live_loading.specs.KernelWorldActor.{Actor}
 use Rattle.wind_machine.specs.Processor.{bus_of, regs_of}
 use Rattle.wind_machine.proofs.Executing.{IfDone, executing_lasts, sizes_last}
-use Rattle.board_actors.specs.Instructions.{ExecutesMany, GoesOn, IsNext, MayEnd, MayRead, MayRun, Names, executed_to, turns_left}
+use Rattle.board_actors.specs.Instructions.{ExecutesMany, GoesOn, IsNext, MayEnd, MayRead, MayRun, Names, executed_to}
 use Rattle.board_actors.specs.Running.{RanMany}
 
 -- no gate is below the first
@@ -148,39 +148,13 @@ pub entry_ran : (k pc page place next : ℕ) (r m after : Regs) (b c bus : BusSt
 entry_ran k pc page place next r m after b c bus entries e d runs words is_page aligned is within entry copy some done =
     one_more_at k d.word pc next r m after b c bus runs (next_is d c pc (entry_next c pc page place entries e d words is_page aligned is within entry copy) some) done
 
--- a turn for each instruction that is left and one for its word, or one less if that was decoded
-pub turns_most : (s : Stretch) → turns_left s ≤ 2 * (s.end - s.made) + 1
-turns_most s = elim (s.tried == s.made) as (λ b. 2 * (s.end - s.made) + (if b then 0 else 1) ≤ 2 * (s.end - s.made) + 1) [
-  | true ↦ omega arith
-  | false ↦ omega arith
-]
-
-pub turns_least : (s : Stretch) → 2 * (s.end - s.made) ≤ turns_left s
-turns_least s = elim (s.tried == s.made) as (λ b. 2 * (s.end - s.made) ≤ 2 * (s.end - s.made) + (if b then 0 else 1)) [
-  | true ↦ omega arith
-  | false ↦ omega arith
-]
-
--- a burst that executed more, or ends, is nearer to its end
-pub turns_less : (s to : Stretch) → s.made < s.end → to.end - to.made < s.end - s.made → turns_left to < turns_left s
-turns_less s to more less = let most = turns_most to in let least = turns_least s in omega (arith, most, least, less)
-
--- a burst that executed some more, or none, isn't farther from its end
-pub turns_on : (s to : Stretch) (k : ℕ) → to.made ≡ s.made + k → to.made ≤ to.end → to.end ≡ s.end → to.tried ≡ s.tried → turns_left to ≤ turns_left s
-turns_on s to zero count within end tried =
-    let turns : ℕ → ℕ → ℕ → ℕ = λ made end tried. 2 * (end - made) + (if tried == made then 0 else 1) in
-    let same : turns_left to ≡ turns_left s = ap₂ (λ (m e : ℕ). turns m e to.tried) (count ∙ add-zero s.made) end ∙ ap (λ (t : ℕ). turns s.made s.end t) tried in
-    omega (arith, same)
-turns_on s to (suc k) count within end tried =
-    let most = turns_most to in let least = turns_least s in omega (arith, most, least, count, within, end)
-
 -- a burst goes on by the next instruction, or before it
 pub record IsStretch (s from : Stretch) (k : ℕ) (r : Regs) (b : BusState) (after : Regs) (bus : BusState) : Type 0 where
   pub more : ℕ
   pub count : s.made ≡ from.made + more
   pub runs : RunsBelow (k + more) r b (at_pc after s.pc) bus
   pub within : (s.made ≤ s.end) × (s.end ≤ from.end)
-  pub less : turns_left s < turns_left from
+  pub less : s.end - s.made < from.end - from.made
 
 pub stretched : (k : ℕ) (from : Stretch) (r m after : Regs) (b c bus : BusState) (s : Stretch) → RunsBelow k r b (at_pc m from.pc) c
     → MayEnd from m c after bus s → IsStretch s from k r b after bus

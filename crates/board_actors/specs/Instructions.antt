@@ -1,5 +1,5 @@
 -- Instructions of one actor, one after the other.
-use Rattle.std.specs.Prelude.{◌≡◌, ◌≢◌, ◌⊎◌, ℕ, ◌+◌, ◌-◌, ◌*◌, ◌<◌, ◌≤◌, ◌==◌, if◌then◌else◌, zero, suc, Option, None, Some}
+use Rattle.std.specs.Prelude.{◌≡◌, ◌≢◌, ◌⊎◌, ℕ, ◌+◌, ◌-◌, ◌<◌, ◌≤◌, zero, suc, Option, None, Some}
 use Rattle.wind_base.specs.Gates.{gate_at}
 use Rattle.wind_base.specs.declared.regs.Regs.{Regs}
 use Rattle.ppc_core.specs.Instructions.{exec_of}
@@ -67,17 +67,13 @@ abbrev pub MayRead : Decoded → ℕ → Regs → Regs → BusState → Progress
 MayRead d pc old regs b (progress.Executed next) = (d.op ≢ ops.Empty) × (exec_of board_meaning (at_pc old pc) d.word b ≡ Done (at_pc regs next) b)
 MayRead d pc old regs b left = Names left d.op × (regs ≡ old)
 
--- how often a burst can go on at most: at each instruction that is left its word may be decoded first, once
-abbrev pub turns_left : Stretch → ℕ
-turns_left s = 2 * (s.end - s.made) + (if s.tried == s.made then 0 else 1)
-
 -- a burst goes on as another one: at this address, after this number of instructions, and nearer to its end
 pub record GoesOn (s to : Stretch) (pc made : ℕ) : Type 0 where
   pub at : to.pc ≡ pc
   pub count : to.made ≡ made
   pub within : to.made ≤ to.end
   pub end : to.end ≤ s.end
-  pub less : turns_left to < turns_left s
+  pub less : to.end - to.made < s.end - s.made
 
 -- a burst goes on after its next instruction, or before it
 abbrev pub EndsAt : Option ℕ → Stretch → Stretch → Type 0

@@ -7,7 +7,7 @@ ghost use Rattle.ppc_core.specs.Stepping.{at_pc};
 ghost use Rattle.board_mem.specs.Pages.{page_bytes};
 ghost use Rattle.board_bus.specs.Seen.{bus_seen};
 ghost use Rattle.live_loading.specs.KernelWorldSeen.{world_seen};
-ghost use Rattle.board_actors.specs.{Instructions.{EndsAt, ExecutesMany, GoesOn, IsNext, MayEnd, MayRead, MayRun, Names, turns_left}, Running.{IsThere, RanMany}};
+ghost use Rattle.board_actors.specs.{Instructions.{EndsAt, ExecutesMany, GoesOn, IsNext, MayEnd, MayRead, MayRun, Names}, Running.{IsThere, RanMany}};
 
 use board_bus::BoardBus;
 use board_mem::{PAGE, WORDS};
@@ -36,15 +36,13 @@ fn copied(entry: &Decoded) -> Decoded
     }
 }
 
-// How far a burst is: the next address, the number of instructions executed, the number at which
-// it ends, and the number after which a word was decoded last. If the next instruction can't be
-// fetched or causes an exception, the burst ends before it.
+// How far a burst is: the next address, the number of instructions executed, and the number at
+// which it ends. If the next instruction can't be fetched or causes an exception, it ends there.
 #[derive(Drop)]
 struct Stretch {
     pc: u32,
     made: u64,
     end: u64,
-    tried: u64,
 }
 
 // Decodes the word at an address, for its entry. `false` if it can't be fetched, or is no
@@ -137,13 +135,12 @@ fn run_reading(pc: u32, regs: &mut Regs, insn: Decoded, bus: &BoardBus) -> Progr
 #[cold]
 #[inline(never)]
 fn stopped(pc: u32, made: u64) -> Stretch
-    ensures { result ≡ record { pc = pc; made = made; end = made; tried = made } }
+    ensures { result ≡ record { pc = pc; made = made; end = made } }
 {
     Stretch {
         pc,
         made,
         end: made,
-        tried: made,
     }
 }
 
@@ -158,28 +155,26 @@ fn stretch_to(next: Option<u32>, from: Stretch) -> Stretch
             pc: next,
             made: from.made + 1,
             end: from.end,
-            tried: from.tried,
         },
         None => stopped(from.pc, from.made),
     }
 }
 
-// Decodes the word of the next instruction, and executes nothing. The burst ends if the word can't
-// be fetched, is no instruction, or was decoded just before.
+// Decodes the word of the next instruction, which takes the place of one instruction of the burst.
+// The burst ends if the word can't be fetched, or is no instruction.
 #[inline(always)]
 fn after_decoding(from: Stretch, bus: &mut BoardBus) -> Stretch
     requires { from.made < from.end }
     ensures bus { bus_seen ⟦<dyn Device as Device>⟧ bus.new ≡ bus_seen ⟦<dyn Device as Device>⟧ bus.old }
     ensures goes { GoesOn from result from.pc from.made }
 {
-    if from.tried == from.made || !decode(from.pc, bus) {
+    if !decode(from.pc, bus) {
         return stopped(from.pc, from.made);
     }
     Stretch {
         pc: from.pc,
         made: from.made,
-        end: from.end,
-        tried: from.made,
+        end: from.end - 1,
     }
 }
 
@@ -278,29 +273,28 @@ fn run_page(from: Stretch, regs: &mut Regs, bus: &mut BoardBus) -> Stretch
         (at_pc regs.new result.pc) (bus_seen ⟦<dyn Device as Device>⟧ bus.new)) }
     ensures size { length bus.new.ram.bytes ≡ length bus.old.ram.bytes }
     ensures within { (result.made ≤ result.end) × (result.end ≤ from.end) }
-    ensures less { turns_left result < turns_left from }
+    ensures less { result.end - result.made < from.end - from.made }
 {
     let Stretch {
         mut pc,
         mut made,
         end,
-        tried,
     } = from;
     let page = pc / PAGE as u32;
     let entries = bus.ram.code_of(page);
     if entries.len() != WORDS || pc % 4 != 0 {
-        return after_first_decoding(Stretch { pc, made, end, tried }, bus);
+        return after_first_decoding(Stretch { pc, made, end }, bus);
     }
     while made < end && is_word_of(page, pc) {
         let insn = copied(&entries[pc as usize % PAGE / 4]);
         let left = run_reading(pc, regs, insn, bus);
         let Progress::Executed(next) = left else {
-            return run_left(left, Stretch { pc, made, end, tried }, regs, insn, bus);
+            return run_left(left, Stretch { pc, made, end }, regs, insn, bus);
         };
         pc = next;
         made += 1;
     }
-    Stretch { pc, made, end, tried }
+    Stretch { pc, made, end }
 }
 
 // Executes at most `most` instructions, and returns how many it executed. It stops before an
@@ -318,7 +312,6 @@ fn run_words(regs: &mut Regs, bus: &mut BoardBus, most: u64) -> u64
         pc: regs.pc,
         made: 0,
         end: most,
-        tried: most,
     };
     while burst.made < burst.end {
         burst = run_page(burst, regs, bus);

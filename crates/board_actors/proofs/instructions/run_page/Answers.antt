@@ -3,7 +3,7 @@ use Rattle.wind_base.specs.declared.regs.Regs.{Regs}
 use Rattle.ppc_core.specs.Stepping.{at_pc}
 use Rattle.board_actors.specs.declared.instructions.Stretch.{Stretch}
 use Rattle.board_bus.specs.Seen.{bus_by}
-use Rattle.board_actors.proofs.Bursting.{RunsBelow, IsStretch, entry_ran, entry_next, read_left, stretched, turns_on}
+use Rattle.board_actors.proofs.Bursting.{RunsBelow, IsStretch, entry_ran, entry_next, read_left, stretched}
 use Rattle.board_actors.proofs.instructions.run_page.Goals as goal
 
 pub loop-made-init : goal.loop-made-init
@@ -43,13 +43,12 @@ returns-in_default g c =
     let bus = seen c.args.bus.now in let r = at_pc c.args.regs.now c.args.from.pc in
     let same : left.new.regs ≡ l.regs = (read_left c.copied-insn.result l.pc l.regs left.new.regs bus left.result left.ensures c.in_default.not-Executed).1 in
     let runs = subst (λ (x : Regs). RunsBelow l.invariant.0 r bus (at_pc x l.pc) bus) (sym same) l.invariant.2 in
-    let from : Stretch = record { pc = l.pc; made = l.made; end = c.args.from.end; tried = c.args.from.tried } in
+    let from : Stretch = record { pc = l.pc; made = l.made; end = c.args.from.end } in
     let is : IsStretch ran.result from l.invariant.0 r bus ran.new.regs (seen ran.new.bus) = stretched l.invariant.0 from r left.new.regs ran.new.regs bus bus (seen ran.new.bus) ran.result runs ran.ensures in
     let before = l.invariant.1 in let count = is.count in let less = is.less in
-    let near = turns_on c.args.from from l.invariant.0 before (omega arith) refl refl in
     record {
       ran = (l.invariant.0 + is.more, omega (arith, before, count), is.runs.many);
       size = is.runs.size;
       within = is.within;
-      less = omega (arith, less, near);
+      less = omega (arith, less, before);
     }

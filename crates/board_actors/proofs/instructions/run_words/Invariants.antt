@@ -1,7 +1,6 @@
-use Rattle.std.proofs.Common.{◌≤◌}
+use Rattle.std.proofs.Common.{◌-◌, ◌≤◌}
 use Rattle.ppc_core.specs.Stepping.{at_pc}
 use Rattle.board_bus.specs.Seen.{bus_by}
-use Rattle.board_actors.specs.Instructions.{turns_left}
 use Rattle.board_actors.proofs.Bursting.{RunsBelow}
 use Rattle.board_actors.proofs.instructions.run_words.Given as goal
 
@@ -12,4 +11,4 @@ invariant-loop-burst g l =
     RunsBelow l.burst.made l.initial.regs (seen l.initial.bus) (at_pc l.regs l.burst.pc) (seen l.bus) × (l.burst.made ≤ l.burst.end) × (l.burst.end ≤ l.most)
 
 abbrev pub decreases-loop-burst : goal.decreases-loop-burst
-decreases-loop-burst g l = turns_left l.burst
+decreases-loop-burst g l = l.burst.end - l.burst.made
