@@ -285,7 +285,7 @@ fn run_page(from: Stretch, regs: &mut Regs, bus: &mut BoardBus) -> Stretch
     if entries.len() != WORDS || pc % 4 != 0 {
         return after_first_decoding(Stretch { pc, made, end }, bus);
     }
-    while made < end && is_word_of(page, pc) {
+    loop {
         let insn = copied(&entries[pc as usize % PAGE / 4]);
         let left = run_reading(pc, regs, insn, bus);
         let Progress::Executed(next) = left else {
@@ -293,8 +293,10 @@ fn run_page(from: Stretch, regs: &mut Regs, bus: &mut BoardBus) -> Stretch
         };
         pc = next;
         made += 1;
+        if made == end || !is_word_of(page, pc) {
+            return Stretch { pc, made, end };
+        }
     }
-    Stretch { pc, made, end }
 }
 
 // Executes at most `most` instructions, and returns how many it executed. It stops before an

@@ -4,11 +4,11 @@ use Rattle.board_bus.specs.Seen.{bus_by}
 use Rattle.board_actors.proofs.Bursting.{RunsBelow}
 use Rattle.board_actors.proofs.instructions.run_page.Given as goal
 
--- this many more instructions were executed, and one at least where the page is left
-abbrev pub invariant-loop-made : goal.invariant-loop-made
-invariant-loop-made g l =
+-- this many more instructions were executed, and the next is in the page
+abbrev pub invariant-loop-next : goal.invariant-loop-next
+invariant-loop-next g l =
     let seen = bus_by (λ d. (goal.Device-dyn g (d.vtable, d.value)).kind_of d.value) (λ d. (goal.Device-dyn g (d.vtable, d.value)).words_of d.value) in
-    (k : ℕ) × (l.made ≡ l.fn.from.made + k) × RunsBelow k (at_pc l.initial.regs l.fn.from.pc) (seen l.fn.bus) (at_pc l.regs l.pc) (seen l.fn.bus) × (l.made ≤ l.end) × ((l.fn.from.made < l.made) ⊎ (l.pc ≡ l.fn.from.pc))
+    (k : ℕ) × (l.made ≡ l.fn.from.made + k) × RunsBelow k (at_pc l.initial.regs l.fn.from.pc) (seen l.fn.bus) (at_pc l.regs l.pc) (seen l.fn.bus) × (l.made < l.end) × (l.pc / 4096 ≡ l.page) × (l.pc % 4 ≡ 0)
 
-abbrev pub decreases-loop-made : goal.decreases-loop-made
-decreases-loop-made g l = l.end - l.made
+abbrev pub decreases-loop-next : goal.decreases-loop-next
+decreases-loop-next g l = l.end - l.made
