@@ -1,6 +1,6 @@
 -- Instructions, one after the other.
-use Rattle.std.proofs.Common.{◌≡◌, ℕ, ◌+◌, ◌-◌, ◌*◌, ◌/◌, ◌%◌, ◌<◌, ◌≤◌, ◌&&◌, ◌==◌, Bool, true, false, cond, eqb, List, length, Option, None, Some, Result, refl, sym, ap, ap₂, ◌∙◌, subst, zero, suc, add-one, add-zero, add-suc, get_or, Ok, Err, inl, inr, arith}
-use Rattle.std.specs.Prelude.{MatchOption, is_err, unwrap_or, nat_le, if◌then◌else◌}
+use Rattle.std.proofs.Common.{◌≡◌, ℕ, ◌+◌, ◌-◌, ◌*◌, ◌/◌, ◌%◌, ◌<◌, ◌≤◌, ◌&&◌, ◌==◌, Bool, true, false, cond, eqb, List, length, Option, None, Some, Result, refl, sym, ap, ap₂, ◌∙◌, subst, zero, suc, add-one, add-zero, add-suc, get_or, Ok, inl, inr, arith}
+use Rattle.std.specs.Prelude.{is_err, unwrap_or, nat_le, if◌then◌else◌}
 use Rattle.std.proofs.lemmas.Bool.Decides.{nat_tests}
 use Rattle.wind_base.specs.Limits.{gate_bytes}
 use Rattle.wind_base.specs.Gates.{gate_at, gate_of}
@@ -25,7 +25,7 @@ use Rattle.live_loading.specs.KernelWorldActors.{found_regs}
 use Rattle.live_loading.specs.KernelWorldActor.{Actor}
 use Rattle.wind_machine.specs.Processor.{bus_of, regs_of}
 use Rattle.wind_machine.proofs.Executing.{IfDone, executing_lasts, sizes_last}
-use Rattle.board_actors.specs.Instructions.{ExecutesMany, GoesOn, IsNext, MayEnd, MayRead, MayRun, Names, executed_to}
+use Rattle.board_actors.specs.Instructions.{ExecutesMany, IsNext, MayEnd, MayRead, MayRun, Names, executed_to}
 use Rattle.board_actors.specs.Running.{RanMany}
 
 -- no gate is below the first

@@ -13,8 +13,8 @@ use board_bus::BoardBus;
 use board_mem::{PAGE, WORDS};
 use live_loading::{Actor, World};
 use ppc_core::{
-    Progress, finish_load, finish_load_byte, finish_load_update, load_address, offset,
-    run_bus, run_registers, store_word, store_word_update,
+    Progress, finish_load, finish_load_byte, finish_load_update, load_address, offset, run_bus,
+    run_registers, store_word, store_word_update,
 };
 use ppc_word::{Decoded, Op};
 use wind_base::Regs;

@@ -1,4 +1,4 @@
-use Rattle.std.proofs.Common.{◌≡◌, ℕ, ◌+◌, ◌-◌, ◌/◌, ◌%◌, ◌<◌, ◌≤◌, ◌⊎◌}
+use Rattle.std.proofs.Common.{◌≡◌, ℕ, ◌+◌, ◌-◌, ◌/◌, ◌%◌, ◌<◌}
 use Rattle.ppc_core.specs.Stepping.{at_pc}
 use Rattle.board_bus.specs.Seen.{bus_by}
 use Rattle.board_actors.proofs.Bursting.{RunsBelow}
