@@ -299,9 +299,9 @@ fn run_page(from: Stretch, regs: &mut Regs, bus: &mut BoardBus) -> Stretch
     }
 }
 
-// Executes at most `most` instructions, and returns how many it executed. It stops before an
-// instruction that can't be fetched or causes an exception. No gate is below the end of RAM, so a
-// word that can be fetched is at no gate, and nothing here asks for one.
+// Executes at most `most` instructions, less the words that it decodes, and returns how many it
+// executed. It stops before an instruction that can't be fetched or causes an exception. No gate is
+// below the end of RAM, so a word that can be fetched is at no gate, and nothing here asks for one.
 #[inline(never)]
 fn run_words(regs: &mut Regs, bus: &mut BoardBus, most: u64) -> u64
     requires { Unit {0} }
