@@ -1,6 +1,6 @@
 -- Instructions, one after the other.
-use Rattle.std.proofs.Common.{◌≡◌, ℕ, ◌+◌, ◌-◌, ◌*◌, ◌/◌, ◌%◌, ◌<◌, ◌≤◌, ◌&&◌, ◌==◌, Bool, true, false, cond, eqb, List, length, Option, None, Some, Result, refl, sym, ap, ap₂, ◌∙◌, subst, zero, suc, add-one, add-zero, add-suc, get_or, Ok, Err, inl, inr, arith}
-use Rattle.std.specs.Prelude.{MatchOption, is_err, unwrap_or, nat_le, if◌then◌else◌}
+use Rattle.std.proofs.Common.{◌≡◌, ℕ, ◌+◌, ◌-◌, ◌*◌, ◌/◌, ◌%◌, ◌<◌, ◌≤◌, ◌&&◌, ◌==◌, Bool, true, false, cond, eqb, List, length, Option, None, Some, Result, refl, sym, ap, ap₂, ◌∙◌, subst, zero, suc, add-one, add-zero, add-suc, get_or, Ok, inl, inr, arith}
+use Rattle.std.specs.Prelude.{is_err, unwrap_or, nat_le, if◌then◌else◌}
 use Rattle.std.proofs.lemmas.Bool.Decides.{nat_tests}
 use Rattle.wind_base.specs.Limits.{gate_bytes}
 use Rattle.wind_base.specs.Gates.{gate_at, gate_of}
@@ -25,7 +25,7 @@ use Rattle.live_loading.specs.KernelWorldActors.{found_regs}
 use Rattle.live_loading.specs.KernelWorldActor.{Actor}
 use Rattle.wind_machine.specs.Processor.{bus_of, regs_of}
 use Rattle.wind_machine.proofs.Executing.{IfDone, executing_lasts, sizes_last}
-use Rattle.board_actors.specs.Instructions.{ExecutesMany, IsNext, MayRead, MayRun, Names, executed_to}
+use Rattle.board_actors.specs.Instructions.{ExecutesMany, IsNext, MayEnd, MayRead, MayRun, Names, executed_to}
 use Rattle.board_actors.specs.Running.{RanMany}
 
 -- no gate is below the first
@@ -148,18 +148,34 @@ pub entry_ran : (k pc page place next : ℕ) (r m after : Regs) (b c bus : BusSt
 entry_ran k pc page place next r m after b c bus entries e d runs words is_page aligned is within entry copy some done =
     one_more_at k d.word pc next r m after b c bus runs (next_is d c pc (entry_next c pc page place entries e d words is_page aligned is within entry copy) some) done
 
--- a stretch that is longer by the next instruction, if that was executed
-pub record IsStretch (s : Stretch) (k : ℕ) (r : Regs) (b : BusState) (after : Regs) (bus : BusState) : Type 0 where
-  pub runs : RunsBelow s.made r b (at_pc after s.pc) bus
-  pub most : s.made ≤ k + 1
-  pub some : s.stopped ≡ false → 0 < s.made
+-- a burst goes on by the next instruction, or before it
+pub record IsStretch (s from : Stretch) (k : ℕ) (r : Regs) (b : BusState) (after : Regs) (bus : BusState) : Type 0 where
+  pub more : ℕ
+  pub count : s.made ≡ from.made + more
+  pub runs : RunsBelow (k + more) r b (at_pc after s.pc) bus
+  pub within : (s.made ≤ s.end) × (s.end ≤ from.end)
+  pub less : s.end - s.made < from.end - from.made
 
-pub stretched : (k pc : ℕ) (r m after : Regs) (b c bus : BusState) (next : Option ℕ) (s : Stretch) → RunsBelow k r b (at_pc m pc) c → MayRun pc m c after bus next
-    → MatchOption next (s ≡ record { pc = pc; made = k; stopped = true }) (λ n. s ≡ record { pc = n; made = k + 1; stopped = false }) → IsStretch s k r b after bus
-stretched k pc r m after b c bus None s runs may is =
-    subst (λ (x : Stretch). IsStretch x k r b after bus) (sym is) (record { runs = ran_none k pc r m after b c bus runs may; most = omega arith; some = λ e. absurd (cc) })
-stretched k pc r m after b c bus (Some n) s runs may is =
-    subst (λ (x : Stretch). IsStretch x k r b after bus) (sym is) (record { runs = ran_next k pc n r m after b c bus runs may; most = omega arith; some = λ e. omega arith })
+pub stretched : (k : ℕ) (from : Stretch) (r m after : Regs) (b c bus : BusState) (s : Stretch) → RunsBelow k r b (at_pc m from.pc) c
+    → MayEnd from m c after bus s → IsStretch s from k r b after bus
+stretched k from r m after b c bus s runs (None, may, goes) =
+    let ran = ran_none k from.pc r m after b c bus runs may in
+    record {
+      more = 0;
+      count = goes.count ∙ sym (add-zero from.made);
+      runs = subst (λ (n : ℕ). RunsBelow n r b (at_pc after s.pc) bus) (sym (add-zero k)) (subst (λ (pc : ℕ). RunsBelow k r b (at_pc after pc) bus) (sym goes.at) ran);
+      within = (goes.within, goes.end);
+      less = goes.less;
+    }
+stretched k from r m after b c bus s runs (Some n, may, goes) =
+    let ran = ran_next k from.pc n r m after b c bus runs may in
+    record {
+      more = 1;
+      count = goes.count;
+      runs = subst (λ (pc : ℕ). RunsBelow (k + 1) r b (at_pc after pc) bus) (sym goes.at) ran;
+      within = (goes.within, goes.end);
+      less = goes.less;
+    }
 
 -- an instruction that left the bus is executed, by its decoded word
 pub may_run_next : (pc next : ℕ) (d : Decoded) (old regs : Regs) (b bus : BusState) → IsNext d b pc → (d.op ≡ ops.Empty → ⊥) → LeavesAt (exec_of board_meaning (at_pc old pc) d.word b) pc old b regs bus (Ok next) → MayRun pc old b regs bus (Some next)

@@ -1,5 +1,5 @@
 -- Instructions of one actor, one after the other.
-use Rattle.std.specs.Prelude.{◌≡◌, ◌≢◌, ◌⊎◌, ℕ, zero, suc, Option, None, Some}
+use Rattle.std.specs.Prelude.{◌≡◌, ◌≢◌, ◌⊎◌, ℕ, ◌+◌, ◌-◌, ◌<◌, ◌≤◌, zero, suc, Option, None, Some}
 use Rattle.wind_base.specs.Gates.{gate_at}
 use Rattle.wind_base.specs.declared.regs.Regs.{Regs}
 use Rattle.ppc_core.specs.Instructions.{exec_of}
@@ -15,6 +15,7 @@ use Rattle.board_bus.specs.Access.{board_meaning, fetched}
 use Rattle.live_loading.specs.KernelWorldState.{WorldState}
 use Rattle.live_loading.specs.KernelWorldActor.{Actor}
 use Rattle.wind_machine.specs.Processor.{with_bus, with_regs}
+use Rattle.board_actors.specs.declared.instructions.Stretch.{Stretch}
 use Rattle.board_actors.specs.declared.step_kind.StepKind.{StepKind}
 use Rattle.board_actors.specs.declared.step_kind.StepKind.TheVariants as kinds
 
@@ -65,3 +66,20 @@ Names _ op = Unit {0}
 abbrev pub MayRead : Decoded → ℕ → Regs → Regs → BusState → Progress → Type 0
 MayRead d pc old regs b (progress.Executed next) = (d.op ≢ ops.Empty) × (exec_of board_meaning (at_pc old pc) d.word b ≡ Done (at_pc regs next) b)
 MayRead d pc old regs b left = Names left d.op × (regs ≡ old)
+
+-- a burst goes on as another one: at this address, after this number of instructions, and nearer to its end
+pub record GoesOn (s to : Stretch) (pc made : ℕ) : Type 0 where
+  pub at : to.pc ≡ pc
+  pub count : to.made ≡ made
+  pub within : to.made ≤ to.end
+  pub end : to.end ≤ s.end
+  pub less : to.end - to.made < s.end - s.made
+
+-- a burst goes on after its next instruction, or before it
+abbrev pub EndsAt : Option ℕ → Stretch → Stretch → Type 0
+EndsAt None s to = GoesOn s to s.pc s.made
+EndsAt (Some next) s to = GoesOn s to next (s.made + 1)
+
+-- the next instruction of a burst may be executed, and leads to this burst, these registers and this bus; or it goes on before it
+abbrev pub MayEnd : Stretch → Regs → BusState → Regs → BusState → Stretch → Type 0
+MayEnd s r b after bus to = (next : Option ℕ) × MayRun s.pc r b after bus next × EndsAt next s to

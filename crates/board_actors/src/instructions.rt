@@ -1,21 +1,20 @@
 //! Instructions of one actor, one after the other, with nothing in between.
 
-ghost use Rattle.std.specs.Prelude.{◌≡◌, ◌≢◌, ℕ, ◌≤◌, ◌<◌, ◌+◌, ◌*◌, ◌/◌, ◌%◌, ◌^◌, false, true, length, Some, IfSome, MatchOption};
+ghost use Rattle.std.specs.Prelude.{◌≡◌, ◌≢◌, ℕ, ◌≤◌, ◌<◌, ◌+◌, ◌-◌, ◌*◌, ◌/◌, ◌%◌, ◌^◌, true, length};
 ghost use Rattle.wind_base.specs.Boards.{board_rules};
 ghost use Rattle.ppc_word.specs.declared.op.Op.TheVariants as ops;
 ghost use Rattle.ppc_core.specs.Stepping.{at_pc};
 ghost use Rattle.board_mem.specs.Pages.{page_bytes};
-ghost use Rattle.board_bus.specs.Access.{fetched};
 ghost use Rattle.board_bus.specs.Seen.{bus_seen};
 ghost use Rattle.live_loading.specs.KernelWorldSeen.{world_seen};
-ghost use Rattle.board_actors.specs.{Instructions.{ExecutesMany, IsNext, MayRead, MayRun, Names}, Running.{IsThere, RanMany}};
+ghost use Rattle.board_actors.specs.{Instructions.{EndsAt, ExecutesMany, GoesOn, IsNext, MayEnd, MayRead, MayRun, Names}, Running.{IsThere, RanMany}};
 
 use board_bus::BoardBus;
 use board_mem::{PAGE, WORDS};
 use live_loading::{Actor, World};
 use ppc_core::{
-    Progress, exec, finish_load, finish_load_byte, finish_load_update, load_address, offset,
-    run_bus, run_registers, store_word, store_word_update,
+    Progress, finish_load, finish_load_byte, finish_load_update, load_address, offset, run_bus,
+    run_registers, store_word, store_word_update,
 };
 use ppc_word::{Decoded, Op};
 use wind_base::Regs;
@@ -37,56 +36,24 @@ fn copied(entry: &Decoded) -> Decoded
     }
 }
 
-// What was executed of a page: the next address, the number of instructions, and whether the
-// instruction there can't be fetched or causes an exception.
+// How far a burst is: the next address, the number of instructions executed, and the number at
+// which it ends. If the next instruction can't be fetched or causes an exception, it ends there.
 #[derive(Drop)]
 struct Stretch {
     pc: u32,
     made: u64,
-    stopped: bool,
+    end: u64,
 }
 
-// The decoded word at an address. None if it can't be fetched, or is no instruction.
-#[inline(always)]
-fn decoded(pc: u32, bus: &mut BoardBus) -> Option<Decoded>
-    requires { Unit {0} }
-    ensures bus { bus_seen ⟦<dyn Device as Device>⟧ bus.new ≡ bus_seen ⟦<dyn Device as Device>⟧ bus.old }
-    ensures word { IfSome result
-        (λ d. fetched (bus_seen ⟦<dyn Device as Device>⟧ bus.old) pc ≡ Some d.word) }
-{
-    bus.ram.decode_at(pc)
-}
-
-// Executes the instruction at an address whose word isn't decoded yet, and returns the next address.
-// None if its word can't be fetched, is no instruction, or causes an exception; then nothing changes
-// but, perhaps, `regs.pc`, which isn't read.
+// Decodes the word at an address, for its entry. `false` if it can't be fetched, or is no
+// instruction.
 #[cold]
 #[inline(never)]
-fn run_undecoded(pc: u32, regs: &mut Regs, bus: &mut BoardBus) -> Option<u32>
+fn decode(pc: u32, bus: &mut BoardBus) -> bool
     requires { Unit {0} }
-    ensures { MayRun pc regs.old (bus_seen ⟦<dyn Device as Device>⟧ bus.old) regs.new
-        (bus_seen ⟦<dyn Device as Device>⟧ bus.new) result }
+    ensures { bus_seen ⟦<dyn Device as Device>⟧ bus.new ≡ bus_seen ⟦<dyn Device as Device>⟧ bus.old }
 {
-    let insn = decoded(pc, bus)?;
-    regs.pc = pc;
-    match exec(regs, insn.word, bus) {
-        Ok(()) => Some(regs.pc),
-        Err(_) => None,
-    }
-}
-
-// Executes the instruction at an address of a page without decoded words, in the same way. A burst
-// that comes to a gate ends here: the gates come after RAM, so no word is looked for.
-#[inline(always)]
-fn run_elsewhere(pc: u32, regs: &mut Regs, bus: &mut BoardBus) -> Option<u32>
-    requires { Unit {0} }
-    ensures { MayRun pc regs.old (bus_seen ⟦<dyn Device as Device>⟧ bus.old) regs.new
-        (bus_seen ⟦<dyn Device as Device>⟧ bus.new) result }
-{
-    if !bus.ram.has(pc, 4) {
-        return None;
-    }
-    run_undecoded(pc, regs, bus)
+    bus.ram.decode_at(pc).is_some()
 }
 
 // Whether an entry isn't empty.
@@ -97,22 +64,19 @@ fn is_decoded(insn: Decoded) -> bool
     insn.op != Op::Empty
 }
 
-// Executes the instruction at an address, whose decoded word is known or empty, and returns the
-// next address. None if its word can't be fetched, is no instruction, or causes an exception; then
-// nothing changes but, perhaps, `regs.pc`, which isn't read.
+// Executes the instruction at an address, and returns the next address. None if it causes an
+// exception; then nothing changes but, perhaps, `regs.pc`, which isn't read.
 #[inline(always)]
 fn run_with_bus(pc: u32, regs: &mut Regs, insn: Decoded, bus: &mut BoardBus) -> Option<u32>
-    requires { IsNext insn (bus_seen ⟦<dyn Device as Device>⟧ bus.old) pc }
+    requires next { IsNext insn (bus_seen ⟦<dyn Device as Device>⟧ bus.old) pc }
+    requires decoded { insn.op ≢ ops.Empty }
     ensures { MayRun pc regs.old (bus_seen ⟦<dyn Device as Device>⟧ bus.old) regs.new
         (bus_seen ⟦<dyn Device as Device>⟧ bus.new) result }
 {
-    if is_decoded(insn) {
-        return match run_bus(pc, regs, insn, bus) {
-            Ok(next) => Some(next),
-            Err(_) => None,
-        };
+    match run_bus(pc, regs, insn, bus) {
+        Ok(next) => Some(next),
+        Err(_) => None,
     }
-    run_undecoded(pc, regs, bus)
 }
 
 // Executes `LoadWord` from RAM. `Other` if the bytes aren't all in RAM; then nothing changes.
@@ -166,63 +130,123 @@ fn run_reading(pc: u32, regs: &mut Regs, insn: Decoded, bus: &BoardBus) -> Progr
     }
 }
 
-// Executes the instruction at an address that `run_reading` has left, and returns the next address.
-// None if its word can't be fetched, is no instruction, or causes an exception; then nothing changes
-// but, perhaps, `regs.pc`, which isn't read.
-#[inline(always)]
-fn run_left(
-    left: Progress,
-    pc: u32,
-    regs: &mut Regs,
-    insn: Decoded,
-    bus: &mut BoardBus,
-) -> Option<u32>
-    requires next { IsNext insn (bus_seen ⟦<dyn Device as Device>⟧ bus.old) pc }
-    requires named { Names left insn.op }
-    ensures { MayRun pc regs.old (bus_seen ⟦<dyn Device as Device>⟧ bus.old) regs.new
-        (bus_seen ⟦<dyn Device as Device>⟧ bus.new) result }
-{
-    match left {
-        Progress::StoreWord => match store_word(pc, regs, insn, bus) {
-            Ok(next) => Some(next),
-            Err(_) => None,
-        },
-        Progress::Stwu => match store_word_update(pc, regs, insn, bus) {
-            Ok(next) => Some(next),
-            Err(_) => None,
-        },
-        _ => run_with_bus(pc, regs, insn, bus),
-    }
-}
-
-// The stretch before an instruction that can't be executed. It is a call, so that the other stretch
-// is made without a choice between the two.
+// The burst that ends before an instruction that can't be executed. It is a call, so that the
+// other one is made without a choice between the two.
 #[cold]
 #[inline(never)]
 fn stopped(pc: u32, made: u64) -> Stretch
-    ensures { result ≡ record { pc = pc; made = made; stopped = true } }
+    ensures { result ≡ record { pc = pc; made = made; end = made } }
 {
     Stretch {
         pc,
         made,
-        stopped: true,
+        end: made,
     }
 }
 
-// The stretch before an address, longer by the instruction there, if that was executed.
+// The burst after the next instruction, if that was executed, and otherwise before it.
 #[inline(always)]
-fn stretch_to(next: Option<u32>, pc: u32, made: u64) -> Stretch
-    requires { made + 1 < 2 ^ 64 }
-    ensures { MatchOption next (result ≡ record { pc = pc; made = made; stopped = true })
-        (λ next. result ≡ record { pc = next; made = made + 1; stopped = false }) }
+fn stretch_to(next: Option<u32>, from: Stretch) -> Stretch
+    requires { from.made < from.end }
+    ensures { EndsAt next from result }
 {
     match next {
         Some(next) => Stretch {
             pc: next,
-            made: made + 1,
-            stopped: false,
+            made: from.made + 1,
+            end: from.end,
         },
-        None => stopped(pc, made),
+        None => stopped(from.pc, from.made),
+    }
+}
+
+// Decodes the word of the next instruction, which takes the place of one instruction of the burst.
+// The burst ends if the word can't be fetched, or is no instruction.
+#[inline(always)]
+fn after_decoding(from: Stretch, bus: &mut BoardBus) -> Stretch
+    requires { from.made < from.end }
+    ensures bus { bus_seen ⟦<dyn Device as Device>⟧ bus.new ≡ bus_seen ⟦<dyn Device as Device>⟧ bus.old }
+    ensures goes { GoesOn from result from.pc from.made }
+{
+    if !decode(from.pc, bus) {
+        return stopped(from.pc, from.made);
+    }
+    Stretch {
+        pc: from.pc,
+        made: from.made,
+        end: from.end - 1,
+    }
+}
+
+// The same in a page without decoded words. A burst that comes to a gate ends here: the gates come
+// after RAM, so no word is looked for.
+#[inline(always)]
+fn after_first_decoding(from: Stretch, bus: &mut BoardBus) -> Stretch
+    requires { from.made < from.end }
+    ensures bus { bus_seen ⟦<dyn Device as Device>⟧ bus.new ≡ bus_seen ⟦<dyn Device as Device>⟧ bus.old }
+    ensures goes { GoesOn from result from.pc from.made }
+{
+    if !bus.ram.has(from.pc, 4) {
+        return stopped(from.pc, from.made);
+    }
+    after_decoding(from, bus)
+}
+
+// Executes `StoreWord` at an address, and returns the next address. None if it causes an exception;
+// then nothing changes but, perhaps, `regs.pc`, which isn't read.
+#[inline(always)]
+fn put_word(pc: u32, regs: &mut Regs, insn: Decoded, bus: &mut BoardBus) -> Option<u32>
+    requires next { IsNext insn (bus_seen ⟦<dyn Device as Device>⟧ bus.old) pc }
+    requires named { insn.op ≡ ops.StoreWord }
+    ensures { MayRun pc regs.old (bus_seen ⟦<dyn Device as Device>⟧ bus.old) regs.new
+        (bus_seen ⟦<dyn Device as Device>⟧ bus.new) result }
+{
+    match store_word(pc, regs, insn, bus) {
+        Ok(next) => Some(next),
+        Err(_) => None,
+    }
+}
+
+// Executes `Stwu` in the same way.
+#[inline(always)]
+fn put_word_update(pc: u32, regs: &mut Regs, insn: Decoded, bus: &mut BoardBus) -> Option<u32>
+    requires next { IsNext insn (bus_seen ⟦<dyn Device as Device>⟧ bus.old) pc }
+    requires named { insn.op ≡ ops.Stwu }
+    ensures { MayRun pc regs.old (bus_seen ⟦<dyn Device as Device>⟧ bus.old) regs.new
+        (bus_seen ⟦<dyn Device as Device>⟧ bus.new) result }
+{
+    match store_word_update(pc, regs, insn, bus) {
+        Ok(next) => Some(next),
+        Err(_) => None,
+    }
+}
+
+// Executes the next instruction, which `run_reading` has left, if its word is decoded, and decodes
+// it otherwise. Each arm makes its burst itself, so that none is looked at twice.
+#[inline(always)]
+fn run_left(
+    left: Progress,
+    from: Stretch,
+    regs: &mut Regs,
+    insn: Decoded,
+    bus: &mut BoardBus,
+) -> Stretch
+    requires next { IsNext insn (bus_seen ⟦<dyn Device as Device>⟧ bus.old) from.pc }
+    requires named { Names left insn.op }
+    requires more { from.made < from.end }
+    ensures { MayEnd from regs.old (bus_seen ⟦<dyn Device as Device>⟧ bus.old) regs.new
+        (bus_seen ⟦<dyn Device as Device>⟧ bus.new) result }
+{
+    let pc = from.pc;
+    match left {
+        Progress::StoreWord => stretch_to(put_word(pc, regs, insn, bus), from),
+        Progress::Stwu => stretch_to(put_word_update(pc, regs, insn, bus), from),
+        _ => {
+            if !is_decoded(insn) {
+                return after_decoding(from, bus);
+            }
+            stretch_to(run_with_bus(pc, regs, insn, bus), from)
+        }
     }
 }
 
@@ -239,44 +263,45 @@ fn is_word_of(page: u32, pc: u32) -> bool
     at / 4 + at % 4 * 0x4000_0000 < WORDS as u32
 }
 
-// Executes instructions from an address on, as long as they are in its page and use registers only,
-// and one more of the page; at most `most`.
+// Executes instructions of a burst, as long as they are in the page of the next address and use
+// registers only or read RAM, and one more of the page.
 #[inline(always)]
-fn run_page(start: u32, regs: &mut Regs, bus: &mut BoardBus, most: u64) -> Stretch
-    requires { 0 < most }
-    ensures ran { (gates : ℕ) → length bus.old.ram.bytes ≤ gates
-        → ExecutesMany gates result.made (at_pc regs.old start) (bus_seen ⟦<dyn Device as Device>⟧ bus.old)
-        (at_pc regs.new result.pc) (bus_seen ⟦<dyn Device as Device>⟧ bus.new) }
+fn run_page(from: Stretch, regs: &mut Regs, bus: &mut BoardBus) -> Stretch
+    requires { from.made < from.end }
+    ensures ran { (k : ℕ) × (result.made ≡ from.made + k) × ((gates : ℕ) → length bus.old.ram.bytes ≤ gates
+        → ExecutesMany gates k (at_pc regs.old from.pc) (bus_seen ⟦<dyn Device as Device>⟧ bus.old)
+        (at_pc regs.new result.pc) (bus_seen ⟦<dyn Device as Device>⟧ bus.new)) }
     ensures size { length bus.new.ram.bytes ≡ length bus.old.ram.bytes }
-    ensures within { result.made ≤ most }
-    ensures some { result.stopped ≡ false → 0 < result.made }
+    ensures within { (result.made ≤ result.end) × (result.end ≤ from.end) }
+    ensures less { result.end - result.made < from.end - from.made }
 {
-    let page = start / PAGE as u32;
+    let Stretch {
+        mut pc,
+        mut made,
+        end,
+    } = from;
+    let page = pc / PAGE as u32;
     let entries = bus.ram.code_of(page);
-    if entries.len() != WORDS || start % 4 != 0 {
-        return stretch_to(run_elsewhere(start, regs, bus), start, 0);
+    if entries.len() != WORDS || pc % 4 != 0 {
+        return after_first_decoding(Stretch { pc, made, end }, bus);
     }
-    let mut pc = start;
-    let mut made = 0;
-    while made < most && is_word_of(page, pc) {
+    loop {
         let insn = copied(&entries[pc as usize % PAGE / 4]);
         let left = run_reading(pc, regs, insn, bus);
         let Progress::Executed(next) = left else {
-            return stretch_to(run_left(left, pc, regs, insn, bus), pc, made);
+            return run_left(left, Stretch { pc, made, end }, regs, insn, bus);
         };
         pc = next;
         made += 1;
-    }
-    Stretch {
-        pc,
-        made,
-        stopped: false,
+        if made == end || !is_word_of(page, pc) {
+            return Stretch { pc, made, end };
+        }
     }
 }
 
-// Executes at most `most` instructions, and returns how many it executed. It stops before an
-// instruction that can't be fetched or causes an exception. No gate is below the end of RAM, so a
-// word that can be fetched is at no gate, and nothing here asks for one.
+// Executes at most `most` instructions, less the words that it decodes, and returns how many it
+// executed. It stops before an instruction that can't be fetched or causes an exception. No gate is
+// below the end of RAM, so a word that can be fetched is at no gate, and nothing here asks for one.
 #[inline(never)]
 fn run_words(regs: &mut Regs, bus: &mut BoardBus, most: u64) -> u64
     requires { Unit {0} }
@@ -285,19 +310,16 @@ fn run_words(regs: &mut Regs, bus: &mut BoardBus, most: u64) -> u64
         regs.new (bus_seen ⟦<dyn Device as Device>⟧ bus.new) }
     ensures within { result ≤ most }
 {
-    let mut pc = regs.pc;
-    let mut made = 0;
-    while made < most {
-        let stretch = run_page(pc, regs, bus, most - made);
-        pc = stretch.pc;
-        made += stretch.made;
-        if stretch.stopped {
-            regs.pc = pc;
-            return made;
-        }
+    let mut burst = Stretch {
+        pc: regs.pc,
+        made: 0,
+        end: most,
+    };
+    while burst.made < burst.end {
+        burst = run_page(burst, regs, bus);
     }
-    regs.pc = pc;
-    made
+    regs.pc = burst.pc;
+    burst.made
 }
 
 /// Executes at most `most` instructions of an actor, as long as each can be fetched and causes no

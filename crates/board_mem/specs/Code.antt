@@ -48,7 +48,7 @@ pub record IsGiven (slots slots_after : List ℕ) (page slot : ℕ) : Type 0 whe
   pub given : slice_index slots_after page ≡ slot + 1
   pub others : (other : ℕ) → other ≢ page → (slice_index slots_after other ≡ 0) ⊎ (slice_index slots_after other ≡ slice_index slots other)
 
--- the number of a page for writing is that of the index, or 0: then the writer looks further; and it is 0 if the page has a slot
+-- a page's number for writing: its number in the index; 0, so that the writer looks further, if the page isn't made or has a slot
 pub record AreWritable (index writes slots : List ℕ) : Type 0 where
   pub pages : length writes ≡ length index
   pub slotted : length slots ≡ length index

@@ -161,6 +161,8 @@ impl CodePages {
     }
 
     // Gives a page a slot.
+    #[cold]
+    #[inline(never)]
     fn give_slot(&mut self, page: u32) -> usize
         requires there { page < length self.old.slots.items }
         requires slots { AreSlots self.old.slots.items self.old.owners.items self.old.entries.items self.old.used
@@ -178,6 +180,7 @@ impl CodePages {
     }
 
     // The slot of a page, which is given one if it has none.
+    #[inline(always)]
     fn slot_for(&mut self, page: u32) -> usize
         requires there { page < length self.old.slots.items }
         requires slots { AreSlots self.old.slots.items self.old.owners.items self.old.entries.items self.old.used
@@ -196,6 +199,7 @@ impl CodePages {
     }
 
     /// Keeps the decoded word at the `k`th word of a page.
+    #[inline(always)]
     pub(crate) fn keep(&mut self, page: u32, k: usize, decoded: Decoded)
         requires there { page < length self.old.slots.items }
         requires word { k < page_words }

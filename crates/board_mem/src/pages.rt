@@ -1,13 +1,14 @@
 //! Memory in pages, each created at its first write.
 
 ghost use Rattle.std.specs.Prelude.{◌≡◌, Some, ◌+◌, ◌-◌, ◌*◌, ◌%◌, ◌<◌, ◌≤◌, ◌↔◌, IsTrue, IsOk, IfOk, if◌then◌else◌, length, replicate};
+ghost use Rattle.byteorder.specs.Endian.{big_bytes};
 ghost use Rattle.board_mem.specs.Code.{page_words, AreWords};
 ghost use Rattle.board_mem.specs.Memory.{has as has_lem, read, bytes_at};
 ghost use Rattle.board_mem.specs.Pages.{page_bytes, unmade, written_at, made_count, ArePages};
 
 use crate::code::{CodePages, entries_of};
 use crate::outside::Outside;
-use crate::store::{PAGE, fill_in, offset, offset_to_write, put_in, repeated};
+use crate::store::{PAGE, fill_in, offset, offset_to_write, put_in, put_word_in, repeated};
 use ppc_word::Decoded;
 use std::alloc::Global;
 use std::marker::Model;
@@ -116,6 +117,7 @@ impl Pages {
     }
 
     /// Keeps the decoded word at an address.
+    #[inline(always)]
     pub fn keep_decoded(&mut self, at: u32, decoded: Decoded)
         requires aligned { at % 4 ≡ 0 }
         requires word { read 4 self.old.bytes at ≡ Some decoded.word }
@@ -155,6 +157,24 @@ impl Pages {
             src.len(),
         );
         put_in(&mut self.store, start, src);
+    }
+
+    // Writes a word at an address, all in its page.
+    #[inline(always)]
+    pub(crate) fn put_word(&mut self, at: u32, v: u32)
+        requires page { at % page_bytes + 4 ≤ page_bytes }
+        requires there { at + 4 ≤ length self.old.bytes }
+        ensures { self.new ≡ written_at self.old at (big_bytes 4 v) }
+    {
+        let start = offset_to_write(
+            &mut self.index,
+            &mut self.writes,
+            &mut self.store,
+            &mut self.code,
+            at as usize,
+            4,
+        );
+        put_word_in(&mut self.store, start, v);
     }
 
     // Writes this byte `n` times from an address on, all in its page.

@@ -144,8 +144,7 @@ impl Ram {
 
     /// The decoded word at an address, which is kept for `code_of`. None if the address isn't a
     /// multiple of 4, if a byte of the word is outside RAM, or if the word is no instruction's.
-    #[cold]
-    #[inline(never)]
+    #[inline(always)]
     pub fn decode_at(&mut self, addr: u32) -> Option<Decoded>
         ensures same { self.new ≡ self.old }
         ensures word { IfSome result (λ d. read 4 self.old.bytes addr ≡ Some d.word) }
@@ -221,9 +220,7 @@ impl Ram {
             return Err(Outside);
         }
         if left_in_page(addr) >= 4 {
-            let mut bytes = [0; 4];
-            BigEndian::write_u32(&mut bytes, v);
-            self.pages.put(addr, &bytes);
+            self.pages.put_word(addr, v);
             return Ok(());
         }
         self.put_word_across(addr, v);

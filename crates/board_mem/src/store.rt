@@ -1,12 +1,14 @@
 //! The store of the pages, and the number that each page of addresses has in it.
 
 ghost use Rattle.std.specs.Prelude.{◌≡◌, ◌+◌, ◌%◌, ◌<◌, ◌≤◌, ℕ, List, IfOk, length, replicate, slice_index, vec_capacity};
+ghost use Rattle.byteorder.specs.Endian.{big_bytes};
 ghost use Rattle.board_mem.specs.Memory.{with_bytes};
 ghost use Rattle.board_mem.specs.Code.{AreDecoded, AreSlots, AreWritable, SameElsewhere};
 ghost use Rattle.board_mem.specs.Pages.{page_of, page_bytes};
 ghost use Rattle.board_mem.specs.Store.{AreStored, IsMade, offset_of};
 
 use crate::code::CodePages;
+use byteorder::{BigEndian, ByteOrder};
 use std::alloc::Global;
 use wind_base::NoMemory;
 
@@ -190,6 +192,15 @@ pub(crate) fn put_in(store: &mut [u8], start: usize, src: &[u8])
     ensures { store.new ≡ with_bytes store.old start src.now }
 {
     store[start..start + src.len()].copy_from_slice(src);
+}
+
+/// Writes a word from an index on, most significant byte first.
+#[inline(always)]
+pub(crate) fn put_word_in(store: &mut [u8], start: usize, v: u32)
+    requires { start + 4 ≤ length store.old }
+    ensures { store.new ≡ with_bytes store.old start (big_bytes 4 v) }
+{
+    BigEndian::write_u32(&mut store[start..start + 4], v);
 }
 
 /// Writes this byte `n` times from an index on.

@@ -14,7 +14,7 @@ use crate::registers::{in_ra, in_rs, write};
 use crate::storage::{Address, Load, Store, load_at, store_at};
 use crate::trap::Trap;
 use ppc_word::fields::si;
-use ppc_word::{Decoded, Op};
+use ppc_word::{Decoded, Op, Row};
 use wind_base::Regs;
 
 /// The address of the word that `LoadWord` reads.
@@ -144,6 +144,7 @@ pub fn run_bus<B: Bus>(pc: u32, regs: &mut Regs, insn: Decoded, bus: &mut B) -> 
         Op::StoreWord => store_word(pc, regs, insn, bus),
         Op::Stwx => store_at(Store::Word, Address::Indexed, pc, regs, insn, bus),
         Op::Stwu => store_word_update(pc, regs, insn, bus),
+        _ if insn.row == Row::Stw => store_at(Store::Word, Address::Offset, pc, regs, insn, bus),
         _ => run_word(pc, regs, insn.word, bus),
     }
 }

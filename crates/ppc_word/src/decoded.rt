@@ -228,7 +228,7 @@ pub fn decode_once(word: u32) -> Option<Decoded>
 }
 
 /// The decoded word. None if the word isn't in the table.
-#[cold]
+#[inline(always)]
 pub fn decode_word(word: u32) -> Option<Decoded>
     ensures row { option_map (λ d. d.row) result ≡ row_of word }
     ensures word { IfSome result (λ d. d.word ≡ word) }

@@ -1,55 +1,67 @@
-use Rattle.std.proofs.Common.{◌≡◌, ◌<◌, ◌/◌, ◌%◌, length, refl, sym, subst, arith, inl, inr}
+use Rattle.std.proofs.Common.{◌≡◌, ◌+◌, ◌<◌, ◌/◌, ◌%◌, length, refl, sym, subst, arith}
 use Rattle.wind_base.specs.declared.regs.Regs.{Regs}
 use Rattle.ppc_core.specs.Stepping.{at_pc}
+use Rattle.board_actors.specs.declared.instructions.Stretch.{Stretch}
 use Rattle.board_bus.specs.Seen.{bus_by}
-use Rattle.board_actors.proofs.Bursting.{RunsBelow, entry_ran, entry_next, read_left, stretched, runs_none}
+use Rattle.board_actors.proofs.Bursting.{RunsBelow, IsStretch, entry_ran, entry_next, read_left, stretched}
 use Rattle.board_actors.proofs.instructions.run_page.Goals as goal
 
-pub loop-made-init : goal.loop-made-init
-loop-made-init g c = (record { many = λ gates below. (refl, refl); size = refl }, omega arith, inr refl)
+pub loop-next-init : goal.loop-next-init
+loop-next-init g c = (0, omega arith, record { many = λ gates below. (refl, refl); size = refl }, c.requires, refl, omega arith)
 
-pub loop-made-preserved : goal.loop-made-preserved
-loop-made-preserved g c =
-    let l = c.loop-made in
+pub loop-next-preserved : goal.loop-next-preserved
+loop-next-preserved g c =
+    let l = c.loop-next in
     let read = rw c.in-Executed.is at c.run_reading-left.ensures in
-    let within : l.pc % 4096 / 4 < length c.code_of-entries.result.now = omega arith in (
-      entry_ran l.made l.pc _ _ c.in-Executed.next _ l.regs c.run_reading-left.new.regs _ _ _ c.code_of-entries.result.now c.index-entries-pc.result c.copied-insn.result l.invariant.0 c.code_of-entries.ensures.words
-          (c.is_word_of.ensures.page c.if-is_word_of.true) (c.is_word_of.ensures.aligned c.if-is_word_of.true) refl within c.index-entries-pc.is c.copied-insn.ensures read.0 read.1,
+    let count = l.invariant.1 in
+    let within : l.pc % 4096 / 4 < length c.code_of-entries.result.now = omega (arith, l.invariant.5) in (
+      l.invariant.0 + 1,
+      omega (arith, count),
+      entry_ran l.invariant.0 l.pc _ _ c.in-Executed.next _ l.regs c.run_reading-left.new.regs _ _ _ c.code_of-entries.result.now c.index-entries-pc.result c.copied-insn.result l.invariant.2 c.code_of-entries.ensures.words
+          (l.invariant.4) (l.invariant.5) refl within c.index-entries-pc.is c.copied-insn.ensures read.0 read.1,
       omega arith,
-      inl (omega arith),
+      c.is_word_of.ensures.page c.if-not-is_word_of.false,
+      c.is_word_of.ensures.aligned c.if-not-is_word_of.false,
     )
 
 pub run_left-requires-clause-next : goal.run_left-requires-clause-next
 run_left-requires-clause-next g c =
-    let l = c.loop-made in
+    let l = c.loop-next in
     let seen = bus_by (λ d. (goal.Device-dyn g (d.vtable, d.value)).kind_of d.value) (λ d. (goal.Device-dyn g (d.vtable, d.value)).words_of d.value) in
     let within : l.pc % 4096 / 4 < length c.code_of-entries.result.now = omega arith in
-    entry_next (seen c.args.bus.now) l.pc _ _ c.code_of-entries.result.now c.index-entries-pc.result c.copied-insn.result c.code_of-entries.ensures.words (c.is_word_of.ensures.page c.if-is_word_of.true) (c.is_word_of.ensures.aligned c.if-is_word_of.true) refl within c.index-entries-pc.is c.copied-insn.ensures
+    entry_next (seen c.args.bus.now) l.pc _ _ c.code_of-entries.result.now c.index-entries-pc.result c.copied-insn.result c.code_of-entries.ensures.words (l.invariant.4) (l.invariant.5) refl within c.index-entries-pc.is c.copied-insn.ensures
 
 pub run_left-requires-clause-named : goal.run_left-requires-clause-named
 run_left-requires-clause-named g c =
-    let l = c.loop-made in
+    let l = c.loop-next in
     let seen = bus_by (λ d. (goal.Device-dyn g (d.vtable, d.value)).kind_of d.value) (λ d. (goal.Device-dyn g (d.vtable, d.value)).words_of d.value) in
     (read_left c.copied-insn.result l.pc l.regs c.run_reading-left.new.regs (seen c.args.bus.now) c.run_reading-left.result c.run_reading-left.ensures c.in_default.not-Executed).0
 
-pub returns-then-entries-ne-WORDS-clause-size : goal.returns-then-entries-ne-WORDS-clause-size
-returns-then-entries-ne-WORDS-clause-size g c =
+pub returns-in_default : goal.returns-in_default
+returns-in_default g c =
+    let l = c.loop-next in let left = c.run_reading-left in let ran = c.run_left in
     let seen = bus_by (λ d. (goal.Device-dyn g (d.vtable, d.value)).kind_of d.value) (λ d. (goal.Device-dyn g (d.vtable, d.value)).words_of d.value) in
-    let r = at_pc c.args.regs.now c.args.start in
-    (stretched 0 c.args.start r c.args.regs.now c.run_elsewhere.new.regs (seen c.args.bus.now) (seen c.args.bus.now) (seen c.run_elsewhere.new.bus) c.run_elsewhere.result c.stretch_to.result (runs_none r (seen c.args.bus.now)) c.run_elsewhere.ensures c.stretch_to.ensures).runs.size
+    let bus = seen c.args.bus.now in let r = at_pc c.args.regs.now c.args.from.pc in
+    let same : left.new.regs ≡ l.regs = (read_left c.copied-insn.result l.pc l.regs left.new.regs bus left.result left.ensures c.in_default.not-Executed).1 in
+    let runs = subst (λ (x : Regs). RunsBelow l.invariant.0 r bus (at_pc x l.pc) bus) (sym same) l.invariant.2 in
+    let from : Stretch = record { pc = l.pc; made = l.made; end = c.args.from.end } in
+    let is : IsStretch ran.result from l.invariant.0 r bus ran.new.regs (seen ran.new.bus) = stretched l.invariant.0 from r left.new.regs ran.new.regs bus bus (seen ran.new.bus) ran.result runs ran.ensures in
+    let before = l.invariant.1 in let count = is.count in let less = is.less in
+    record {
+      ran = (l.invariant.0 + is.more, omega (arith, before, count), is.runs.many);
+      size = is.runs.size;
+      within = is.within;
+      less = omega (arith, less, before);
+    }
 
-pub returns-in_default-clause-ran : goal.returns-in_default-clause-ran
-returns-in_default-clause-ran g c =
-    let l = c.loop-made in
-    let seen = bus_by (λ d. (goal.Device-dyn g (d.vtable, d.value)).kind_of d.value) (λ d. (goal.Device-dyn g (d.vtable, d.value)).words_of d.value) in
-    let same : c.run_reading-left.new.regs ≡ l.regs = (read_left c.copied-insn.result l.pc l.regs c.run_reading-left.new.regs (seen c.args.bus.now) c.run_reading-left.result c.run_reading-left.ensures c.in_default.not-Executed).1 in
-    let runs = subst (λ (x : Regs). RunsBelow l.made (at_pc c.args.regs.now c.args.start) (seen c.args.bus.now) (at_pc x l.pc) (seen c.args.bus.now)) (sym same) l.invariant.0 in
-    (stretched l.made l.pc (at_pc c.args.regs.now c.args.start) c.run_reading-left.new.regs c.run_left.new.regs (seen c.args.bus.now) (seen c.args.bus.now) (seen c.run_left.new.bus) c.run_left.result c.stretch_to-in_default.result runs c.run_left.ensures c.stretch_to-in_default.ensures).runs.many
-
-pub returns-in_default-clause-size : goal.returns-in_default-clause-size
-returns-in_default-clause-size g c =
-    let l = c.loop-made in
-    let seen = bus_by (λ d. (goal.Device-dyn g (d.vtable, d.value)).kind_of d.value) (λ d. (goal.Device-dyn g (d.vtable, d.value)).words_of d.value) in
-    let same : c.run_reading-left.new.regs ≡ l.regs = (read_left c.copied-insn.result l.pc l.regs c.run_reading-left.new.regs (seen c.args.bus.now) c.run_reading-left.result c.run_reading-left.ensures c.in_default.not-Executed).1 in
-    let runs = subst (λ (x : Regs). RunsBelow l.made (at_pc c.args.regs.now c.args.start) (seen c.args.bus.now) (at_pc x l.pc) (seen c.args.bus.now)) (sym same) l.invariant.0 in
-    (stretched l.made l.pc (at_pc c.args.regs.now c.args.start) c.run_reading-left.new.regs c.run_left.new.regs (seen c.args.bus.now) (seen c.args.bus.now) (seen c.run_left.new.bus) c.run_left.result c.stretch_to-in_default.result runs c.run_left.ensures c.stretch_to-in_default.ensures).runs.size
+pub returns-then-made-end-clause-ran : goal.returns-then-made-end-clause-ran
+returns-then-made-end-clause-ran g c =
+    let l = c.loop-next in
+    let read = rw c.in-Executed.is at c.run_reading-left.ensures in
+    let count = l.invariant.1 in
+    let within : l.pc % 4096 / 4 < length c.code_of-entries.result.now = omega arith in (
+      l.invariant.0 + 1,
+      omega (arith, count),
+      (entry_ran l.invariant.0 l.pc _ _ c.in-Executed.next _ l.regs c.run_reading-left.new.regs _ _ _ c.code_of-entries.result.now c.index-entries-pc.result c.copied-insn.result l.invariant.2 c.code_of-entries.ensures.words
+          (l.invariant.4) (l.invariant.5) refl within c.index-entries-pc.is c.copied-insn.ensures read.0 read.1).many,
+    )

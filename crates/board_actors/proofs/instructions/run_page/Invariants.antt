@@ -1,14 +1,14 @@
-use Rattle.std.proofs.Common.{◌≡◌, ◌-◌, ◌/◌, ◌%◌, ◌<◌, ◌≤◌, ◌⊎◌}
+use Rattle.std.proofs.Common.{◌≡◌, ℕ, ◌+◌, ◌-◌, ◌/◌, ◌%◌, ◌<◌}
 use Rattle.ppc_core.specs.Stepping.{at_pc}
 use Rattle.board_bus.specs.Seen.{bus_by}
 use Rattle.board_actors.proofs.Bursting.{RunsBelow}
 use Rattle.board_actors.proofs.instructions.run_page.Given as goal
 
--- this many instructions were executed, and one at least where the page is left
-abbrev pub invariant-loop-made : goal.invariant-loop-made
-invariant-loop-made g l =
+-- this many more instructions were executed, and the next is in the page
+abbrev pub invariant-loop-next : goal.invariant-loop-next
+invariant-loop-next g l =
     let seen = bus_by (λ d. (goal.Device-dyn g (d.vtable, d.value)).kind_of d.value) (λ d. (goal.Device-dyn g (d.vtable, d.value)).words_of d.value) in
-    RunsBelow l.made (at_pc l.initial.regs l.start) (seen l.fn.bus) (at_pc l.regs l.pc) (seen l.fn.bus) × (l.made ≤ l.most) × ((0 < l.made) ⊎ (l.pc ≡ l.start))
+    (k : ℕ) × (l.made ≡ l.fn.from.made + k) × RunsBelow k (at_pc l.initial.regs l.fn.from.pc) (seen l.fn.bus) (at_pc l.regs l.pc) (seen l.fn.bus) × (l.made < l.end) × (l.pc / 4096 ≡ l.page) × (l.pc % 4 ≡ 0)
 
-abbrev pub decreases-loop-made : goal.decreases-loop-made
-decreases-loop-made g l = l.most - l.made
+abbrev pub decreases-loop-next : goal.decreases-loop-next
+decreases-loop-next g l = l.end - l.made
