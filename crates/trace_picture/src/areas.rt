@@ -1,9 +1,10 @@
 //! A picture as a list of areas.
 
 ghost use Rattle.std.specs.Prelude.{◌≡◌, ◌++◌, ◌∷◌, [], IfOk, OnOk};
-ghost use Rattle.trace_picture.specs.Areas.{area_of as area_of_lem, areas_of as areas_of_lem, areas_of_span};
+ghost use Rattle.trace_picture.specs.Areas.{area_of, areas_of as areas_of_lem, areas_of_span};
 
-use board_changes::{Look, Span};
+use crate::list::push;
+use board_changes::{Awaited, Look, Span};
 use id_table::Ident;
 use std::alloc::Global;
 use std::marker::Model;
@@ -57,36 +58,31 @@ impl Areas {
     }
 }
 
-// The area of this kind that a span has.
-fn area_of(kind: AreaKind, span: &Span) -> Area
-    ensures { result ≡ area_of_lem kind span.now }
+// Adds the area of this kind that a span has.
+fn add_area(areas: &mut Vec<Area>, kind: AreaKind, span: &Span) -> Result<(), NoMemory>
+    ensures { OnOk result (areas.new.items ≡ areas.old.items ++ area_of kind span.now ∷ []) }
 {
-    Area {
+    let object: Option<Awaited> = span.look.object;
+    let area = Area {
         row: span.who,
         from: span.from,
         to: span.to,
         kind,
-        title: span.look,
-    }
-}
-
-// Adds an area.
-fn add_area(areas: &mut Vec<Area>, area: Area) -> Result<(), NoMemory>
-    ensures { OnOk result (areas.new.items ≡ areas.old.items ++ area ∷ []) }
-{
-    if areas.push(area).is_err() {
-        return Err(NoMemory);
-    }
-    Ok(())
+        title: Look {
+            object,
+            ..span.look
+        },
+    };
+    push(areas, area)
 }
 
 // Adds the areas of a span: a bar, and a band if the task inherits a priority.
 fn add_span(areas: &mut Vec<Area>, span: &Span) -> Result<(), NoMemory>
     ensures { OnOk result (areas.new.items ≡ areas.old.items ++ areas_of_span span.now) }
 {
-    add_area(areas, area_of(AreaKind::Bar, span))?;
+    add_area(areas, AreaKind::Bar, span)?;
     if span.look.inherits {
-        return add_area(areas, area_of(AreaKind::Band, span));
+        return add_area(areas, AreaKind::Band, span);
     }
     Ok(())
 }

@@ -78,7 +78,7 @@ fn add_standings(text: &mut Vec<u8>, top: u128) -> Result<(), NoMemory>
 
 // Adds the entries of the marks.
 fn add_mark_entries(text: &mut Vec<u8>, top: u128) -> Result<(), NoMemory>
-    requires { top < 2 ^ 100 }
+    requires { top < 2 ^ 99 }
 {
     add_shape(text, Kind::Exception, LEFT + 92_500, top + 300)?;
     add(text, b"</path>\n")?;

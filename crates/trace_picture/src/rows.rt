@@ -378,9 +378,9 @@ fn add_to_row(
 
 // A bucket for each row of tasks.
 fn empty_buckets(alloc: Global, rows: usize) -> Result<Vec<Bucket>, NoMemory> {
-    let mut buckets = Vec::with_capacity(alloc, rows)?;
-    for _ in 0..rows {
-        push(&mut buckets, EMPTY)?;
+    let mut buckets = Vec::new(alloc);
+    if buckets.resize(rows, EMPTY).is_err() {
+        return Err(NoMemory);
     }
     Ok(buckets)
 }
