@@ -8,7 +8,7 @@ ghost use Rattle.board_trace.specs.WindMachineMachine.{actor_of as actor_of_lem,
 ghost use Rattle.board_player.specs.Seen.{seen};
 ghost use Rattle.board_trace.specs.Before.{before_step, call_there, counter_at, gate_there, has_interrupt_key as has_interrupt_key_lem, is_on_processor as is_on_processor_lem, owner_named as owner_named_lem};
 
-use board_player::{Board, Next, Phase};
+use board_player::{Board, Next, Phase, brought, chunk_len};
 use board_trace::{BeforeStep, mutex_of};
 use id_table::Ident;
 use kernel_world::{Actor, Call, World, caller_regs, gate_at, is_shell, read_call};
