@@ -1,4 +1,4 @@
-use Rattle.std.proofs.Common.{ap, arith, ◌∙◌}
+use Rattle.std.proofs.Common.{ap, arith, refl, ◌∙◌}
 use Rattle.std.proofs.lemmas.Result.{err_from_is_err_and}
 use Rattle.wind_session.proofs.AppendingLemmas.{appended_none, rose_earlier}
 use Rattle.wind_session.proofs.RunLemmas.{begun}
@@ -46,9 +46,4 @@ returns-in-Timeline-clause-fault g c = λ e. rose_earlier _ _ _ c.in_ok-end-in-T
 
 pub returns-in-Timeline-clause-told : goal.returns-in-Timeline-clause-told
 returns-in-Timeline-clause-told g c =
-    rw c.in-Timeline.is (areas_told _ _ _ _ _ _ _ _ c.in_ok-end-in-Timeline.ensures.told _ _ _ _ c.in_ok-close-in-Timeline.ensures c.time.ensures (c.in_ok-areas-in-Timeline.ensures ∙ ap areas_of c.done.ensures) (put_after _ _ _ _ _ c.put_text-end.ensures.put))
-
--- ---- the board that is left
-pub returns-in-State-clause-told : goal.returns-in-State-clause-told
-returns-in-State-clause-told g c =
-    rw c.in-State.is (state_told _ _ _ _ _ _ _ _ _ _ _ _ _ c.count_board.ensures.counted (ap (λ l. l.bytes) c.count_board.ensures.untouched) c.in_ok-text-in-State.ensures c.put_text-end-in-State.ensures.put)
+    rw c.in-Timeline.is (areas_told _ _ _ _ _ _ _ _ c.in_ok-end-in-Timeline.ensures.told _ _ _ _ c.in_ok-close-in-Timeline.ensures refl (c.in_ok-areas-in-Timeline.ensures ∙ ap areas_of c.done.ensures) (put_after _ _ _ _ _ c.put_text-end.ensures.put))
