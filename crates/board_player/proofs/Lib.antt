@@ -10,6 +10,7 @@ pub mod Fetching
 pub mod Stepping
 pub mod Going
 pub mod Settled
+pub mod Moving
 pub mod Quiet
 pub mod ManySteps
 pub mod TaskBursts

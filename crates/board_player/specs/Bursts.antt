@@ -1,15 +1,17 @@
 -- When a task or an interrupt routine goes on by instructions.
-use Rattle.std.specs.Prelude.{◌≡◌, ℕ, ◌+◌, ◌<◌, ◌≤◌, [], Bool, true, false, Option, None, Some}
+use Rattle.std.specs.Prelude.{◌≡◌, ◌⊎◌, ℕ, ◌+◌, ◌<◌, ◌≤◌, [], Bool, true, false, Option, None, Some}
 use Rattle.wind_base.specs.declared.regs.Regs.{Regs}
 use Rattle.board_bus.specs.BusState.{BusState}
 use Rattle.tick_file.specs.Schedule.{Timed}
 use Rattle.wind_core.specs.Orders.{runner}
 use Rattle.live_loading.specs.KernelWorldActor.{Actor}
+use Rattle.live_loading.specs.KernelWorldState.{WorldState}
 use Rattle.live_loading.specs.KernelWorldActor.TheVariants.{Task as by_task}
 use Rattle.wind_machine.specs.State.{State}
 use Rattle.wind_machine.specs.Reserving.{drop_others, drop_all}
 use Rattle.wind_machine.specs.ActorSteps.{IsOnProcessor}
 use Rattle.wind_machine.specs.Next.{is_active, console_is_due}
+use Rattle.wind_machine.specs.Silent.{last_actor}
 use Rattle.board_player.specs.Knowing.{may_deliver}
 use Rattle.board_actors.specs.Instructions.{executed_to}
 
@@ -40,3 +42,15 @@ HasRoom true (Some e) time k = 0 < k → time + k ≤ e.time
 -- the state after k instructions of an actor, with these registers and this bus
 abbrev pub moved : State → Actor → Regs → BusState → ℕ → State
 moved s who regs bus k = record s { world = executed_to s.world who regs bus; time = s.time + k; steps = s.steps + k }
+
+-- of a world, only the registers of the task or routine that made the last step have changed, and the bus
+pub record MovesOnly (w v : WorldState) : Type 0 where
+  pub who : Actor
+  pub last : last_actor w ≡ Some who
+  pub regs : Regs
+  pub bus : BusState
+  pub world : v ≡ executed_to w who regs bus
+
+-- the world is the same, or only those have changed
+abbrev pub MovesAtMost : WorldState → WorldState → Type 0
+MovesAtMost w v = (v ≡ w) ⊎ MovesOnly w v

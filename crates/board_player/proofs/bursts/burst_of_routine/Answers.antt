@@ -1,8 +1,9 @@
-use Rattle.std.proofs.Common.{rules, ◌≡◌, true, ap}
+use Rattle.std.proofs.Common.{rules, ◌≡◌, true, ap, inr}
 use Rattle.live_loading.specs.KernelWorldActor.TheVariants.{Interrupt}
 use Rattle.wind_machine.specs.State.{State}
 use Rattle.board_player.specs.declared.clock.Clock.{Clock}
 use Rattle.board_player.specs.Inside.{parts_by}
+use Rattle.board_player.proofs.Moving.{moves_only, routine_last}
 use Rattle.board_player.proofs.ManySteps.{gone}
 use Rattle.board_player.proofs.RoutineBursts.{routine_goes_on, still_routine}
 use Rattle.board_player.proofs.Fetching.{ram_below_gates}
@@ -20,3 +21,8 @@ returns-clause-routine g c = still_routine _ _ _ c.execute_many-made.ensures.ran
 
 pub execute_many-made-requires-clause-ram : goal.execute_many-made-requires-clause-ram
 execute_many-made-requires-clause-ram g c = ram_below_gates c.args.parts.now.world.board c.args.parts.now.world.bus.ram.bytes c.requires.good.kept.world.ram
+
+pub returns-clause-only : goal.returns-clause-only
+returns-clause-only g c =
+    let s : State = parts_by (λ d. (goal.Device-dyn g (d.vtable, d.value)).kind_of d.value) (λ d. (goal.Device-dyn g (d.vtable, d.value)).words_of d.value) c.args.parts.now in
+    inr (moves_only s.world _ Interrupt _ (routine_last s.world c.requires.routine) c.execute_many-made.ensures.ran)

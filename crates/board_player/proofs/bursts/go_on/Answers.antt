@@ -1,10 +1,11 @@
-use Rattle.std.proofs.Common.{ap}
+use Rattle.std.proofs.Common.{ap, inr}
 use Rattle.wind_core.proofs.Ticks.{runner_lives}
 use Rattle.live_loading.specs.KernelWorldState.{WorldState}
 use Rattle.live_loading.specs.KernelWorldActor.TheVariants.{Task as by_task}
 use Rattle.wind_machine.specs.State.{State}
 use Rattle.board_player.specs.declared.clock.Clock.{Clock}
 use Rattle.board_player.specs.Inside.{parts_by}
+use Rattle.board_player.proofs.Moving.{moves_only, task_last}
 use Rattle.board_player.proofs.ManySteps.{gone}
 use Rattle.board_player.proofs.TaskBursts.{task_goes_on}
 use Rattle.board_player.proofs.Fetching.{ram_below_gates}
@@ -27,3 +28,6 @@ returns-clause-watch g c = ap (λ (w : WorldState). w.watch) c.execute_many-made
 
 pub execute_many-made-requires-clause-ram : goal.execute_many-made-requires-clause-ram
 execute_many-made-requires-clause-ram g c = ram_below_gates c.args.parts.now.world.board c.args.parts.now.world.bus.ram.bytes c.requires.good.kept.world.ram
+
+pub returns-clause-only : goal.returns-clause-only
+returns-clause-only g c = inr (moves_only _ _ (by_task c.args.who) _ (task_last _ c.args.who c.requires.on) c.execute_many-made.ensures.ran)
