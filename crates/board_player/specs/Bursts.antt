@@ -1,5 +1,5 @@
 -- When a task or an interrupt routine goes on by instructions.
-use Rattle.std.specs.Prelude.{◌≡◌, ◌⊎◌, ℕ, ◌+◌, ◌<◌, ◌≤◌, [], Bool, true, false, Option, None, Some}
+use Rattle.std.specs.Prelude.{◌≡◌, ℕ, ◌+◌, ◌<◌, ◌≤◌, [], Bool, true, false, Option, None, Some}
 use Rattle.wind_base.specs.declared.regs.Regs.{Regs}
 use Rattle.board_bus.specs.BusState.{BusState}
 use Rattle.tick_file.specs.Schedule.{Timed}
@@ -50,7 +50,3 @@ pub record MovesOnly (w v : WorldState) : Type 0 where
   pub regs : Regs
   pub bus : BusState
   pub world : v ≡ executed_to w who regs bus
-
--- the world is the same, or only those have changed
-abbrev pub MovesAtMost : WorldState → WorldState → Type 0
-MovesAtMost w v = (v ≡ w) ⊎ MovesOnly w v

@@ -17,6 +17,7 @@ pub mod Telling
 pub mod Texts
 pub mod Words
 pub use Rattle.board_player.specs.Seen as BoardPlayerSeen
+pub use Rattle.board_player.specs.Bursts as BoardPlayerBursts
 pub use Rattle.board_player.specs.LiveLoadingSaid
 pub use Rattle.board_player.specs.declared.board.Board as BoardPlayerBoard
 pub use Rattle.board_player.specs.WindMachineState

@@ -1,4 +1,4 @@
-use Rattle.std.proofs.Common.{rules, ◌≡◌, true, ap, inr}
+use Rattle.std.proofs.Common.{rules, ◌≡◌, true, ap}
 use Rattle.live_loading.specs.KernelWorldActor.TheVariants.{Interrupt}
 use Rattle.wind_machine.specs.State.{State}
 use Rattle.board_player.specs.declared.clock.Clock.{Clock}
@@ -25,4 +25,4 @@ execute_many-made-requires-clause-ram g c = ram_below_gates c.args.parts.now.wor
 pub returns-clause-only : goal.returns-clause-only
 returns-clause-only g c =
     let s : State = parts_by (λ d. (goal.Device-dyn g (d.vtable, d.value)).kind_of d.value) (λ d. (goal.Device-dyn g (d.vtable, d.value)).words_of d.value) c.args.parts.now in
-    inr (moves_only s.world _ Interrupt _ (routine_last s.world c.requires.routine) c.execute_many-made.ensures.ran)
+    λ some. moves_only s.world _ Interrupt _ (routine_last s.world c.requires.routine) c.execute_many-made.ensures.ran

@@ -1,4 +1,4 @@
-use Rattle.std.proofs.Common.{ap, inr}
+use Rattle.std.proofs.Common.{ap}
 use Rattle.wind_core.proofs.Ticks.{runner_lives}
 use Rattle.live_loading.specs.KernelWorldState.{WorldState}
 use Rattle.live_loading.specs.KernelWorldActor.TheVariants.{Task as by_task}
@@ -30,4 +30,4 @@ pub execute_many-made-requires-clause-ram : goal.execute_many-made-requires-clau
 execute_many-made-requires-clause-ram g c = ram_below_gates c.args.parts.now.world.board c.args.parts.now.world.bus.ram.bytes c.requires.good.kept.world.ram
 
 pub returns-clause-only : goal.returns-clause-only
-returns-clause-only g c = inr (moves_only _ _ (by_task c.args.who) _ (task_last _ c.args.who c.requires.on) c.execute_many-made.ensures.ran)
+returns-clause-only g c = λ some. moves_only _ _ (by_task c.args.who) _ (task_last _ c.args.who c.requires.on) c.execute_many-made.ensures.ran
