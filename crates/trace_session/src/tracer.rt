@@ -99,12 +99,15 @@ impl Tracer {
               what = Happening.Instructions who.now count;
             }) made)) }
         ensures waits { OnOk result (count_in self.new.page.growing ≤ count_in self.old.page.growing + count) }
-        ensures before { OnOk result (snapshot_state self.new.reader.before
-            ≡ snapshot_of (seen ⟦<dyn Device as Device>⟧ board.now).world) }
+        ensures before { OnOk result ((s : State) → Good s → last_actor s.world ≡ Some who.now
+            → MovesOnly s.world (seen ⟦<dyn Device as Device>⟧ board.now).world
+            → snapshot_state self.old.reader.before ≡ snapshot_of s.world
+            → snapshot_state self.new.reader.before ≡ snapshot_of (seen ⟦<dyn Device as Device>⟧ board.now).world) }
     {
         let name = actor_name(&self.reader.before, *who);
         self.page.add_instructions(*who, count, time, step, name)?;
-        self.reader.skip(board)
+        self.reader.skip(board, who);
+        Ok(())
     }
 
     /// A step was made: adds the lines of what happened in it.
