@@ -43,10 +43,12 @@ HasRoom true (Some e) time k = 0 < k → time + k ≤ e.time
 abbrev pub moved : State → Actor → Regs → BusState → ℕ → State
 moved s who regs bus k = record s { world = executed_to s.world who regs bus; time = s.time + k; steps = s.steps + k }
 
--- of a world, only the registers of the task or routine that made the last step have changed, and the bus
-pub record MovesOnly (w v : WorldState) : Type 0 where
-  pub who : Actor
-  pub last : last_actor w ≡ Some who
+-- of a world, only the registers of this task or routine have changed, and the bus
+pub record MovesOnly (who : Actor) (w v : WorldState) : Type 0 where
   pub regs : Regs
   pub bus : BusState
   pub world : v ≡ executed_to w who regs bus
+
+-- only those of the task or routine that made the last step
+abbrev pub MovesLast : WorldState → WorldState → Type 0
+MovesLast w v = (who : Actor) → last_actor w ≡ Some who → MovesOnly who w v

@@ -99,7 +99,7 @@ impl Board {
     ghost use Rattle.std.specs.List.{All};
     ghost use Rattle.wind_base.specs.Limits.{most_steps};
     ghost use Rattle.wind_machine.specs.{LiveLoadingSaid.{FileSaid, said_of}, Extending.{extended, more_of}, Silent.SilentSteps, Interrupts.{IsRemoval, OnlyRemovesIn, StepsSlot}, Laws.OnlyUnsafeGo, Next.{next as next_lem}, Machine.{file_asked, machine_step, Steps, IsOver, may_exhaust_memory}, Replies.step_reply};
-    ghost use Rattle.board_player.specs.{Asking.needed, Bursts.MovesOnly, Seen.{seen, last_reply}};
+    ghost use Rattle.board_player.specs.{Asking.needed, Bursts.MovesLast, Seen.{seen, last_reply}};
     ghost use Rattle.board_player.specs.declared.Step.TheVariants as steps;
 
     /// Makes the next step, if there is one and it needs no file. Host memory may run out only if
@@ -154,7 +154,7 @@ impl Board {
         ensures made { SilentSteps result (seen ⟦<dyn Device as Device>⟧ self.old)
             (seen ⟦<dyn Device as Device>⟧ self.new) }
         ensures within { result ≤ most }
-        ensures only { 0 < result → MovesOnly (seen ⟦<dyn Device as Device>⟧ self.old).world
+        ensures only { 0 < result → MovesLast (seen ⟦<dyn Device as Device>⟧ self.old).world
             (seen ⟦<dyn Device as Device>⟧ self.new).world }
         ensures reply { last_reply self.new ≡ None }
     {

@@ -11,7 +11,7 @@ ghost use Rattle.wind_machine.specs.Next.{is_open as is_open_lem, console_is_due
 ghost use Rattle.wind_machine.specs.ActorSteps.{IsOnProcessor};
 ghost use Rattle.live_loading.specs.KernelWorldActor.TheVariants as actors;
 ghost use Rattle.board_player.specs.Inside.{inside, parts_seen, IsSpacious};
-ghost use Rattle.board_player.specs.Bursts.{RunsOn, RoutineRunsOn, HasRoom, MovesOnly};
+ghost use Rattle.board_player.specs.Bursts.{RunsOn, RoutineRunsOn, HasRoom, MovesLast};
 ghost use Rattle.board_player.specs.Knowing.{may_deliver as may_deliver_lem};
 ghost use Rattle.board_player.specs.Going.{IsRunner, IsRoutine, IsKnown};
 
@@ -98,7 +98,7 @@ fn go_on(parts: &mut Parts, who: Ident, most: u64) -> u64
     ensures made { SilentSteps result (parts_seen ⟦<dyn Device as Device>⟧ parts.old)
         (parts_seen ⟦<dyn Device as Device>⟧ parts.new) }
     ensures within { result ≤ most }
-    ensures only { 0 < result → MovesOnly (parts_seen ⟦<dyn Device as Device>⟧ parts.old).world
+    ensures only { 0 < result → MovesLast (parts_seen ⟦<dyn Device as Device>⟧ parts.old).world
         (parts_seen ⟦<dyn Device as Device>⟧ parts.new).world }
     ensures regs { (regs : Regs) × (parts.new.world.kern ≡ set_regs parts.old.world.kern who regs) }
     ensures watch { parts.new.world.watch ≡ parts.old.world.watch }
@@ -118,7 +118,7 @@ fn burst_of_task(parts: &mut Parts, now: Running, most: u64) -> u64
     ensures made { SilentSteps result (parts_seen ⟦<dyn Device as Device>⟧ parts.old)
         (parts_seen ⟦<dyn Device as Device>⟧ parts.new) }
     ensures within { result ≤ most }
-    ensures only { 0 < result → MovesOnly (parts_seen ⟦<dyn Device as Device>⟧ parts.old).world
+    ensures only { 0 < result → MovesLast (parts_seen ⟦<dyn Device as Device>⟧ parts.old).world
         (parts_seen ⟦<dyn Device as Device>⟧ parts.new).world }
     ensures space { IsSpacious parts.new }
     ensures runner { IsRunner parts.new.world.kern parts.new.world.watch.level now }
@@ -152,7 +152,7 @@ fn burst_of_routine(parts: &mut Parts, most: u64) -> u64
     ensures made { SilentSteps result (parts_seen ⟦<dyn Device as Device>⟧ parts.old)
         (parts_seen ⟦<dyn Device as Device>⟧ parts.new) }
     ensures within { result ≤ most }
-    ensures only { 0 < result → MovesOnly (parts_seen ⟦<dyn Device as Device>⟧ parts.old).world
+    ensures only { 0 < result → MovesLast (parts_seen ⟦<dyn Device as Device>⟧ parts.old).world
         (parts_seen ⟦<dyn Device as Device>⟧ parts.new).world }
     ensures space { IsSpacious parts.new }
     ensures routine { IsRoutine parts.new.world.kern parts.new.world.watch.level }
@@ -176,7 +176,7 @@ pub(crate) fn burst(parts: &mut Parts, known: Known, most: u64) -> u64
     ensures made { SilentSteps result (parts_seen ⟦<dyn Device as Device>⟧ parts.old)
         (parts_seen ⟦<dyn Device as Device>⟧ parts.new) }
     ensures within { result ≤ most }
-    ensures only { 0 < result → MovesOnly (parts_seen ⟦<dyn Device as Device>⟧ parts.old).world
+    ensures only { 0 < result → MovesLast (parts_seen ⟦<dyn Device as Device>⟧ parts.old).world
         (parts_seen ⟦<dyn Device as Device>⟧ parts.new).world }
     ensures space { IsSpacious parts.new }
     ensures known { IsKnown parts.new.world.kern parts.new.world.watch.level known }

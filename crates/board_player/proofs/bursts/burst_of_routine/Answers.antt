@@ -3,7 +3,7 @@ use Rattle.live_loading.specs.KernelWorldActor.TheVariants.{Interrupt}
 use Rattle.wind_machine.specs.State.{State}
 use Rattle.board_player.specs.declared.clock.Clock.{Clock}
 use Rattle.board_player.specs.Inside.{parts_by}
-use Rattle.board_player.proofs.Moving.{moves_only, routine_last}
+use Rattle.board_player.proofs.Moving.{moves_last, routine_last}
 use Rattle.board_player.proofs.ManySteps.{gone}
 use Rattle.board_player.proofs.RoutineBursts.{routine_goes_on, still_routine}
 use Rattle.board_player.proofs.Fetching.{ram_below_gates}
@@ -25,4 +25,4 @@ execute_many-made-requires-clause-ram g c = ram_below_gates c.args.parts.now.wor
 pub returns-clause-only : goal.returns-clause-only
 returns-clause-only g c =
     let s : State = parts_by (λ d. (goal.Device-dyn g (d.vtable, d.value)).kind_of d.value) (λ d. (goal.Device-dyn g (d.vtable, d.value)).words_of d.value) c.args.parts.now in
-    λ some. moves_only s.world _ Interrupt _ (routine_last s.world c.requires.routine) c.execute_many-made.ensures.ran
+    λ some. moves_last s.world _ Interrupt _ (routine_last s.world c.requires.routine) c.execute_many-made.ensures.ran

@@ -5,7 +5,7 @@ use Rattle.live_loading.specs.KernelWorldActor.TheVariants.{Task as by_task}
 use Rattle.wind_machine.specs.State.{State}
 use Rattle.board_player.specs.declared.clock.Clock.{Clock}
 use Rattle.board_player.specs.Inside.{parts_by}
-use Rattle.board_player.proofs.Moving.{moves_only, task_last}
+use Rattle.board_player.proofs.Moving.{moves_last, task_last}
 use Rattle.board_player.proofs.ManySteps.{gone}
 use Rattle.board_player.proofs.TaskBursts.{task_goes_on}
 use Rattle.board_player.proofs.Fetching.{ram_below_gates}
@@ -30,4 +30,4 @@ pub execute_many-made-requires-clause-ram : goal.execute_many-made-requires-clau
 execute_many-made-requires-clause-ram g c = ram_below_gates c.args.parts.now.world.board c.args.parts.now.world.bus.ram.bytes c.requires.good.kept.world.ram
 
 pub returns-clause-only : goal.returns-clause-only
-returns-clause-only g c = λ some. moves_only _ _ (by_task c.args.who) _ (task_last _ c.args.who c.requires.on) c.execute_many-made.ensures.ran
+returns-clause-only g c = λ some. moves_last _ _ (by_task c.args.who) _ (task_last _ c.args.who c.requires.on) c.execute_many-made.ensures.ran
