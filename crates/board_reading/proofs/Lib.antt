@@ -3,3 +3,4 @@ mod Coming
 mod Taking
 mod Reading
 mod InterruptKey
+mod Moving

@@ -1,3 +1,4 @@
+pub mod Moved
 pub use Rattle.board_player.specs.Seen as BoardPlayerSeen
 pub use Rattle.board_player.specs.WindMachineState
 pub use Rattle.board_trace.specs.WindMachinePhase

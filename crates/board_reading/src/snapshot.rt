@@ -1,6 +1,10 @@
 //! What a trace keeps of a state until the step after it is made.
 
-ghost use Rattle.std.specs.Prelude.{◌≡◌, ◌++◌, ◌∷◌, ◌+◌, ◌≤◌, [], None, true, map, take, length, max, IfOk, OnOk};
+ghost use Rattle.std.specs.Prelude.{◌≡◌, ◌==◌, ◌++◌, ◌∷◌, ◌+◌, ◌≤◌, [], None, true, map, take, length, max, IfOk, OnOk};
+ghost use Rattle.std.specs.List.{position};
+ghost use Rattle.wind_core.specs.State.{IsKern};
+ghost use Rattle.kernel_world.specs.State.{WorldState};
+ghost use Rattle.board_reading.specs.Moved.{IsMoved};
 ghost use Rattle.id_table.specs.Rows.{ids as ids_lem, objects as objects_lem};
 ghost use Rattle.kernel_world.specs.Seen.{world_seen};
 ghost use Rattle.board_changes.specs.Views.{view_of_watchdog};
@@ -117,6 +121,13 @@ fn take_modules(taken: &mut Vec<Ident>, modules: &Modules) -> Result<(), NoMemor
     Ok(())
 }
 
+// The place of the view of a task.
+fn place_of(views: &[TaskView], who: Ident) -> Option<usize>
+    ensures { result ≡ position (λ v. v.id == who) views.now }
+{
+    views.iter().position(|view| view.id == who)
+}
+
 /// An empty snapshot with room for the most tasks, watchdogs and modules.
 pub fn empty_snapshot(alloc: Global) -> Result<Snapshot, NoMemory>
     ensures { IfOk result (λ s. snapshot_state s
@@ -143,4 +154,20 @@ pub fn take_snapshot(snapshot: &mut Snapshot, world: &World) -> Result<(), NoMem
     take_modules(&mut snapshot.modules, &world.mods)?;
     snapshot.last = world.kern.last();
     Ok(())
+}
+
+/// Takes the view of a task again. If a snapshot shows of what changed since it was taken at most the
+/// registers of this task, it is that of the world then.
+pub fn retake_task(snapshot: &mut Snapshot, world: &World, who: Ident)
+    ensures { (w : WorldState) → IsKern w.kern → IsMoved w (world_seen ⟦<dyn Device as Device>⟧ world.now) who
+        → snapshot_state snapshot.old ≡ snapshot_of w
+        → snapshot_state snapshot.new ≡ snapshot_of (world_seen ⟦<dyn Device as Device>⟧ world.now) }
+{
+    let Some(task) = world.kern.task(who) else {
+        return;
+    };
+    let Some(place) = place_of(&snapshot.tasks, who) else {
+        return;
+    };
+    renew(&mut snapshot.tasks[place], &world.objects, task);
 }

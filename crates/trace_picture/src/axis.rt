@@ -1,4 +1,4 @@
-//! The axis with round numbers, and the ticks as fine lines.
+//! The axes with round numbers, and the ticks as fine lines.
 
 ghost use Rattle.std.specs.Prelude.{◌<◌, ◌≤◌, ◌^◌};
 
@@ -7,8 +7,11 @@ use crate::svg::{add_attribute, add_line};
 use trace_text::{add, add_wide};
 use wind_base::NoMemory;
 
-// The most labels of the axis, but for the one at 0.
+// The most labels of an axis, but for the first.
 const LABELS: u32 = 10;
+
+// The least distance between two lines of ticks.
+const TICK_DISTANCE: u128 = 500;
 
 // The round number after `step`, whose place in 1, 2, 5, 10 and so on is given.
 fn next_step(step: u128, place: u32) -> u128
@@ -22,12 +25,12 @@ fn next_step(step: u128, place: u32) -> u128
 }
 
 // The least round number (1, 2 or 5, then zeros) that divides the time into at most 10 parts.
-fn round_step(end: u128) -> u128
+fn round_step(length: u128) -> u128
     ensures { 1 ≤ result }
 {
     let mut step: u128 = 1;
     for place in 0..120_u32 {
-        if end / step <= LABELS as u128 {
+        if length / step <= LABELS as u128 {
             return step;
         }
         step = next_step(step, place);
@@ -35,36 +38,60 @@ fn round_step(end: u128) -> u128
     step
 }
 
-// Adds a time of the axis.
-fn add_label(text: &mut Vec<u8>, x: u128, bottom: u128, time: u128) -> Result<(), NoMemory>
-    requires { bottom < 2 ^ 100 }
+/// Where an axis is, and on which side of it its labels are.
+#[derive(Clone, Copy)]
+pub(crate) enum Side {
+    /// Above the plot.
+    Above,
+    /// Below the plot.
+    Below,
+}
+
+// Adds a time of an axis.
+fn add_label(
+    text: &mut Vec<u8>,
+    x: u128,
+    edge: u128,
+    side: Side,
+    time: u128,
+) -> Result<(), NoMemory>
+    requires { edge < 2 ^ 100 }
 {
-    add_line(text, b"axis", x, bottom, bottom + 500)?;
+    let (far, y) = match side {
+        Side::Above => (edge.saturating_sub(500), edge.saturating_sub(900)),
+        Side::Below => (edge + 500, edge + 1900),
+    };
+    add_line(text, b"axis", x, edge, far)?;
     add(text, b"<text text-anchor=\"middle\"")?;
     add_attribute(text, b"x", x)?;
-    add_attribute(text, b"y", bottom + 1900)?;
+    add_attribute(text, b"y", y)?;
     add(text, b">")?;
     add_wide(text, time)?;
     add(text, b"</text>\n")
 }
 
-/// Adds the axis at the bottom of the plot.
-pub(crate) fn add_axis(text: &mut Vec<u8>, scale: Scale, bottom: u128) -> Result<(), NoMemory>
-    requires { bottom < 2 ^ 100 }
+/// Adds an axis at an edge of the plot.
+pub(crate) fn add_axis(
+    text: &mut Vec<u8>,
+    scale: Scale,
+    edge: u128,
+    side: Side,
+) -> Result<(), NoMemory>
+    requires { edge < 2 ^ 100 }
 {
-    let step = round_step(scale.end());
-    let mut time: u128 = 0;
+    let step = round_step(scale.length());
+    let mut time = scale.start().div_ceil(step).saturating_mul(step);
     for _ in 0..=LABELS {
         if time > scale.end() {
             return Ok(());
         }
-        add_label(text, scale.place(time), bottom, time)?;
+        add_label(text, scale.place(time), edge, side, time)?;
         time = time.saturating_add(step);
     }
     Ok(())
 }
 
-// Adds a fine line unless the last one is on the same pixel, and returns the pixel.
+// Adds a fine line unless it is too near to the last one. Returns the place of the last one.
 fn add_tick(
     text: &mut Vec<u8>,
     x: u128,
@@ -72,14 +99,14 @@ fn add_tick(
     top: u128,
     bottom: u128,
 ) -> Result<u128, NoMemory> {
-    let pixel = x / 100;
-    if pixel != last {
-        add_line(text, b"tick", x, top, bottom)?;
+    if x < last.saturating_add(TICK_DISTANCE) {
+        return Ok(last);
     }
-    Ok(pixel)
+    add_line(text, b"tick", x, top, bottom)?;
+    Ok(x)
 }
 
-/// Adds a fine line for each tick, but at most one on a pixel.
+/// Adds a fine line for each tick, but only where they are 5 pixels apart.
 pub(crate) fn add_ticks(
     text: &mut Vec<u8>,
     scale: Scale,

@@ -1,9 +1,14 @@
-//! A run as an SVG picture: a row for the interrupt level and one for each task, over board time.
+//! A run as an SVG picture: a row for the interrupt level, one for each task, and one for each mutex and
+//! each queue that a task waited for, over board time.
 #![tactic(auto)]
 
+mod areas;
 mod axis;
 mod frame;
+mod layout;
+mod list;
 mod marks;
+mod objects;
 mod palette;
 mod rows;
 mod scale;
@@ -11,6 +16,8 @@ mod svg;
 #[cfg(test)]
 mod tests;
 
+pub use areas::{Area, AreaKind, Areas, areas_of};
 pub use frame::{Picture, add_picture};
+pub use layout::RowName;
 pub use marks::{Kind, Mark};
-pub use rows::RowName;
+pub use objects::{Ownership, QueueLength};

@@ -14,11 +14,13 @@ text{font:12px sans-serif;fill:#000000}
 .sleeping{fill:#d9d9d9}
 .suspended{fill:#cc79a7}
 .inherits{fill:#d55e00}
+.owned{fill:#f0e442;stroke:#ffffff;stroke-width:0.5}
+.owner{font-size:10px}
+.length{stroke:#0072b2;stroke-width:1.5;fill:none}
 .exception{stroke:#000000;stroke-width:2;fill:none}
 .abort{fill:#000000}
 .tick{stroke:#b0b0b0;stroke-width:0.5}
 .axis{stroke:#000000;stroke-width:1}
-.row{fill:#f7f7f7}
 </style>
 ";
 

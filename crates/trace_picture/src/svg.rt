@@ -6,7 +6,7 @@ use wind_base::NoMemory;
 
 /// A rectangle, in hundredths of a pixel.
 #[derive(Clone, Copy)]
-pub(crate) struct Area {
+pub(crate) struct Rect {
     pub(crate) x: u128,
     pub(crate) y: u128,
     pub(crate) width: u128,
@@ -58,23 +58,28 @@ pub(crate) fn add_xml(text: &mut Vec<u8>, bytes: &[u8]) -> Result<(), NoMemory> 
 }
 
 /// Adds the beginning of a rectangle of a class; its title and its end follow.
-pub(crate) fn add_area(text: &mut Vec<u8>, class: &[u8], area: Area) -> Result<(), NoMemory> {
+pub(crate) fn add_rect(text: &mut Vec<u8>, class: &[u8], rect: Rect) -> Result<(), NoMemory> {
     add(text, b"<rect class=\"")?;
     add(text, class)?;
     add(text, b"\"")?;
-    add_attribute(text, b"x", area.x)?;
-    add_attribute(text, b"y", area.y)?;
-    add_attribute(text, b"width", area.width)?;
-    add_attribute(text, b"height", area.height)?;
+    add_attribute(text, b"x", rect.x)?;
+    add_attribute(text, b"y", rect.y)?;
+    add_attribute(text, b"width", rect.width)?;
+    add_attribute(text, b"height", rect.height)?;
+    add(text, b">")
+}
+
+/// Adds the beginning of a text at a place; its words and its end follow.
+pub(crate) fn begin_text(text: &mut Vec<u8>, x: u128, y: u128) -> Result<(), NoMemory> {
+    add(text, b"<text")?;
+    add_attribute(text, b"x", x)?;
+    add_attribute(text, b"y", y)?;
     add(text, b">")
 }
 
 /// Adds a text at a place.
 pub(crate) fn add_text(text: &mut Vec<u8>, x: u128, y: u128, words: &[u8]) -> Result<(), NoMemory> {
-    add(text, b"<text")?;
-    add_attribute(text, b"x", x)?;
-    add_attribute(text, b"y", y)?;
-    add(text, b">")?;
+    begin_text(text, x, y)?;
     add_xml(text, words)?;
     add(text, b"</text>\n")
 }

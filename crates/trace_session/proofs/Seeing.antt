@@ -1,15 +1,19 @@
 -- A run whose tasks are looked at.
-use Rattle.std.proofs.Common.{◌≡◌, ◌≢◌, ◌⊎◌, ℕ, List, Option, sym, ap, subst, ◌∙◌}
+use Rattle.std.proofs.Common.{◌≡◌, ◌≢◌, ◌⊎◌, ℕ, List, Option, inl, inr, sym, ap, subst, ◌∙◌}
 use Rattle.wind_outside.specs.Requests.{Request}
 use Rattle.wind_machine.specs.State.{State}
 use Rattle.wind_machine.specs.Run.{Answers, after}
 use Rattle.wind_session.specs.Modules.{Shelf}
+use Rattle.wind_session.specs.Runs.{Counted}
 use Rattle.wind_session.specs.Telling.{After, IsTold, Told}
 use Rattle.wind_session.specs.declared.run.RunEnd.{RunEnd}
 use Rattle.wind_session.specs.declared.run.RunEnd.TheVariants as ends
 use Rattle.wind_session.proofs.RunLemmas.{stopped}
 use Rattle.board_changes.specs.Spans.{SpanState, closed}
-use Rattle.trace_session.specs.Traced.{SeesSteps, TellsNothing, TellsSpans}
+use Rattle.trace_picture.specs.Areas.{areas_of}
+use Rattle.trace_picture.specs.declared.areas.Area.{Area}
+use Rattle.trace_state.specs.Board.{IsTextOf, board_data}
+use Rattle.trace_session.specs.Traced.{IsPutOf, SeesSteps, TellsAreas, TellsNothing, TellsState}
 use Rattle.trace_session.proofs.Telling.{lost_if, tells_unless}
 
 -- nothing is told of the run
@@ -32,17 +36,39 @@ module _ (shelf : Shelf) (s t : State) (n : ℕ) (old new : Option (List Request
     pub not_lost : end ≢ ends.WriteFault
     not_lost e = none_lost (sym ran.tells.0 ∙ e)
 
-    -- the spans ended with the run
-    pub spans_told : (last : SpanState) (result : RunEnd) (time : ℕ) → last ≡ closed spans time → time ≡ t.time → (result ≡ end) ⊎ (result ≡ ends.WriteFault)
-        → Told (TellsSpans result last s) shelf s n t old new
-    spans_told last result time closed_is time_is put = record {
+    -- the spans ended with the run, and these are their areas
+    pub areas_told : (last : SpanState) (areas : List Area) (result : RunEnd) (time : ℕ) → last ≡ closed spans time → time ≡ t.time → areas ≡ areas_of last.done
+        → (result ≡ end) ⊎ (result ≡ ends.WriteFault) → Told (TellsAreas result areas s) shelf s n t old new
+    areas_told last areas result time closed_is time_is areas_are put = record {
       said = ran.said;
       k = ran.k;
       end = ran.end;
       made = ran.made;
       tells = (
         subst (λ e. (result ≡ e) ⊎ (result ≡ ends.WriteFault)) ran.tells.0 put,
-        closed_is ∙ ap (closed spans) (time_is ∙ ap (λ (v : State). v.time) ran.made.state)
-            ∙ ap (λ x. closed x (after ran.said s ran.k).time) (tells_unless (SeesSteps spans) (λ said u k. ⊥) ran.said s ran.k ran.end none_lost ran.tells.1),
+        areas_are ∙ ap (λ (x : SpanState). areas_of x.done)
+            (closed_is ∙ ap (closed spans) (time_is ∙ ap (λ (v : State). v.time) ran.made.state)
+            ∙ ap (λ x. closed x (after ran.said s ran.k).time) (tells_unless (SeesSteps spans) (λ said u k. ⊥) ran.said s ran.k ran.end none_lost ran.tells.1)),
       );
     }
+
+-- a text was put or that put failed, so the run ended like this or the put failed
+pub put_after : (text : List ℕ) (result end : RunEnd) (old new : Option (List ℕ)) → IsPutOf text result end old new → (result ≡ end) ⊎ (result ≡ ends.WriteFault)
+put_after text result end old new (inl (same, all)) = inl same
+put_after text result end old new (inr (failed, part)) = inr failed
+
+-- the board that is left was put as JSON, or that put failed
+pub state_told : (shelf : Shelf) (s t : State) (n bytes : ℕ) (old new : Option (List Request)) (end result : RunEnd) (text : List ℕ) (first now last : Option (List ℕ))
+    → Counted end shelf s n bytes t old new → now ≡ first → IsTextOf text (board_data t) → IsPutOf text result end now last
+    → Told (TellsState result s first last) shelf s n t old new
+state_told shelf s t n bytes old new end result text first now last ran same is put = record {
+  said = ran.said;
+  k = ran.k;
+  end = end;
+  made = ran.made;
+  tells = (
+    text,
+    subst (λ (v : State). IsTextOf text (board_data v)) ran.made.state is,
+    subst (λ before. IsPutOf text result end before last) same put,
+  );
+}

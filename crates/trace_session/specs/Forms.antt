@@ -3,17 +3,17 @@ use Rattle.std.specs.Prelude.{ℕ, List, Option, Some, None}
 use Rattle.wind_machine.specs.State.{State}
 use Rattle.wind_machine.specs.Run.{Answers}
 use Rattle.wind_session.specs.declared.run.RunEnd.{RunEnd}
-use Rattle.board_changes.specs.Spans.{SpanState}
-use Rattle.trace_session.specs.Traced.{IsPutAfter, TellsEvents, TellsNothing, TellsPart, TellsSpans}
+use Rattle.trace_picture.specs.declared.areas.Area.{Area}
+use Rattle.trace_session.specs.Traced.{TellsAreas, TellsEvents, TellsNothing, TellsPart, TellsState}
 use Rattle.trace_session.specs.declared.forms.Form.{Form}
 use Rattle.trace_session.specs.declared.forms.Form.TheVariants as forms
 
--- if memory suffices: its lines; a picture of its spans; or the board that is left
-abbrev pub TellsForm : Form → Option SpanState → RunEnd → State → Option (List ℕ) → Option (List ℕ) → Answers → ℕ → RunEnd → Type 0
-TellsForm forms.Events spans result start old new = TellsEvents result start old new
+-- if memory suffices: its lines; a picture of the areas of its spans; or the board that is left
+abbrev pub TellsForm : Form → Option (List Area) → RunEnd → State → Option (List ℕ) → Option (List ℕ) → Answers → ℕ → RunEnd → Type 0
+TellsForm forms.Events areas result start old new = TellsEvents result start old new
 TellsForm forms.Timeline None result start old new = λ said k end. ⊥
-TellsForm forms.Timeline (Some spans) result start old new = TellsSpans result spans start
-TellsForm forms.State spans result start old new = IsPutAfter result
+TellsForm forms.Timeline (Some areas) result start old new = TellsAreas result areas start
+TellsForm forms.State areas result start old new = TellsState result start old new
 
 -- and if memory runs out for the trace
 abbrev pub TellsLess : Form → State → Option (List ℕ) → Option (List ℕ) → Answers → ℕ → RunEnd → Type 0

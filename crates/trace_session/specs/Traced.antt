@@ -10,6 +10,9 @@ use Rattle.board_trace.specs.Snapshots.{snapshot_of}
 use Rattle.board_trace.specs.Views.{SnapshotState}
 use Rattle.board_changes.specs.Spans.{SpanState}
 use Rattle.trace_session.specs.Spans.{spans_after, spans_of}
+use Rattle.trace_picture.specs.Areas.{areas_of}
+use Rattle.trace_picture.specs.declared.areas.Area.{Area}
+use Rattle.trace_state.specs.Board.{IsTextOf, board_data}
 use Rattle.trace_text.specs.Ending.{last_line}
 use Rattle.trace_text.specs.Lines.{lines_text}
 use Rattle.trace_text.specs.Pages.{Ends, PageState, count_in}
@@ -72,10 +75,14 @@ SeesSteps spans said s k = spans ≡ spans_after said s k
 abbrev pub TellsNothing : Answers → ℕ → RunEnd → Type 0
 TellsNothing said k end = Unit {0}
 
+-- the board that is left was put as JSON
+abbrev pub TellsState : RunEnd → State → Option (List ℕ) → Option (List ℕ) → Answers → ℕ → RunEnd → Type 0
+TellsState result s old new said k end = (text : List ℕ) × IsTextOf text (board_data (after said s k)) × IsPutOf text result end old new
+
 -- the run ended like this, or the put of what is told of it failed
 abbrev pub IsPutAfter : RunEnd → Answers → ℕ → RunEnd → Type 0
 IsPutAfter result said k end = (result ≡ end) ⊎ (result ≡ ends.WriteFault)
 
--- the same, and these are the spans of the run
-abbrev pub TellsSpans : RunEnd → SpanState → State → Answers → ℕ → RunEnd → Type 0
-TellsSpans result spans s said k end = IsPutAfter result said k end × (spans ≡ spans_of said s k)
+-- the same, and these are the areas of the spans of the run
+abbrev pub TellsAreas : RunEnd → List Area → State → Answers → ℕ → RunEnd → Type 0
+TellsAreas result areas s said k end = IsPutAfter result said k end × (areas ≡ areas_of (spans_of said s k).done)

@@ -1,6 +1,6 @@
 //! How a traced session ended.
 
-use board_changes::Spans;
+use trace_picture::Areas;
 use wind_session::{Stand, Status};
 
 /// How a traced session ended, and what it left.
@@ -10,6 +10,6 @@ pub struct TraceEnding {
     pub status: Status,
     /// The board, or the devices if there is none.
     pub stand: Stand,
-    /// The spans of the tasks, if a timeline was asked for and memory sufficed.
-    pub spans: Option<Spans>,
+    /// The areas of the picture, if a timeline was asked for and memory sufficed.
+    pub areas: Option<Areas>,
 }

@@ -74,6 +74,7 @@ fn burst(board: &mut Board, tracer: &mut Tracer, most: u64) -> Result<u64, NoMem
         ≡ snapshot_of (seen ⟦<dyn Device as Device>⟧ board.new).world) }
 {
     silent_lines_law();
+    board.facts();
     let who = last_actor(board.world());
     let (time, step) = (board.time(), board.steps() + 1);
     let count = board.burst(most);

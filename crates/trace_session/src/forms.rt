@@ -12,8 +12,8 @@ use crate::events::tell_end;
 use crate::observer::Observer;
 use crate::timeline::put_text;
 use crate::tracer::Tracer;
-use board_changes::Spans;
 use std::alloc::Global;
+use trace_picture::{Areas, areas_of};
 use trace_state::state_text;
 use wind_base::NoMemory;
 use wind_outside::{Device, Folder, Sink};
@@ -35,8 +35,8 @@ pub enum Form {
 pub struct TracedRun {
     /// How the run ended, or that a put failed.
     pub end: RunEnd,
-    /// The spans of the tasks, which a timeline shows.
-    pub spans: Option<Spans>,
+    /// The areas of the picture, in a timeline.
+    pub areas: Option<Areas>,
 }
 
 /// Makes steps, at most `limit`, and puts what happened in them in this form. The modules that the
@@ -57,7 +57,7 @@ pub fn trace_board<F: Folder, O: Sink>(
     requires fresh { (seen ⟦<dyn Device as Device>⟧ board.old).steps ≡ 0 }
     requires bound { limit ≤ most_steps }
     ensures told { IfOk result (λ t. Told
-        (TellsForm form t.spans t.end (seen ⟦<dyn Device as Device>⟧ board.old) (O.bytes out.old) (O.bytes out.new))
+        (TellsForm form t.areas t.end (seen ⟦<dyn Device as Device>⟧ board.old) (O.bytes out.old) (O.bytes out.new))
         (record { files = F.files folder.old; name = modules.now }) (seen ⟦<dyn Device as Device>⟧ board.old) limit
         (seen ⟦<dyn Device as Device>⟧ board.new) (F.requests folder.old) (F.requests folder.new)) }
     ensures given_up { OnErr result (Told
@@ -73,12 +73,12 @@ pub fn trace_board<F: Folder, O: Sink>(
             let mut tracer = Tracer::new(alloc, board)?;
             let end = tell_run(alloc, board, folder, modules, out, limit, &mut tracer)?;
             match end {
-                RunEnd::WriteFault => Ok(TracedRun { end, spans: None }),
+                RunEnd::WriteFault => Ok(TracedRun { end, areas: None }),
                 _ => {
                     let last = tell_end(board, out, end, &mut tracer)?;
                     Ok(TracedRun {
                         end: last,
-                        spans: None,
+                        areas: None,
                     })
                 }
             }
@@ -87,17 +87,20 @@ pub fn trace_board<F: Folder, O: Sink>(
             let mut observer = Observer::new(alloc, board)?;
             let end = tell_run(alloc, board, folder, modules, out, limit, &mut observer)?;
             observer.close(board)?;
+            let areas = areas_of(alloc, observer.spans.done())?;
             let mut text = Vec::new(alloc);
-            observer.draw(alloc, &mut text, board.time())?;
+            observer
+                .scene
+                .draw(alloc, &mut text, areas.list(), board.time())?;
             let end = put_text(out, &text, end);
-            let spans = Some(observer.spans);
-            Ok(TracedRun { end, spans })
+            let areas = Some(areas);
+            Ok(TracedRun { end, areas })
         }
         Form::State => {
             let end = count_board(alloc, board, folder, modules, out, limit).end;
             let text = state_text(alloc, board)?;
             let end = put_text(out, &text, end);
-            Ok(TracedRun { end, spans: None })
+            Ok(TracedRun { end, areas: None })
         }
     }
 }

@@ -11,6 +11,7 @@ mod observer;
 mod playing;
 mod program;
 mod reader;
+mod scene;
 mod timeline;
 mod tracer;
 

@@ -1,4 +1,4 @@
-//! What a picture of a run needs of each step: spans, ticks, routines and marks.
+//! What a picture of a run needs of each step: the spans of the tasks, and its scene.
 
 ghost use Rattle.std.specs.Prelude.{◌≡◌, OnOk, IfOk};
 ghost use Rattle.wind_session.specs.BoardPlayerSeen.{seen};
@@ -8,27 +8,14 @@ ghost use Rattle.board_changes.specs.Spans.{closed};
 ghost use Rattle.trace_session.specs.Spans.{looked_at, observed_in, opening_spans};
 
 use crate::reader::StepReader;
-use board_changes::{Change, Spans, TaskView};
-use board_trace::{BeforeStep, Happening, Snapshot, is_instruction, view_of};
-use id_table::Ident;
-use kernel_world::Actor;
+use crate::scene::Scene;
+use board_changes::Spans;
+use board_trace::{BeforeStep, is_instruction};
 use std::alloc::Global;
-use trace_picture::{Kind, Mark, Picture, RowName, add_picture};
 use trace_state::running_task;
 use wind_base::NoMemory;
 use wind_outside::Device;
 use wind_session::Board;
-
-/// What a picture needs of a run besides the spans of the tasks.
-#[derive(Drop)]
-pub(crate) struct Scene {
-    rows: Vec<RowName>,
-    ticks: Vec<u128>,
-    marks: Vec<Mark>,
-    routines: Vec<(u128, u128)>,
-    // since when a routine is active
-    active: Option<u128>,
-}
 
 /// What is kept of a run for its picture.
 #[derive(Drop)]
@@ -36,104 +23,8 @@ pub(crate) struct Observer {
     reader: StepReader,
     /// The spans of the tasks.
     pub(crate) spans: Spans,
-    scene: Scene,
-}
-
-// Adds an item.
-fn push<T: Drop>(list: &mut Vec<T>, item: T) -> Result<(), NoMemory> {
-    if list.push(item).is_err() {
-        return Err(NoMemory);
-    }
-    Ok(())
-}
-
-// Adds the row of a task.
-fn add_row(rows: &mut Vec<RowName>, view: &TaskView) -> Result<(), NoMemory> {
-    let row = RowName {
-        id: view.id,
-        name: view.name.copied(),
-    };
-    push(rows, row)
-}
-
-// Adds a row for each task before the first step.
-fn add_rows(rows: &mut Vec<RowName>, views: &Snapshot) -> Result<(), NoMemory> {
-    for view in &views.tasks {
-        add_row(rows, view)?;
-    }
-    Ok(())
-}
-
-// Adds the row of a new task.
-fn add_spawned(rows: &mut Vec<RowName>, views: &Snapshot, who: Ident) -> Result<(), NoMemory> {
-    match view_of(&views.tasks, who.get()) {
-        Some(view) => add_row(rows, view),
-        None => Ok(()),
-    }
-}
-
-impl Scene {
-    // Looks at the interrupt level.
-    fn look(&mut self, board: &Board) -> Result<(), NoMemory> {
-        match (self.active, board.world().watch.active()) {
-            (None, true) => self.active = Some(board.time()),
-            (Some(from), false) => {
-                self.active = None;
-                push(&mut self.routines, (from, board.time()))?;
-            }
-            (None, false) | (Some(_), true) => {}
-        }
-        Ok(())
-    }
-
-    // Notes an exception or an abort.
-    fn mark(&mut self, who: Actor, time: u128, kind: Kind) -> Result<(), NoMemory> {
-        push(&mut self.marks, Mark { who, time, kind })
-    }
-
-    // Notes a new task, a tick, an exception or an abort.
-    fn note(
-        &mut self,
-        happening: &Happening,
-        time: u128,
-        after: &Snapshot,
-    ) -> Result<(), NoMemory> {
-        match happening {
-            Happening::Changed(Change::Spawned { who, .. }) => {
-                add_spawned(&mut self.rows, after, *who)
-            }
-            Happening::Tick { .. } => push(&mut self.ticks, time),
-            Happening::Exception { who, .. } => self.mark(*who, time, Kind::Exception),
-            Happening::Abort => self.mark(Actor::Task(Ident::shell()), time, Kind::Abort),
-            _ => Ok(()),
-        }
-    }
-
-    // Notes what happened in a step. This is the snapshot after it.
-    fn note_all(
-        &mut self,
-        list: &[Happening],
-        time: u128,
-        after: &Snapshot,
-    ) -> Result<(), NoMemory> {
-        for happening in list {
-            self.note(happening, time, after)?;
-        }
-        Ok(())
-    }
-}
-
-impl Scene {
-    // A picture with nothing on it.
-    fn new(alloc: Global) -> Scene {
-        Scene {
-            rows: Vec::new(alloc),
-            ticks: Vec::new(alloc),
-            marks: Vec::new(alloc),
-            routines: Vec::new(alloc),
-            active: None,
-        }
-    }
+    /// What else the picture shows.
+    pub(crate) scene: Scene,
 }
 
 impl Observer {
@@ -148,8 +39,7 @@ impl Observer {
             &reader.before.tasks,
             running_task(board.world()),
         )?;
-        let mut scene = Scene::new(alloc);
-        add_rows(&mut scene.rows, &reader.before)?;
+        let scene = Scene::new(alloc, &reader.before)?;
         Ok(Observer {
             reader,
             spans,
@@ -178,8 +68,7 @@ impl Observer {
         self.reader.read(board, before_step)?;
         self.scene.look(board)?;
         let reader = &self.reader;
-        self.scene
-            .note_all(&reader.list, before_step.time, &reader.after)?;
+        self.scene.note_all(&reader.list, before_step.time, board.time(), &reader.after)?;
         self.look_at_tasks(board)?;
         self.reader.go_on();
         Ok(())
@@ -192,27 +81,6 @@ impl Observer {
     {
         let end = board.time();
         self.spans.close(end)?;
-        if let Some(from) = self.scene.active {
-            push(&mut self.scene.routines, (from, end))?;
-        }
-        Ok(())
-    }
-
-    /// Adds the picture of a run that ended at this time.
-    pub(crate) fn draw(
-        &self,
-        alloc: Global,
-        text: &mut Vec<u8>,
-        end: u128,
-    ) -> Result<(), NoMemory> {
-        let picture = Picture {
-            rows: &self.scene.rows,
-            spans: self.spans.done(),
-            routines: &self.scene.routines,
-            ticks: &self.scene.ticks,
-            marks: &self.scene.marks,
-            end,
-        };
-        add_picture(alloc, text, &picture)
+        self.scene.close(end)
     }
 }

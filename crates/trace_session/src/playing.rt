@@ -11,8 +11,8 @@ ghost use Rattle.trace_session.specs.{Command.{command_of, session_of}, Headline
 use crate::command::{PROGRAM, TraceCommand, trace_command_of};
 use crate::ending::TraceEnding;
 use crate::trace_board;
-use board_changes::Spans;
 use std::alloc::Global;
+use trace_picture::Areas;
 use wind_base::NoMemory;
 use wind_outside::{Device, Folder, Sink, Slots};
 use wind_session::{
@@ -22,20 +22,20 @@ use wind_session::{
 
 // The ending of a session without a board.
 fn refusal(status: Status, devices: Slots) -> TraceEnding
-    ensures { result ≡ record { status = status; stand = stands.NotBooted devices; spans = None } }
+    ensures { result ≡ record { status = status; stand = stands.NotBooted devices; areas = None } }
 {
     TraceEnding {
         status,
         stand: Stand::NotBooted(devices),
-        spans: None,
+        areas: None,
     }
 }
 
-// What is left of a run: its status, and the spans of a timeline.
+// What is left of a run: its status, and the areas of its picture.
 #[derive(Drop)]
 struct Outcome {
     status: Status,
-    spans: Option<Spans>,
+    areas: Option<Areas>,
 }
 
 // Plays the board of a session.
@@ -48,7 +48,7 @@ fn play_board<F: Folder, O: Sink>(
 ) -> Outcome
     requires fresh { (seen ⟦<dyn Device as Device>⟧ board.old).steps ≡ 0 }
     requires limit { command.now.session.limit ≤ most_steps }
-    ensures left { IsLeft command.now.form result.spans result.status
+    ensures left { IsLeft command.now.form result.areas result.status
         (record { files = F.files folder.old; name = command.now.session.modules.now })
         (seen ⟦<dyn Device as Device>⟧ board.old) command.now.session.limit (seen ⟦<dyn Device as Device>⟧ board.new)
         (outside (F.requests folder.old) (O.bytes out.old) (O.pieces out.old))
@@ -61,11 +61,11 @@ fn play_board<F: Folder, O: Sink>(
     match trace_board(alloc, form, board, folder, modules, out, limit) {
         Ok(tracing) => Outcome {
             status: Status::from(tracing.end),
-            spans: tracing.spans,
+            areas: tracing.areas,
         },
         Err(NoMemory) => Outcome {
             status: Status::NoMemory,
-            spans: None,
+            areas: None,
         },
     }
 }
@@ -81,7 +81,7 @@ fn session<F: Folder, O: Sink>(
     requires devices { length devices.items ≤ most_slots }
     requires limit { command.now.session.limit ≤ most_steps }
     requires rounds { HasFewRounds command.now.session.source }
-    ensures machine { Traces (seen ⟦<dyn Device as Device>⟧) result.status result.stand result.spans
+    ensures machine { Traces (seen ⟦<dyn Device as Device>⟧) result.status result.stand result.areas
         (Some (trace_state_lem command.now)) devices (slots_of kind_of words_of devices.items)
         (around ⟦<F as Folder>⟧ ⟦<O as Sink>⟧ folder.old out.old)
         (around ⟦<F as Folder>⟧ ⟦<O as Sink>⟧ folder.new out.new) }
@@ -110,7 +110,7 @@ fn session<F: Folder, O: Sink>(
     TraceEnding {
         status: outcome.status,
         stand: Stand::Booted(board),
-        spans: outcome.spans,
+        areas: outcome.areas,
     }
 }
 
@@ -126,7 +126,7 @@ pub fn trace<'a, F: Folder, O: Sink, E: Sink>(
     devices: Slots,
 ) -> TraceEnding
     requires { length devices.items ≤ most_slots }
-    ensures machine { Traces (seen ⟦<dyn Device as Device>⟧) result.status result.stand result.spans
+    ensures machine { Traces (seen ⟦<dyn Device as Device>⟧) result.status result.stand result.areas
         (command_of (map (λ w. w.now) words.now)) devices (slots_of kind_of words_of devices.items)
         (around ⟦<F as Folder>⟧ ⟦<O as Sink>⟧ folder.old out.old)
         (around ⟦<F as Folder>⟧ ⟦<O as Sink>⟧ folder.new out.new) }

@@ -1,6 +1,8 @@
 //! What happens in each step of a board, from snapshots before and after it.
 
 ghost use Rattle.std.specs.Prelude.{◌≡◌, OnOk, IfOk};
+ghost use Rattle.wind_machine.specs.{State.State, Good.Good};
+ghost use Rattle.wind_session.specs.BoardPlayerBursts.{MovesOnly};
 ghost use Rattle.wind_session.specs.BoardPlayerSeen.{last_reply, seen};
 ghost use Rattle.board_trace.specs.Snapshots.{snapshot_of};
 ghost use Rattle.board_trace.specs.Views.{snapshot_state};
@@ -8,9 +10,10 @@ ghost use Rattle.trace_session.specs.Steps.{happenings_read};
 
 use board_changes::Change;
 use board_trace::{BeforeStep, Happening, Snapshot, StepViews, add_happenings};
+use kernel_world::Actor;
 use std::alloc::Global;
 use std::mem;
-use trace_state::{empty_snapshot, look_after, take_snapshot};
+use trace_state::{empty_snapshot, look_after, retake_task, take_snapshot};
 use wind_base::NoMemory;
 use wind_outside::Device;
 use wind_session::Board;
@@ -45,12 +48,17 @@ impl StepReader {
         })
     }
 
-    /// Instructions were made at once: takes the snapshot before the next step.
-    pub(crate) fn skip(&mut self, board: &Board) -> Result<(), NoMemory>
-        ensures { OnOk result (snapshot_state self.new.before
-            ≡ snapshot_of (seen ⟦<dyn Device as Device>⟧ board.now).world) }
+    /// Instructions of a task or routine were made at once. Of what a snapshot shows they changed at
+    /// most the task's registers, so its view alone is taken again.
+    pub(crate) fn skip(&mut self, board: &Board, who: &Actor)
+        ensures { (s : State) → Good s
+            → MovesOnly who.now s.world (seen ⟦<dyn Device as Device>⟧ board.now).world
+            → snapshot_state self.old.before ≡ snapshot_of s.world
+            → snapshot_state self.new.before ≡ snapshot_of (seen ⟦<dyn Device as Device>⟧ board.now).world }
     {
-        take_snapshot(&mut self.before, board.world())
+        if let Actor::Task(id) = who {
+            retake_task(&mut self.before, board.world(), *id);
+        }
     }
 
     /// A step was made: reads what happened in it.

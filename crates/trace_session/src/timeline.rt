@@ -1,7 +1,8 @@
 //! A run, told as a picture.
 
-ghost use Rattle.std.specs.Prelude.{◌≡◌, ◌≢◌, ◌⊎◌, ◌≤◌};
+ghost use Rattle.std.specs.Prelude.{◌≡◌, ◌≢◌, ◌≤◌};
 ghost use Rattle.wind_outside.specs.Counts.{Rose};
+ghost use Rattle.trace_session.specs.Traced.{IsPutOf};
 ghost use Rattle.wind_session.specs.declared.run.RunEnd.TheVariants as ends;
 
 use crate::observer::Observer;
@@ -55,7 +56,7 @@ impl Teller for Observer {
 
 /// Puts a text. The run before it ended like this.
 pub(crate) fn put_text<O: Sink>(out: &mut O, text: &[u8], end: RunEnd) -> RunEnd
-    ensures same { (result ≡ end) ⊎ (result ≡ ends.WriteFault) }
+    ensures put { IsPutOf text.now result end (O.bytes out.old) (O.bytes out.new) }
     ensures fault { end ≢ ends.WriteFault → result ≡ ends.WriteFault → Rose (O.faults out.old) (O.faults out.new) }
     ensures faults { O.faults out.old ≤ O.faults out.new }
 {

@@ -6,3 +6,4 @@ pub mod Modules
 pub mod Memory
 pub mod Board
 pub mod Inside
+pub use Rattle.board_reading.specs.Moved as BoardReadingMoved

@@ -11,5 +11,5 @@ mod tasks;
 
 pub use board::state_text;
 pub use board_reading::{
-    empty_snapshot, last_actor, look_after, look_before, running_task, take_snapshot,
+    empty_snapshot, last_actor, look_after, look_before, retake_task, running_task, take_snapshot,
 };

@@ -1,9 +1,10 @@
-use Rattle.std.proofs.Common.{arith}
+use Rattle.std.proofs.Common.{ap, arith, refl, ◌∙◌}
 use Rattle.std.proofs.lemmas.Result.{err_from_is_err_and}
 use Rattle.wind_session.proofs.AppendingLemmas.{appended_none, rose_earlier}
 use Rattle.wind_session.proofs.RunLemmas.{begun}
+use Rattle.trace_picture.specs.Areas.{areas_of}
 use Rattle.trace_session.specs.Traced.{HoldsPart}
-use Rattle.trace_session.proofs.Seeing.{not_lost, untold}
+use Rattle.trace_session.proofs.Seeing.{areas_told, not_lost, put_after, state_told, untold}
 use Rattle.wind_session.proofs.ToldLemmas.{given_up}
 use Rattle.trace_session.proofs.Telling.{last_given_up, last_told, lost_before, no_lines, none_waits}
 use Rattle.trace_session.proofs.forms.trace_board.Goals as goal
@@ -42,3 +43,7 @@ returns-in_err-observer-in-Timeline-clause-given_up g c =
 
 pub returns-in-Timeline-clause-fault : goal.returns-in-Timeline-clause-fault
 returns-in-Timeline-clause-fault g c = λ e. rose_earlier _ _ _ c.in_ok-end-in-Timeline.ensures.keeps.1 c.put_text-end.ensures.faults (c.put_text-end.ensures.fault (not_lost _ _ _ _ _ _ _ _ c.in_ok-end-in-Timeline.ensures.told) e)
+
+pub returns-in-Timeline-clause-told : goal.returns-in-Timeline-clause-told
+returns-in-Timeline-clause-told g c =
+    rw c.in-Timeline.is (areas_told _ _ _ _ _ _ _ _ c.in_ok-end-in-Timeline.ensures.told _ _ _ _ c.in_ok-close-in-Timeline.ensures refl (c.in_ok-areas-in-Timeline.ensures ∙ ap areas_of c.done.ensures) (put_after _ _ _ _ _ c.put_text-end.ensures.put))
