@@ -1,5 +1,5 @@
 -- The observations of a run are in order.
-use Rattle.std.proofs.Common.{◌≡◌, ℕ, zero, suc, ◌<◌, ◌≤◌, Bool, true, false, cond, List, [], ◌∷◌, length, map, get_or, Option, None, Some, refl, ap, ◌∙◌, arith}
+use Rattle.std.proofs.Common.{◌≡◌, ℕ, zero, suc, ◌<◌, ◌≤◌, Bool, true, false, cond, List, [], ◌∷◌, length, map, get_or, None, Some, refl, ap, ◌∙◌, arith}
 use Rattle.std.specs.Prelude.{unwrap_or}
 use Rattle.std.specs.List.{list_any}
 use Rattle.std.proofs.lemmas.Bool.{ne_eqb}
@@ -17,7 +17,6 @@ use Rattle.wind_machine.specs.Run.{Answers, after}
 use Rattle.wind_machine.specs.State.{State}
 use Rattle.board_changes.specs.Spans.{view_of}
 use Rattle.board_changes.specs.Tiling.{AreDistinct, AreInOrder, OneRunsLaw, SaysOnce, TilingLaw, last_time, said_at, says_running, seen_at, spans_until}
-use Rattle.board_changes.specs.declared.view.TaskView.{TaskView}
 use Rattle.board_trace.specs.Before.{before_step}
 use Rattle.board_trace.specs.Observed.{observation_of, observations}
 use Rattle.board_trace.specs.Snapshots.{snapshot_of, view_in}

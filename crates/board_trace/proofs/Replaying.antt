@@ -1,11 +1,10 @@
 -- A task's life after a step follows from that before it and what happens in the step.
-use Rattle.std.proofs.Common.{◌≡◌, ℕ, Bool, true, false, cond, List, [], ◌∷◌, ◌++◌, map, Option, None, Some, refl, sym, ap, ap₂, ◌∙◌, append_assoc}
+use Rattle.std.proofs.Common.{◌≡◌, ℕ, cond, List, [], ◌∷◌, ◌++◌, map, refl, sym, ap, ap₂, ◌∙◌, append_assoc}
 use Rattle.std.specs.Option.{option_map}
 use Rattle.std.proofs.lemmas.List.{append-nil}
 use Rattle.wind_machine.specs.Laws.{StepLaw}
 use Rattle.board_trace.specs.Mutexes.{mutex_named}
 use Rattle.wind_machine.specs.Replies.{step_reply}
-use Rattle.wind_machine.specs.State.{State}
 use Rattle.wind_machine.specs.declared.next.Next.{Next}
 use Rattle.board_changes.specs.declared.change.Change.{Change}
 use Rattle.board_changes.specs.Modules.{module_changes}
@@ -23,7 +22,7 @@ use Rattle.board_trace.specs.Messages.{messages}
 use Rattle.board_trace.specs.Outside.{is_hearing, switches}
 use Rattle.board_trace.specs.Owners.{owners}
 use Rattle.board_trace.specs.Snapshots.{after_step, snapshot_of}
-use Rattle.board_trace.specs.Steps.{changes, called, has_written, writes, is_instruction, instruction_of, causes, effects, step_happenings, happenings}
+use Rattle.board_trace.specs.Steps.{changes, has_written, writes, instruction_of, causes, effects, step_happenings, happenings}
 use Rattle.board_trace.specs.Views.{SnapshotState}
 use Rattle.board_trace.specs.declared.moment.BeforeStep.{BeforeStep}
 use Rattle.board_trace.specs.declared.moment.AfterStep.{AfterStep}

@@ -1,6 +1,6 @@
 //! The whole picture.
 
-ghost use Rattle.std.specs.Prelude.{◌<◌, ◌≤◌, ◌^◌};
+ghost use Rattle.std.specs.Prelude.{◌<◌, ◌^◌};
 
 use crate::areas::Area;
 use crate::axis::{Side, add_axis, add_ticks};

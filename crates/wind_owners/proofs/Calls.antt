@@ -1,7 +1,6 @@
 -- A kernel call changes the owner of no mutex, except of the one that it names.
 use Rattle.std.proofs.Common.{◌≡◌, ℕ, List, Option, None, Some, refl, ap, ◌∙◌}
 use Rattle.wind_base.specs.declared.gate.Gate.{Gate}
-use Rattle.inheritance.specs.Mutexes.{owner_in as owner_of}
 use Rattle.kernel_world.specs.State.{WorldState}
 use Rattle.kernel_world.specs.Actors.{caller_words}
 use Rattle.kernel_world.specs.CallWords.{call_by, call_of}

@@ -1,5 +1,5 @@
 -- Who owns a mutex after a step follows from who owned it before and the step's lines.
-use Rattle.std.proofs.Common.{◌≡◌, ℕ, Bool, true, false, cond, eqb, List, [], ◌∷◌, ◌++◌, map, Option, None, Some, refl, sym, ap, ap₂, ◌∙◌, subst}
+use Rattle.std.proofs.Common.{◌≡◌, ℕ, true, false, cond, eqb, List, [], ◌∷◌, ◌++◌, map, Option, None, Some, refl, sym, ap, ◌∙◌, subst}
 use Rattle.std.specs.Prelude.{◌&&◌, ◌||◌, not, is_some, is_none}
 use Rattle.std.proofs.lemmas.Bool.{and_parts, eq-eqb, eqb-true, eqb-false, ne_eqb}
 use Rattle.std.proofs.lemmas.Option.{same_Some}
@@ -10,9 +10,7 @@ use Rattle.kernel_world.specs.CallWords.{call_of as call_in}
 use Rattle.kernel_world.specs.declared.actor.Actor.{Actor}
 use Rattle.kernel_world.specs.declared.actor.Actor.TheVariants.{Task as by_task, Interrupt}
 use Rattle.kernel_world.specs.declared.call.Call.{Call}
-use Rattle.wind_machine.specs.LiveLoadingSaid.{FileSaid}
-use Rattle.wind_machine.specs.Good.{Good}
-use Rattle.wind_machine.specs.Machine.{actor_of, machine_step}
+use Rattle.wind_machine.specs.Machine.{actor_of}
 use Rattle.wind_machine.specs.Next.{next}
 use Rattle.wind_machine.specs.Processor.{gate_under, regs_of}
 use Rattle.wind_machine.specs.Replies.{step_reply}
@@ -24,9 +22,9 @@ use Rattle.wind_messages.specs.Messages.{is_at_work, is_call, step_start_world}
 use Rattle.wind_owners.specs.Owners.{OwnerLaw, OwnersLaw, call_at, call_by_actor, owner_replayed, owner_then, step_call}
 use Rattle.board_trace.specs.Mutexes.{mutex_named, owner_in}
 use Rattle.board_trace.specs.Before.{before_step, call_of, call_there, counter_at, counter_of, gate_of, gate_there, is_calling, is_on_processor, owner_at}
-use Rattle.board_trace.specs.Owners.{owner_changes, owners, owners_at, same_owner}
+use Rattle.board_trace.specs.Owners.{owner_changes, owners, owners_at}
 use Rattle.board_trace.specs.Snapshots.{after_step, snapshot_of}
-use Rattle.board_trace.specs.Steps.{causes, changes, effects, happenings, happenings_from, has_written, instruction_of, is_instruction, step_happenings, writes}
+use Rattle.board_trace.specs.Steps.{causes, changes, effects, happenings, has_written, instruction_of, is_instruction, step_happenings, writes}
 use Rattle.board_trace.specs.Level.{routines}
 use Rattle.board_trace.specs.Messages.{messages}
 use Rattle.board_trace.specs.Outside.{switches}

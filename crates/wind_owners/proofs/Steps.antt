@@ -1,15 +1,13 @@
 -- A step of the machine changes the owner of no mutex, except of the one that its call names.
-use Rattle.std.proofs.Common.{◌≡◌, ℕ, Bool, true, false, cond, eqb, List, Option, None, Some, refl, sym, ap, ◌∙◌, subst}
+use Rattle.std.proofs.Common.{◌≡◌, ℕ, true, false, cond, eqb, List, Option, None, Some, refl, ap, subst}
 use Rattle.std.specs.Option.{option_map}
 use Rattle.std.proofs.lemmas.Bool.{eqb-true}
 use Rattle.std.proofs.lemmas.Option.{same_Some}
 use Rattle.tick_file.specs.declared.event.Event.{Event}
 use Rattle.tick_file.specs.declared.event.Event.TheVariants.{Tick, Rx, Irq}
-use Rattle.con_line.specs.Lines.{has_line, first_line}
+use Rattle.con_line.specs.Lines.{has_line}
 use Rattle.id_table.specs.Idents.{shell_id}
-use Rattle.shell_parse.specs.Reading.{read_line}
 use Rattle.kernel_world.specs.Objects.{IsReady}
-use Rattle.kernel_world.specs.State.{WorldState}
 use Rattle.kernel_world.specs.declared.objects.Objects.{Objects}
 use Rattle.kernel_world.specs.declared.actor.Actor.{Actor}
 use Rattle.kernel_world.specs.declared.actor.Actor.TheVariants.{Task as by_task, Interrupt}
@@ -19,11 +17,10 @@ use Rattle.wind_machine.specs.LiveLoadingLoading.{shell}
 use Rattle.wind_machine.specs.LiveLoadingLaws.{AloneLaw}
 use Rattle.wind_machine.specs.State.{State}
 use Rattle.wind_machine.specs.Good.{Good}
-use Rattle.wind_machine.specs.Shell.{read_part}
-use Rattle.wind_machine.specs.Events.{event_comes, event_step, unreserved_world, without_next}
+use Rattle.wind_machine.specs.Events.{event_step}
 use Rattle.wind_machine.specs.ActorSteps.{load_step, routine_step, shell_step, shell_world, step_of, task_step}
 use Rattle.wind_machine.specs.Next.{next}
-use Rattle.wind_machine.specs.Machine.{actor_of, machine_step, settled_state, state_after, stepping}
+use Rattle.wind_machine.specs.Machine.{actor_of, machine_step, settled_state, state_after}
 use Rattle.wind_machine.specs.Processor.{gate_under}
 use Rattle.wind_machine.specs.declared.phase.Phase.{Phase}
 use Rattle.wind_machine.specs.declared.phase.Phase.TheVariants as phases
