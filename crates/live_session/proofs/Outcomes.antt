@@ -1,9 +1,13 @@
 -- The status of a session after its record was written, or not.
-use Rattle.std.proofs.Common.{◌≡◌, ◌≢◌, ℕ, List, Option, Result, Ok, Err, true, refl, sym, ap, ◌∙◌, subst, inr}
+use Rattle.std.proofs.Common.{◌≡◌, ◌≢◌, ℕ, List, [], true, false, Option, Result, Ok, Err, refl, sym, ap, ◌∙◌, subst, inr}
 use Rattle.std.specs.Prelude.{IfErr, OnOk, is_ok}
 use Rattle.wind_session.specs.declared.run.RunEnd.{RunEnd}
+use Rattle.wind_outside.specs.Files.{Files}
+use Rattle.live_session.specs.Command.{CommandState}
 use Rattle.live_session.specs.Ending.{IsGoing}
-use Rattle.live_session.specs.Session.{IsStatusOf, IsStop, IsTyped, Parts, status_unless}
+use Rattle.live_session.specs.Saving.{IsSaved, replay_limit}
+use Rattle.live_session.specs.Seen.{LiveState}
+use Rattle.live_session.specs.Session.{IsRefusal, IsStatusOf, IsStop, IsTyped, Parts, status_unless}
 use Rattle.live_session.specs.declared.saving.Unsaved.{Unsaved}
 use Rattle.live_session.specs.declared.saving.Unsaved.TheVariants as unsaved
 use Rattle.live_session.specs.declared.status.Status.{Status}
@@ -86,3 +90,20 @@ never_usage end s h e = subst (λ (t : Status). IsStatusOf end t) e h
 -- a session that ended has a board that can go on
 pub ended_going : (end : RunEnd) (s : Status) → IsStatusOf end s → s ≡ status.Ended → IsGoing end
 ended_going end s h e = subst (λ (t : Status). IsStatusOf end t) e h
+
+-- ---- a record that was not opened
+pub unopened_refusal : (failure : Unsaved) (c : CommandState) (files : Option Files) (rose : Type 0) → c.record_folder ≢ [] → (failure ≡ unsaved.Failed → rose) → IsRefusal (status_unless failure status.Ended) c files rose
+unopened_refusal unsaved.Failed c files rose named failed = (named, inr (failed refl))
+unopened_refusal unsaved.NoMemory c files rose named failed = tt
+
+pub unopened_status : (failure : Unsaved) → (status_unless failure status.Ended ≢ status.Usage) × (status_unless failure status.Ended ≢ status.ReadFault) × (status_unless failure status.Ended ≢ status.WriteFault)
+unopened_status unsaved.Failed = (λ e. cc, λ e. cc, λ e. cc)
+unopened_status unsaved.NoMemory = (λ e. cc, λ e. cc, λ e. cc)
+
+-- ---- or was: it is empty
+pub opened_record : (c : CommandState) (l : LiveState) (old new : Option Files) → l.console.bytes ≡ [] → l.ticks.bytes ≡ [] → l.board.steps ≡ 0
+    → IsSaved c l.console.bytes l.ticks.bytes (replay_limit l.board.steps false) old new → IsSaved c [] [] 0 old new
+opened_record c l old new console ticks steps saved =
+    subst (λ n. IsSaved c [] [] n old new) steps
+    (subst (λ text. IsSaved c [] text l.board.steps old new) ticks
+    (subst (λ text. IsSaved c text l.ticks.bytes l.board.steps old new) console saved))

@@ -48,7 +48,8 @@ pub record Closed (s : Status) (c : CommandState) (end : RunEnd) (l m : LiveStat
   pub runs : Runs end c.modules l before.session m after.session
   pub status_is : IsStatusOf end s
   pub typed : IsTyped s before.input after.input m.console.bytes (Talks c l m before after told end opened closed)
-  pub opened_is : opened.files ≡ before.records
+  pub unopened : c.record_folder ≡ [] → opened.files ≡ before.records
+  pub opens : c.record_folder ≢ [] → IsSaved c [] [] 0 before.records opened.files
   pub writes : WritesOnly c.record_folder before.records after.records
   pub saved : s ≡ status.Ended → c.record_folder ≢ [] → IsGoing end × IsSaved c m.console.bytes m.ticks.bytes (replay_limit m.board.steps (is_quiet end)) closed.files after.records
   pub unrecorded : s ≡ status.Unrecorded → (c.record_folder ≢ []) × RecordFailed before after
@@ -86,7 +87,8 @@ plays law s c end l m before after told opened closed h devices permitted begins
       run = run;
       status_is = h.status_is;
       begins = begins;
-      opened_is = h.opened_is;
+      unopened = h.unopened;
+      opens = h.opens;
       typed =
           typed_as s before.input after.input m.console.bytes (Talks c l m before after told end opened closed)
           (λ parts. IsTalk c parts shelf (setup_of c devices) old l before.session (moment m after.session told end) opened closed)

@@ -163,8 +163,8 @@ abbrev pub IsPermitted : CommandState → Option Files → Type 0
 IsPermitted c files = c.record_folder ≢ [] → c.force ≡ false → IsFree c.record_folder files
 
 -- a session was played with these arguments: its console file and its tick file, for which windplay starts a run; the
--- board of the first steps of that run; and what was shown is the text of these steps. It began with an empty record, and
--- each part of the input did what it asks for, until the record was written at the end
+-- board of the first steps of that run; and what was shown is the text of these steps. It began with an empty record,
+-- which was written, and each part of the input did what it asks for, until the record was written at the end
 pub record Played (s : Status) (c : CommandState) (devices : List (Option DeviceState)) (before after : LiveAround) : Type 0 where
   pub begin : LiveState
   pub live : LiveState
@@ -176,7 +176,8 @@ pub record Played (s : Status) (c : CommandState) (devices : List (Option Device
   pub run : IsAfterRun end (shelf_of before.session.files c) (setup_of c devices) live.console.bytes live.ticks.bytes live.board before.session.logged after.session.logged
   pub status_is : IsStatusOf end s
   pub begins : Begins (setup_of c devices) begin
-  pub opened_is : opened.files ≡ before.records
+  pub unopened : c.record_folder ≡ [] → opened.files ≡ before.records
+  pub opens : c.record_folder ≢ [] → IsSaved c [] [] 0 before.records opened.files
   pub typed : IsTyped s before.input after.input live.console.bytes
       (λ parts. IsTalk c parts (shelf_of before.session.files c) (setup_of c devices) before.session.logged begin before.session (moment live after.session told end) opened closed)
   pub permitted : IsPermitted c before.records
@@ -186,23 +187,27 @@ pub record Played (s : Status) (c : CommandState) (devices : List (Option Device
   pub unrecorded : s ≡ status.Unrecorded → (c.record_folder ≢ []) × RecordFailed before after
 
 -- ---- a session that was not played
--- its status: memory may run out at any time; otherwise there is a record that is not to be replaced, or asking for it
--- failed, so that the count of faults of its folder rose
+-- its status: memory may run out at any time; otherwise there is a record that is not to be replaced, or asking for it,
+-- making its folder or writing its files failed, so that the count of faults of its folder rose
 abbrev pub IsRefusal : Status → CommandState → Option Files → Type 0 → Type 0
 IsRefusal status.NoMemory c files rose = Unit {0}
-IsRefusal status.Unrecorded c files rose = (c.record_folder ≢ []) × (c.force ≡ false) × (IsTaken c.record_folder files ⊎ rose)
+IsRefusal status.Unrecorded c files rose = (c.record_folder ≢ []) × (((c.force ≡ false) × IsTaken c.record_folder files) ⊎ rose)
 IsRefusal s c files rose = ⊥
 
--- nothing was read, fetched, shown or written
+-- nothing was read, fetched or shown
 pub record IsUntouched (before after : LiveAround) : Type 0 where
   pub outside : after.session.logged ≡ before.session.logged
   pub input : after.input ≡ before.input
-  pub record_files : after.records ≡ before.records
+
+-- only files of a record that may be written were written
+pub record IsUnopened (c : CommandState) (before after : Option Files) : Type 0 where
+  pub writes : WritesOnly c.record_folder before after
+  pub permitted : IsPermitted c before ⊎ (after ≡ before)
 
 -- what these arguments leave
 abbrev pub Leaves : Status → Option CommandState → List (Option DeviceState) → LiveAround → LiveAround → Type 0
-Leaves s None devices before after = ((s ≡ status.Usage) ⊎ (s ≡ status.NoMemory)) × IsUntouched before after
-Leaves s (Some c) devices before after = (IsRefusal s c before.records (RecordFailed before after) × IsUntouched before after) ⊎ Played s c devices before after
+Leaves s None devices before after = ((s ≡ status.Usage) ⊎ (s ≡ status.NoMemory)) × IsUntouched before after × (after.records ≡ before.records)
+Leaves s (Some c) devices before after = (IsRefusal s c before.records (RecordFailed before after) × IsUntouched before after × IsUnopened c before.records after.records) ⊎ Played s c devices before after
 
 -- ---- the program
 -- a session of these arguments on a board with these devices

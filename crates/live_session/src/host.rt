@@ -8,7 +8,7 @@ ghost use Rattle.wind_base.specs.Limits.{longest_chunk};
 use crate::input::{Input, InputPart};
 use crate::record_folder::{Presence, RecordFolder};
 use std::alloc::Global;
-use std::io::{BufRead, ErrorKind, Read};
+use std::io::{BufRead, ErrorKind, Read, Write};
 use std::rt::Files;
 use std::{fs, io};
 use wind_base::limits::CHUNK_BYTES;
@@ -67,11 +67,17 @@ fn beside(alloc: Global, name: &str) -> io::Result<String> {
     Ok(path)
 }
 
-// Writes a file beside its place, and puts it there.
+// Writes a file beside its place, and puts it there. A file that is beside the place already isn't
+// touched, and then nothing is written. If writing fails, the new file is removed.
 fn write_whole<R: Files>(alloc: Global, rt: &R, name: &str, bytes: &[u8]) -> io::Result<()> {
     let path = beside(alloc, name)?;
-    fs::write(rt, path.as_str(), bytes)?;
-    fs::rename(rt, path.as_str(), name)
+    let mut file = fs::File::create_new(rt, path.as_str())?;
+    let written = file.write_all(bytes);
+    let placed = written.and_then(|()| fs::rename(rt, path.as_str(), name));
+    if placed.is_err() {
+        let _ = fs::remove_file(rt, path.as_str());
+    }
+    placed
 }
 
 impl<R: Files + Drop> RecordFolder for Counted<R> {
@@ -80,6 +86,17 @@ impl<R: Files + Drop> RecordFolder for Counted<R> {
     ghost files = { λ _. None };
 
     ghost faults = { λ f. f.faults };
+
+    fn make(&mut self, name: &str) -> Put {
+        match fs::create_dir(&self.handle, name) {
+            Ok(()) => Put::Done,
+            Err(error) if error.kind() == ErrorKind::AlreadyExists => Put::Done,
+            Err(_) => {
+                self.count_fault();
+                Put::Failed
+            }
+        }
+    }
 
     fn has(&mut self, name: &str) -> Presence {
         match fs::exists(&self.handle, name) {

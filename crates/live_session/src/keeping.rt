@@ -1,6 +1,6 @@
 //! Whether the record may be written, and the writing of it.
 
-ghost use Rattle.std.specs.Prelude.{◌≡◌, ◌≤◌, IsTrue, false, Err, IfErr, OnOk};
+ghost use Rattle.std.specs.Prelude.{◌≡◌, ◌≢◌, ◌≤◌, [], IsTrue, false, Err, IfErr, OnOk, OnErr};
 ghost use Rattle.wind_base.specs.Limits.{most_steps};
 ghost use Rattle.wind_outside.specs.Counts.{Rose};
 ghost use Rattle.wind_session.specs.Keeping.{messages};
@@ -21,7 +21,7 @@ use crate::messages::{tell, tell_no_memory, tell_of};
 use crate::record_folder::RecordFolder;
 use crate::saving::{Claim, Target, Unsaved, find_claim, replay_limit, save};
 use std::alloc::Global;
-use wind_outside::{Device, Sink};
+use wind_outside::{Device, Put, Sink};
 use wind_session::RunEnd;
 
 /// Whether the record may be written; says why not.
@@ -88,6 +88,39 @@ pub(crate) fn write_record<E: Sink, D: RecordFolder>(
         Err(Unsaved::NoMemory) => tell_no_memory(err),
     }
     saved
+}
+
+/// Makes the folder of the record, and writes the record of a session that begins. Says why not. Does
+/// nothing if no record is asked for.
+pub(crate) fn open_record<E: Sink, D: RecordFolder>(
+    alloc: Global,
+    target: Target,
+    live: &Live,
+    err: &mut E,
+    records: &mut D,
+) -> Result<(), Unsaved>
+    requires target { IsTarget target }
+    requires few { (live_seen ⟦<dyn Device as Device>⟧ live.now).board.steps ≤ most_steps }
+    ensures unnamed { target.entry.command.now.record.now ≡ [] → OnErr result ⊥
+        × (D.files records.new ≡ D.files records.old) }
+    ensures ok { OnOk result (target.entry.command.now.record.now ≢ [] → IsSaved (command_state target.entry.command.now)
+        (live_seen ⟦<dyn Device as Device>⟧ live.now).console.bytes
+        (live_seen ⟦<dyn Device as Device>⟧ live.now).ticks.bytes
+        (replay_limit_lem (live_seen ⟦<dyn Device as Device>⟧ live.now).board.steps false)
+        (D.files records.old) (D.files records.new)) }
+    ensures writes { WritesOnly target.entry.command.now.record.now (D.files records.old) (D.files records.new) }
+    ensures failed { result ≡ Err unsaved.Failed → Rose (D.faults records.old) (D.faults records.new) }
+    ensures never_falls { D.faults records.old ≤ D.faults records.new }
+{
+    if target.command.record.is_empty() {
+        return Ok(());
+    }
+    if records.make(target.command.record) == Put::Failed {
+        let name = target.command.record.as_bytes();
+        tell_of(err, name, b": the folder can't be made\n");
+        return Err(Unsaved::Failed);
+    }
+    write_record(alloc, target, live, err, records, RunEnd::Limit)
 }
 
 /// Writes the record now, if the command names a folder for it. Says what became of it.

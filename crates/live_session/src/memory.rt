@@ -164,6 +164,13 @@ impl RecordFolder for MemRecordFolder {
 
     ghost faults = { λ f. f.calls.faults };
 
+    fn make(&mut self, _name: &str) -> Put {
+        if self.calls.count() {
+            return Put::Failed;
+        }
+        Put::Done
+    }
+
     fn has(&mut self, name: &str) -> Presence {
         if self.calls.count() {
             return Presence::Failed;

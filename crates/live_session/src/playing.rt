@@ -15,7 +15,7 @@ ghost use Rattle.live_session.specs.declared.status.Status.TheVariants as status
 use crate::command::{Command, command_of};
 use crate::conversation::converse;
 use crate::input::Input;
-use crate::keeping::{may_record, write_record};
+use crate::keeping::{may_record, open_record, write_record};
 use crate::live::Live;
 use crate::messages::{tell, tell_no_memory};
 use crate::record::Record;
@@ -104,6 +104,9 @@ fn session<I: Input, F: Folder, O: Sink, E: Sink, D: RecordFolder>(
         tell_no_memory(err);
         return Status::NoMemory;
     };
+    if let Err(failure) = open_record(alloc, target, &live, err, records) {
+        return status_after(Status::Ended, Err(failure));
+    }
     writing_law();
     let closing = converse(alloc, target, &mut live, input, folder, out, err, records);
     tell_status(err, closing.status);
@@ -116,7 +119,8 @@ fn session<I: Input, F: Folder, O: Sink, E: Sink, D: RecordFolder>(
 
 /// Plays the session that the arguments ask for, with the lines of the input, on a board with these
 /// devices. If a record is asked for, one that is there stays unless the arguments say that it is
-/// replaced; then nothing is played. The record is written at the end.
+/// replaced; then nothing is played. Nothing is played either if its folder can't be made or its
+/// files can't be written. The record is written at the end.
 pub fn play_live<'a, I: Input, F: Folder, O: Sink, E: Sink, D: RecordFolder>(
     alloc: Global,
     words: &'a [&'a str],
