@@ -51,33 +51,33 @@ returns-clause-leaves g c =
     let writing = c.write_record-written in
     let folder = c.args.target.command.now.record.now in
     let named : folder ≢ [] = named_by folder (sym c.is_empty.ensures ∙ c.if-is_empty.false) in
-    let after : IsAfter writing.result closing.result.status c.status_after.result = record { ok = c.status_after.ensures.ok; err = c.status_after.ensures.err } in
-    inr (plays c.writing_law.ensures.written c.status_after.result (command_state c.args.target.command.now) closing.result.end _ _
+    let after : IsAfter writing.result closing.result.status c.status_after-2.result = record { ok = c.status_after-2.ensures.ok; err = c.status_after-2.ensures.err } in
+    inr (plays c.writing_law.ensures.written c.status_after-2.result (command_state c.args.target.command.now) closing.result.end _ _
     (live_around g.I.Input g.F.Folder g.O.Sink g.D.RecordFolder c.args.input.now c.args.folder.now c.args.out.now c.args.records.now)
     (live_around g.I.Input g.F.Folder g.O.Sink g.D.RecordFolder closing.new.input closing.new.folder closing.new.out writing.new.records)
     (messages g.E.Sink closing.new.err) (store g.D.RecordFolder c.open_record.new.records) (store g.D.RecordFolder closing.new.records)
     (record {
       runs = closing.ensures.runs;
-      status_is = after_status writing.result closing.result.status c.status_after.result closing.result.end after closing.ensures.status_is.0;
-      typed = after_typed writing.result closing.result.status c.status_after.result _ _ _ _ after closing.ensures.typed;
+      status_is = after_status writing.result closing.result.status c.status_after-2.result closing.result.end after closing.ensures.status_is.0;
+      typed = after_typed writing.result closing.result.status c.status_after-2.result _ _ _ _ after closing.ensures.typed;
       unopened = λ e. absurd (named e);
       opens = λ e.
-          let saved = c.in_default.ensures.ok e in
+          let saved = c.in_default-open_record.ensures.ok e in
           subst (λ (f : Option Files). IsSaved (command_state c.args.target.command.now) [] [] 0 f (g.D.RecordFolder.files c.open_record.new.records)) c.may_record.ensures.files
-          (opened_record _ _ _ _ c.in-Ok.ensures.begins.empty c.in-Ok.ensures.begins.no_ticks c.in-Ok.ensures.begins.no_steps saved);
+          (opened_record _ _ _ _ _ _ c.in-Ok.ensures.begins.empty c.in-Ok.ensures.begins.no_ticks c.in-Ok.ensures.begins.no_steps saved);
       writes =
           writes_both _ _ _ _
           (subst (λ (f : Option Files). WritesOnly folder f (g.D.RecordFolder.files c.open_record.new.records)) c.may_record.ensures.files c.open_record.ensures.writes)
           (writes_both _ _ _ _ closing.ensures.writes (writes_record _ _ _ named writing.ensures.others));
       saved = λ e some. (
         ended_going closing.result.end closing.result.status closing.ensures.status_is.0
-            (ended_same writing.result closing.result.status c.status_after.result after e),
-        after_recorded writing.result closing.result.status c.status_after.result _ after writing.ensures.ok e,
+            (ended_same writing.result closing.result.status c.status_after-2.result after e),
+        after_recorded writing.result closing.result.status c.status_after-2.result _ after writing.ensures.ok e,
       );
       unrecorded = λ e. (
         named,
         rose_earlier _ _ _ (omega (arith, c.may_record.ensures.never_falls, c.open_record.ensures.never_falls, closing.ensures.record_faults)) writing.ensures.never_falls
-            (writing.ensures.failed (after_failed writing.result closing.result.status c.status_after.result after closing.ensures.status_is.1 e)),
+            (writing.ensures.failed (after_failed writing.result closing.result.status c.status_after-2.result after closing.ensures.status_is.1 e)),
       );
     })
     _ (c.may_record.ensures.permitted (search rules)) c.in-Ok.ensures.begins)
@@ -86,19 +86,19 @@ pub returns-clause-known : goal.returns-clause-known
 returns-clause-known g c =
     let closing = c.converse-closing in
     let writing = c.write_record-written in
-    let after : IsAfter writing.result closing.result.status c.status_after.result = record { ok = c.status_after.ensures.ok; err = c.status_after.ensures.err } in
-    never_usage closing.result.end c.status_after.result
-    (after_status writing.result closing.result.status c.status_after.result closing.result.end after closing.ensures.status_is.0)
+    let after : IsAfter writing.result closing.result.status c.status_after-2.result = record { ok = c.status_after-2.ensures.ok; err = c.status_after-2.ensures.err } in
+    never_usage closing.result.end c.status_after-2.result
+    (after_status writing.result closing.result.status c.status_after-2.result closing.result.end after closing.ensures.status_is.0)
 
 pub returns-clause-read_fault : goal.returns-clause-read_fault
 returns-clause-read_fault g c = λ e.
-    let after : IsAfter c.write_record-written.result c.converse-closing.result.status c.status_after.result = record { ok = c.status_after.ensures.ok; err = c.status_after.ensures.err } in
-    c.converse-closing.ensures.read_fault (read_same c.write_record-written.result c.converse-closing.result.status c.status_after.result after e)
+    let after : IsAfter c.write_record-written.result c.converse-closing.result.status c.status_after-2.result = record { ok = c.status_after-2.ensures.ok; err = c.status_after-2.ensures.err } in
+    c.converse-closing.ensures.read_fault (read_same c.write_record-written.result c.converse-closing.result.status c.status_after-2.result after e)
 
 pub returns-clause-fault : goal.returns-clause-fault
 returns-clause-fault g c = λ e.
-    let after : IsAfter c.write_record-written.result c.converse-closing.result.status c.status_after.result = record { ok = c.status_after.ensures.ok; err = c.status_after.ensures.err } in
-    c.converse-closing.ensures.fault (put_same c.write_record-written.result c.converse-closing.result.status c.status_after.result after e)
+    let after : IsAfter c.write_record-written.result c.converse-closing.result.status c.status_after-2.result = record { ok = c.status_after-2.ensures.ok; err = c.status_after-2.ensures.err } in
+    c.converse-closing.ensures.fault (put_same c.write_record-written.result c.converse-closing.result.status c.status_after-2.result after e)
 
 pub returns-clause-keeps : goal.returns-clause-keeps
 returns-clause-keeps g c = c.converse-closing.ensures.runs.keeps
