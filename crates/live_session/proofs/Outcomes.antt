@@ -24,7 +24,7 @@ unless_status unsaved.NoMemory end status.Ended h = inr h
 unless_status failure end s h = h
 
 unless_stop : (failure : Unsaved) (s : Status) (left : Option (List ℕ)) (parts : Parts) → IsStop s left parts → IsStop (status_unless failure s) left parts
-unless_stop unsaved.Failed status.Ended left parts h = h
+unless_stop unsaved.Failed status.Ended left parts h = tt
 unless_stop unsaved.NoMemory status.Ended left parts h = tt
 unless_stop failure s left parts h = h
 

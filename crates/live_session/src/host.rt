@@ -8,6 +8,7 @@ ghost use Rattle.wind_base.specs.Limits.{longest_chunk};
 use crate::input::{Input, InputPart};
 use crate::record_folder::{Presence, RecordFolder};
 use std::alloc::Global;
+use std::fs::{OpenFile, OpenOptions};
 use std::io::{BufRead, ErrorKind, Read, Write};
 use std::rt::Files;
 use std::{fs, io};
@@ -80,6 +81,17 @@ fn write_whole<R: Files>(alloc: Global, rt: &R, name: &str, bytes: &[u8]) -> io:
     placed
 }
 
+// Adds bytes at the end of a file. If that fails, the file is cut back to its length.
+fn write_more<R: Files>(rt: &R, name: &str, bytes: &[u8]) -> io::Result<()> {
+    let mut file = OpenOptions::new().append(true).open(rt, name)?;
+    let len = file.metadata()?.len();
+    let written = file.write_all(bytes);
+    if written.is_err() {
+        let _ = file.set_len(len);
+    }
+    written
+}
+
 impl<R: Files + Drop> RecordFolder for Counted<R> {
     ghost use Rattle.std.specs.Prelude.{None};
 
@@ -112,6 +124,17 @@ impl<R: Files + Drop> RecordFolder for Counted<R> {
 
     fn replace(&mut self, alloc: Global, name: &str, bytes: &[u8]) -> Put {
         if write_whole(alloc, &self.handle, name, bytes).is_err() {
+            self.count_fault();
+            return Put::Failed;
+        }
+        Put::Done
+    }
+
+    fn append(&mut self, _alloc: Global, name: &str, bytes: &[u8]) -> Put {
+        if bytes.is_empty() {
+            return Put::Done;
+        }
+        if write_more(&self.handle, name, bytes).is_err() {
             self.count_fault();
             return Put::Failed;
         }

@@ -8,7 +8,7 @@ ghost use Rattle.live_session.specs.Ending.{is_quiet};
 ghost use Rattle.live_session.specs.LiveAround.{store};
 ghost use Rattle.live_session.specs.Moments.{IsTold};
 ghost use Rattle.live_session.specs.Obeying.{Saves};
-ghost use Rattle.live_session.specs.Saving.{IsSaved, KeepsOthers, WritesOnly, replay_limit as replay_limit_lem};
+ghost use Rattle.live_session.specs.Saving.{IsSaved, IsSavedInPart, KeepsOthers, WritesOnly, replay_limit as replay_limit_lem};
 ghost use Rattle.live_session.specs.Seen.{live_seen};
 ghost use Rattle.live_session.specs.Session.{IsPermitted, IsRefusal};
 ghost use Rattle.live_session.specs.Telling.{failure_text};
@@ -70,6 +70,11 @@ pub(crate) fn write_record<E: Sink, D: RecordFolder>(
         (live_seen ⟦<dyn Device as Device>⟧ live.now).ticks.bytes
         (replay_limit_lem (live_seen ⟦<dyn Device as Device>⟧ live.now).board.steps (is_quiet end))
         (D.files records.old) (D.files records.new)) }
+    ensures parts { IsSavedInPart (command_state target.entry.command.now)
+        (live_seen ⟦<dyn Device as Device>⟧ live.now).console.bytes
+        (live_seen ⟦<dyn Device as Device>⟧ live.now).ticks.bytes
+        (replay_limit_lem (live_seen ⟦<dyn Device as Device>⟧ live.now).board.steps (is_quiet end))
+        (D.files records.old) (D.files records.new) }
     ensures others { KeepsOthers target.entry.command.now.record.now (D.files records.old) (D.files records.new) }
     ensures failed { result ≡ Err unsaved.Failed → Rose (D.faults records.old) (D.faults records.new) }
     ensures never_falls { D.faults records.old ≤ D.faults records.new }
@@ -137,6 +142,11 @@ pub(crate) fn save_now<E: Sink, D: RecordFolder>(
     ensures saves { Saves (command_state target.entry.command.now) (live_seen ⟦<dyn Device as Device>⟧ live.now) end
         (messages ⟦<E as Sink>⟧ err.old) (messages ⟦<E as Sink>⟧ err.new)
         (store ⟦<D as RecordFolder>⟧ records.old) (store ⟦<D as RecordFolder>⟧ records.new) }
+    ensures parts { target.entry.command.now.record.now ≢ [] → IsSavedInPart (command_state target.entry.command.now)
+        (live_seen ⟦<dyn Device as Device>⟧ live.now).console.bytes
+        (live_seen ⟦<dyn Device as Device>⟧ live.now).ticks.bytes
+        (replay_limit_lem (live_seen ⟦<dyn Device as Device>⟧ live.now).board.steps (is_quiet end))
+        (D.files records.old) (D.files records.new) }
     ensures writes { WritesOnly target.entry.command.now.record.now (D.files records.old) (D.files records.new) }
     ensures never_falls { D.faults records.old ≤ D.faults records.new }
 {

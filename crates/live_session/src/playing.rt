@@ -17,7 +17,7 @@ use crate::conversation::converse;
 use crate::input::Input;
 use crate::keeping::{may_record, open_record, write_record};
 use crate::live::Live;
-use crate::messages::{tell, tell_no_memory};
+use crate::messages::{tell, tell_no_memory, tell_of};
 use crate::record::Record;
 use crate::record_folder::RecordFolder;
 use crate::saving::{Target, Unsaved, paths_of};
@@ -28,10 +28,12 @@ use wind_base::NoMemory;
 use wind_outside::{Device, Folder, Sink, Slots};
 use wind_session::{Board, CommandErr, tell_usage};
 
-// Says why a session ended.
-fn tell_status<E: Sink>(err: &mut E, status: Status) {
+// Says why a session ended before its record was written at its end.
+fn tell_status<E: Sink>(err: &mut E, target: Target, status: Status) {
+    let name = target.command.record.as_bytes();
     match status {
-        Status::Ended | Status::Usage | Status::Unrecorded => {}
+        Status::Ended | Status::Usage => {}
+        Status::Unrecorded => tell_of(err, name, b": the record was not written\n"),
         Status::ReadFault => tell(err, b"reading failed"),
         Status::WriteFault => tell(err, b"writing failed"),
         Status::NoMemory => tell_no_memory(err),
@@ -109,8 +111,8 @@ fn session<I: Input, F: Folder, O: Sink, E: Sink, D: RecordFolder>(
     }
     writing_law();
     let closing = converse(alloc, target, &mut live, input, folder, out, err, records);
-    tell_status(err, closing.status);
-    if target.command.record.is_empty() {
+    tell_status(err, target, closing.status);
+    if target.command.record.is_empty() || closing.unsaved.is_some() {
         return closing.status;
     }
     let written = write_record(alloc, target, &live, err, records, closing.end);

@@ -4,7 +4,7 @@ ghost use Rattle.std.specs.Prelude.{◌≡◌, ℕ, ◌≤◌, Option, IfSome};
 ghost use Rattle.wind_outside.specs.Counts.{Rose};
 ghost use Rattle.wind_outside.specs.Files.{Files};
 ghost use Rattle.wind_outside.specs.declared.sink.Put.TheVariants as puts;
-ghost use Rattle.live_session.specs.Folder.{IsPresence, Replaced};
+ghost use Rattle.live_session.specs.Folder.{IsPresence, Lengthened, Replaced};
 ghost use Rattle.live_session.specs.declared.record_folder.Presence.TheVariants as presence;
 
 use std::alloc::Global;
@@ -49,6 +49,15 @@ pub trait RecordFolder {
     /// a part of a new one there if it can't remove it.
     fn replace(&mut self, alloc: Global, name: &str, bytes: &[u8]) -> Put
         ensures done { result ≡ puts.Done → Replaced (files self.old) (files self.new) name.now bytes.now }
+        ensures kept { result ≡ puts.Failed → files self.new ≡ files self.old }
+        ensures failed { result ≡ puts.Failed → Rose (faults self.old) (faults self.new) }
+        ensures never_falls { faults self.old ≤ faults self.new };
+
+    /// Adds bytes at the end of the file with this name, which must be there. Writing can fail, and
+    /// counts as a fault; then the file is cut back to its length, and the files that a contract sees
+    /// are as before. The real folder may leave a part of the bytes if it can't cut the file back.
+    fn append(&mut self, alloc: Global, name: &str, bytes: &[u8]) -> Put
+        ensures done { result ≡ puts.Done → Lengthened (files self.old) (files self.new) name.now bytes.now }
         ensures kept { result ≡ puts.Failed → files self.new ≡ files self.old }
         ensures failed { result ≡ puts.Failed → Rose (faults self.old) (faults self.new) }
         ensures never_falls { faults self.old ≤ faults self.new };
