@@ -1,20 +1,24 @@
 -- The files of a record that was written whole.
-use Rattle.std.proofs.Common.{◌≡◌, ℕ, ◌≤◌, List, Option, inl, inr, subst, sym, arith}
+use Rattle.std.proofs.Common.{◌≡◌, ℕ, ◌≤◌, Bool, List, Option, None, inl, inr, refl, subst, sym, arith}
 use Rattle.std.specs.Prelude.{IfSome, ◌⊎◌}
 use Rattle.wind_base.specs.Limits.{most_steps}
 use Rattle.wind_outside.specs.Files.{Files}
 use Rattle.tick_file.specs.Writing.{WritingLaw}
 use Rattle.wind_machine.specs.Extending.{Setup}
+use Rattle.wind_session.specs.Keeping.{Around}
 use Rattle.wind_session.specs.Modules.{Shelf}
 use Rattle.wind_session.specs.Outside.{Outside}
 use Rattle.wind_session.specs.declared.run.RunEnd.{RunEnd}
+use Rattle.wind_session.specs.declared.run.RunEnd.TheVariants as ends
 use Rattle.live_session.specs.Command.{CommandState}
 use Rattle.live_session.specs.Folder.{Replaced}
-use Rattle.live_session.specs.Journal.{Holds, IsAlwaysReplayed, IsCurrent, scene}
-use Rattle.live_session.specs.Saving.{IsSaved, IsSavedInPart, command_path, command_text, console_path, ticks_path}
+use Rattle.live_session.specs.Journal.{Holds, IsAlwaysReplayed, IsCurrent, Journaled, scene}
+use Rattle.live_session.specs.LiveAround.{Store}
+use Rattle.live_session.specs.Saving.{IsSaved, IsSavedInPart, WritesOnly, replay_limit, command_path, command_text, console_path, ticks_path}
 use Rattle.live_session.specs.Seen.{IsRun, IsSound, LiveState}
 use Rattle.live_session.proofs.Journaling.{always_on, always_same, always_written}
 use Rattle.live_session.proofs.Replaying.{replayed_here}
+use Rattle.live_session.proofs.Replays.{limit_reached, limit_within}
 use Rattle.live_session.proofs.Scenes.{all_held, console_written, limit_written, ticks_written}
 
 -- ---- whatever the files were
@@ -91,3 +95,17 @@ module _ (law : WritingLaw) (c : CommandState) (l : LiveState) (end : RunEnd) (l
   saved_in_part (inr (with_console, one, inl same)) = one_written with_console one same
   saved_in_part (inr (with_console, one, inr (with_ticks, two, inl same))) = two_written with_console one with_ticks two same
   saved_in_part (inr (with_console, one, inr (with_ticks, two, inr three))) = all_written with_console one with_ticks two three
+
+-- ---- in the middle of a session
+pub journal_saved : WritingLaw → (c : CommandState) (end : RunEnd) (l : LiveState) (a : Around) (before after : Store) (over : Bool) → IsSound l → WritesOnly c.record_folder before.files after.files → before.faults ≤ after.faults
+    → IsSavedInPart c l.console.bytes l.ticks.bytes (replay_limit l.board.steps over) before.files after.files → Journaled c None end l a before l a after
+journal_saved law c end l a before after over sound writes faults parts =
+    let ends_so = saved_in_part law c l ends.Limit (replay_limit l.board.steps over) sound (limit_reached l.board.steps over) (limit_within l.board.steps over sound.few) before.files after.files in
+    record {
+      writes = writes;
+      faults = faults;
+      failed = λ x. cc;
+      stuck = λ h. absurd (h refl);
+      current = λ named now none. (ends_so now parts).0;
+      always = λ named now shelf setup old here. (ends_so now parts).1 shelf setup old a.logged here.live;
+    }

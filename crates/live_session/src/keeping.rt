@@ -1,15 +1,16 @@
 //! Whether the record may be written, and the writing of it.
 
-ghost use Rattle.std.specs.Prelude.{◌≡◌, ◌≢◌, ◌≤◌, [], IsTrue, false, Err, IfErr, OnOk, OnErr};
+ghost use Rattle.std.specs.Prelude.{◌≡◌, ◌≢◌, ◌≤◌, [], IsTrue, None, false, Err, IfErr, OnOk, OnErr};
 ghost use Rattle.wind_base.specs.Limits.{most_steps};
 ghost use Rattle.wind_outside.specs.Counts.{Rose};
-ghost use Rattle.wind_session.specs.Keeping.{messages};
+ghost use Rattle.wind_session.specs.Keeping.{Around, messages};
 ghost use Rattle.live_session.specs.Ending.{is_quiet};
+ghost use Rattle.live_session.specs.Journal.{Journaled};
 ghost use Rattle.live_session.specs.LiveAround.{store};
 ghost use Rattle.live_session.specs.Moments.{IsTold};
 ghost use Rattle.live_session.specs.Obeying.{Saves};
 ghost use Rattle.live_session.specs.Saving.{IsSaved, IsSavedInPart, KeepsOthers, WritesOnly, replay_limit as replay_limit_lem};
-ghost use Rattle.live_session.specs.Seen.{live_seen};
+ghost use Rattle.live_session.specs.Seen.{live_seen, IsSound};
 ghost use Rattle.live_session.specs.Session.{IsPermitted, IsRefusal};
 ghost use Rattle.live_session.specs.Telling.{failure_text};
 ghost use Rattle.live_session.specs.Words.{command_state, IsTarget};
@@ -21,6 +22,7 @@ use crate::messages::{tell, tell_no_memory, tell_of};
 use crate::record_folder::RecordFolder;
 use crate::saving::{Claim, Target, Unsaved, find_claim, replay_limit, save};
 use std::alloc::Global;
+use tick_file::writing_law;
 use wind_outside::{Device, Put, Sink};
 use wind_session::RunEnd;
 
@@ -138,18 +140,15 @@ pub(crate) fn save_now<E: Sink, D: RecordFolder>(
     end: RunEnd,
 )
     requires target { IsTarget target }
-    requires few { (live_seen ⟦<dyn Device as Device>⟧ live.now).board.steps ≤ most_steps }
+    requires sound { IsSound (live_seen ⟦<dyn Device as Device>⟧ live.now) }
     ensures saves { Saves (command_state target.entry.command.now) (live_seen ⟦<dyn Device as Device>⟧ live.now) end
         (messages ⟦<E as Sink>⟧ err.old) (messages ⟦<E as Sink>⟧ err.new)
         (store ⟦<D as RecordFolder>⟧ records.old) (store ⟦<D as RecordFolder>⟧ records.new) }
-    ensures parts { target.entry.command.now.record.now ≢ [] → IsSavedInPart (command_state target.entry.command.now)
-        (live_seen ⟦<dyn Device as Device>⟧ live.now).console.bytes
-        (live_seen ⟦<dyn Device as Device>⟧ live.now).ticks.bytes
-        (replay_limit_lem (live_seen ⟦<dyn Device as Device>⟧ live.now).board.steps (is_quiet end))
-        (D.files records.old) (D.files records.new) }
-    ensures writes { WritesOnly target.entry.command.now.record.now (D.files records.old) (D.files records.new) }
-    ensures never_falls { D.faults records.old ≤ D.faults records.new }
+    ensures journal { (now : Around) → Journaled (command_state target.entry.command.now) None end
+        (live_seen ⟦<dyn Device as Device>⟧ live.now) now (store ⟦<D as RecordFolder>⟧ records.old)
+        (live_seen ⟦<dyn Device as Device>⟧ live.now) now (store ⟦<D as RecordFolder>⟧ records.new) }
 {
+    writing_law();
     if target.command.record.is_empty() {
         tell(err, b"nothing is saved without --record");
         return;
