@@ -1,6 +1,6 @@
 -- How a conversation closes.
-use Rattle.std.proofs.Common.{◌≡◌, ◌≢◌, ℕ, List, [], Option, None, Some, refl, inl, inr}
-use Rattle.std.specs.Prelude.{IfSome}
+use Rattle.std.proofs.Common.{◌≡◌, ◌≢◌, ℕ, true, false, List, [], Option, None, Some, refl, inl, inr}
+use Rattle.std.specs.Prelude.{IfSome, is_some}
 use Rattle.wind_session.specs.declared.run.RunEnd.{RunEnd}
 use Rattle.wind_session.specs.declared.run.RunEnd.TheVariants as ends
 use Rattle.live_session.specs.Ending.{IsGoing}
@@ -85,3 +85,16 @@ stop_heard status.Usage left parts known over = tt
 stop_heard status.ReadFault left parts known over = tt
 stop_heard status.WriteFault left parts known over = tt
 stop_heard status.NoMemory left parts known over = tt
+
+-- ---- a file of the record that was not written
+pub is_failure : (failure : Option Unsaved) → is_some failure ≡ true → failure ≢ None
+is_failure None some = absurd (cc)
+is_failure (Some failure) some = λ e. cc
+
+pub no_failure : (failure : Option Unsaved) → is_some failure ≡ false → failure ≡ None
+no_failure None some = refl
+no_failure (Some failure) some = absurd (cc)
+
+pub some_failure : (failure : Option Unsaved) (cause : Unsaved) → failure ≡ Some cause → failure ≢ None
+some_failure None cause e = absurd (cc)
+some_failure (Some failure) cause e = λ n. cc

@@ -30,6 +30,10 @@ current_saved c l old new sound saved = record {
   held = all_held c l.console.bytes l.ticks.bytes l.board.steps old saved.with_console saved.with_ticks new saved.first saved.second saved.last;
 }
 
+-- the files before it may be said otherwise
+pub saved_from : (c : CommandState) (console ticks : List ℕ) (limit : ℕ) (old older new : Option Files) → old ≡ older → IsSaved c console ticks limit old new → IsSaved c console ticks limit older new
+saved_from c console ticks limit old older new same saved = subst (λ (f : Option Files). IsSaved c console ticks limit f new) same saved
+
 -- ---- if they were current
 module _ (law : WritingLaw) (c : CommandState) (l : LiveState) (end : RunEnd) (limit : ℕ) (sound : IsSound l) (reached : l.board.steps ≤ limit) (few : limit ≤ most_steps) (old new : Option Files) (now : IsCurrent c l old) where
   abbrev Ends : Type 0

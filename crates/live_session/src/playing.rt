@@ -112,7 +112,10 @@ fn session<I: Input, F: Folder, O: Sink, E: Sink, D: RecordFolder>(
     writing_law();
     let closing = converse(alloc, target, &mut live, input, folder, out, err, records);
     tell_status(err, target, closing.status);
-    if target.command.record.is_empty() || closing.unsaved.is_some() {
+    if target.command.record.is_empty() {
+        return closing.status;
+    }
+    if closing.unsaved.is_some() {
         return closing.status;
     }
     let written = write_record(alloc, target, &live, err, records, closing.end);

@@ -11,8 +11,14 @@ use Rattle.live_session.specs.Words.{command_state}
 use Rattle.live_session.specs.declared.saving.Unsaved.{Unsaved}
 use Rattle.live_session.specs.declared.saving.Unsaved.TheVariants as unsaved
 use Rattle.live_session.specs.declared.status.Status.{Status}
+use Rattle.live_session.specs.declared.status.Status.TheVariants as status
+use Rattle.live_session.proofs.Closings.{is_failure, no_failure, some_failure}
+use Rattle.live_session.proofs.Journaling.{always_on}
+use Rattle.live_session.proofs.Moving.{run_at}
 use Rattle.live_session.proofs.OtherFiles.{named_by, writes_both, writes_kept, writes_record}
 use Rattle.live_session.proofs.Outcomes.{IsAfter, after_failed, after_recorded, after_status, after_typed, ended_going, ended_same, never_usage, opened_record, put_same, read_same, unopened_refusal, unopened_status}
+use Rattle.live_session.proofs.Replays.{limit_reached, limit_within}
+use Rattle.live_session.proofs.SavedFiles.{current_saved, saved_from, saved_in_part}
 use Rattle.live_session.proofs.Whole.{plays}
 use Rattle.live_session.proofs.playing.session.Goals as goal
 
@@ -25,60 +31,106 @@ returns-then-is_empty-clause-leaves g c =
     inr (plays c.writing_law.ensures.written closing.result.status (command_state c.args.target.command.now) closing.result.end _ _
     (live_around g.I.Input g.F.Folder g.O.Sink g.D.RecordFolder c.args.input.now c.args.folder.now c.args.out.now c.args.records.now)
     (live_around g.I.Input g.F.Folder g.O.Sink g.D.RecordFolder closing.new.input closing.new.folder closing.new.out closing.new.records)
-    (messages g.E.Sink closing.new.err) (store g.D.RecordFolder c.open_record.new.records) (store g.D.RecordFolder closing.new.records)
+    (messages g.E.Sink closing.new.err) closing.result.unsaved (store g.D.RecordFolder c.open_record.new.records) (store g.D.RecordFolder closing.new.records)
     (record {
       runs = closing.ensures.runs;
-      status_is = closing.ensures.status_is.0;
+      status_is = closing.ensures.status_is;
       typed = closing.ensures.typed;
       unopened = λ e. (c.open_record.ensures.unnamed e).1 ∙ c.may_record.ensures.files;
       opens = λ e. absurd (e none);
       writes =
           writes_both _ _ _ _
           (subst (λ (f : Option Files). WritesOnly folder f (g.D.RecordFolder.files c.open_record.new.records)) c.may_record.ensures.files c.open_record.ensures.writes)
-          closing.ensures.writes;
+          closing.ensures.journal.writes;
       saved = λ e named. absurd (named none);
-      unrecorded = λ e. absurd (closing.ensures.status_is.1 e);
+      unrecorded = λ e.
+          let named = (closing.ensures.journal.stuck (some_failure _ _ (closing.ensures.unrecorded e))).0 in
+          absurd (named none);
+      safe = λ named. absurd (named none);
     })
     _ (c.may_record.ensures.permitted (search rules)) c.in-Ok.ensures.begins)
 
 pub returns-then-is_empty-clause-known : goal.returns-then-is_empty-clause-known
-returns-then-is_empty-clause-known g c = never_usage c.converse-closing.result.end c.converse-closing.result.status c.converse-closing.ensures.status_is.0
+returns-then-is_empty-clause-known g c = never_usage c.converse-closing.result.end c.converse-closing.result.status c.converse-closing.ensures.status_is
 
--- ---- the record was written, or not
+-- ---- a file of the record was not written in the middle of the session
+pub returns-then-is_some-clause-leaves : goal.returns-then-is_some-clause-leaves
+returns-then-is_some-clause-leaves g c =
+    let closing = c.converse-closing in
+    let command = command_state c.args.target.command.now in
+    let folder = c.args.target.command.now.record.now in
+    let named : folder ≢ [] = named_by folder (sym c.is_empty.ensures ∙ c.if-is_empty.false) in
+    let saved = saved_from _ _ _ _ _ _ _ c.may_record.ensures.files (c.in_default-open_record.ensures.ok named) in
+    let stuck = is_failure closing.result.unsaved (sym c.is_some.ensures ∙ c.if-is_some.true) in
+    inr (plays c.writing_law.ensures.written closing.result.status command closing.result.end _ _
+    (live_around g.I.Input g.F.Folder g.O.Sink g.D.RecordFolder c.args.input.now c.args.folder.now c.args.out.now c.args.records.now)
+    (live_around g.I.Input g.F.Folder g.O.Sink g.D.RecordFolder closing.new.input closing.new.folder closing.new.out closing.new.records)
+    (messages g.E.Sink closing.new.err) closing.result.unsaved (store g.D.RecordFolder c.open_record.new.records) (store g.D.RecordFolder closing.new.records)
+    (record {
+      runs = closing.ensures.runs;
+      status_is = closing.ensures.status_is;
+      typed = closing.ensures.typed;
+      unopened = λ e. absurd (named e);
+      opens = λ e. opened_record _ _ _ _ _ _ c.in-Ok.ensures.begins.empty c.in-Ok.ensures.begins.no_ticks c.in-Ok.ensures.begins.no_steps saved;
+      writes =
+          writes_both _ _ _ _
+          (subst (λ (f : Option Files). WritesOnly folder f (g.D.RecordFolder.files c.open_record.new.records)) c.may_record.ensures.files c.open_record.ensures.writes)
+          closing.ensures.journal.writes;
+      saved = λ e some. absurd (closing.ensures.unended stuck e);
+      unrecorded = λ e. (
+        named,
+        rose_earlier _ _ _ (omega (arith, c.may_record.ensures.never_falls, c.open_record.ensures.never_falls)) closing.ensures.journal.faults
+            (closing.ensures.journal.failed (closing.ensures.unrecorded e)),
+      );
+      safe = λ some. (saved, closing.ensures.journal.always named (current_saved command _ _ _ c.in-Ok.ensures.begins.sound saved));
+    })
+    _ (c.may_record.ensures.permitted (search rules)) c.in-Ok.ensures.begins)
+
+pub returns-then-is_some-clause-known : goal.returns-then-is_some-clause-known
+returns-then-is_some-clause-known g c = never_usage c.converse-closing.result.end c.converse-closing.result.status c.converse-closing.ensures.status_is
+
+-- ---- the record was written at the end, or not
 pub returns-clause-leaves : goal.returns-clause-leaves
 returns-clause-leaves g c =
     let closing = c.converse-closing in
     let writing = c.write_record-written in
+    let command = command_state c.args.target.command.now in
     let folder = c.args.target.command.now.record.now in
     let named : folder ≢ [] = named_by folder (sym c.is_empty.ensures ∙ c.if-is_empty.false) in
+    let saved = saved_from _ _ _ _ _ _ _ c.may_record.ensures.files (c.in_default-open_record.ensures.ok named) in
+    let none = no_failure closing.result.unsaved (sym c.is_some.ensures ∙ c.if-is_some.false) in
+    let known : closing.result.status ≢ status.Unrecorded = λ e. some_failure _ _ (closing.ensures.unrecorded e) none in
+    let opened = current_saved command _ _ _ c.in-Ok.ensures.begins.sound saved in
     let after : IsAfter writing.result closing.result.status c.status_after-2.result = record { ok = c.status_after-2.ensures.ok; err = c.status_after-2.ensures.err } in
-    inr (plays c.writing_law.ensures.written c.status_after-2.result (command_state c.args.target.command.now) closing.result.end _ _
+    inr (plays c.writing_law.ensures.written c.status_after-2.result command closing.result.end _ _
     (live_around g.I.Input g.F.Folder g.O.Sink g.D.RecordFolder c.args.input.now c.args.folder.now c.args.out.now c.args.records.now)
     (live_around g.I.Input g.F.Folder g.O.Sink g.D.RecordFolder closing.new.input closing.new.folder closing.new.out writing.new.records)
-    (messages g.E.Sink closing.new.err) (store g.D.RecordFolder c.open_record.new.records) (store g.D.RecordFolder closing.new.records)
+    (messages g.E.Sink closing.new.err) closing.result.unsaved (store g.D.RecordFolder c.open_record.new.records) (store g.D.RecordFolder closing.new.records)
     (record {
       runs = closing.ensures.runs;
-      status_is = after_status writing.result closing.result.status c.status_after-2.result closing.result.end after closing.ensures.status_is.0;
+      status_is = after_status writing.result closing.result.status c.status_after-2.result closing.result.end after closing.ensures.status_is;
       typed = after_typed writing.result closing.result.status c.status_after-2.result _ _ _ _ after closing.ensures.typed;
       unopened = λ e. absurd (named e);
-      opens = λ e.
-          let saved = c.in_default-open_record.ensures.ok e in
-          subst (λ (f : Option Files). IsSaved (command_state c.args.target.command.now) [] [] 0 f (g.D.RecordFolder.files c.open_record.new.records)) c.may_record.ensures.files
-          (opened_record _ _ _ _ _ _ c.in-Ok.ensures.begins.empty c.in-Ok.ensures.begins.no_ticks c.in-Ok.ensures.begins.no_steps saved);
+      opens = λ e. opened_record _ _ _ _ _ _ c.in-Ok.ensures.begins.empty c.in-Ok.ensures.begins.no_ticks c.in-Ok.ensures.begins.no_steps saved;
       writes =
           writes_both _ _ _ _
           (subst (λ (f : Option Files). WritesOnly folder f (g.D.RecordFolder.files c.open_record.new.records)) c.may_record.ensures.files c.open_record.ensures.writes)
-          (writes_both _ _ _ _ closing.ensures.writes (writes_record _ _ _ named writing.ensures.others));
+          (writes_both _ _ _ _ closing.ensures.journal.writes (writes_record _ _ _ named writing.ensures.others));
       saved = λ e some. (
-        ended_going closing.result.end closing.result.status closing.ensures.status_is.0
+        ended_going closing.result.end closing.result.status closing.ensures.status_is
             (ended_same writing.result closing.result.status c.status_after-2.result after e),
         after_recorded writing.result closing.result.status c.status_after-2.result _ after writing.ensures.ok e,
       );
       unrecorded = λ e. (
         named,
-        rose_earlier _ _ _ (omega (arith, c.may_record.ensures.never_falls, c.open_record.ensures.never_falls, closing.ensures.record_faults)) writing.ensures.never_falls
-            (writing.ensures.failed (after_failed writing.result closing.result.status c.status_after-2.result after closing.ensures.status_is.1 e)),
+        rose_earlier _ _ _ (omega (arith, c.may_record.ensures.never_falls, c.open_record.ensures.never_falls, closing.ensures.journal.faults)) writing.ensures.never_falls
+            (writing.ensures.failed (after_failed writing.result closing.result.status c.status_after-2.result after known e)),
       );
+      safe = λ some. (saved, λ shelf setup old here.
+          always_on command shelf setup old.bytes _ _ _ (closing.ensures.journal.always named opened shelf setup old here)
+          ((saved_in_part c.writing_law.ensures.written command _ closing.result.end _ closing.ensures.runs.sound (limit_reached _ _) (limit_within _ _ closing.ensures.runs.sound.few) _ _
+          (closing.ensures.journal.current named opened none) writing.ensures.parts).1 shelf setup old _
+          (run_at _ shelf setup old _ _ here closing.result.end _ _ closing.ensures.runs)));
     })
     _ (c.may_record.ensures.permitted (search rules)) c.in-Ok.ensures.begins)
 
@@ -88,7 +140,7 @@ returns-clause-known g c =
     let writing = c.write_record-written in
     let after : IsAfter writing.result closing.result.status c.status_after-2.result = record { ok = c.status_after-2.ensures.ok; err = c.status_after-2.ensures.err } in
     never_usage closing.result.end c.status_after-2.result
-    (after_status writing.result closing.result.status c.status_after-2.result closing.result.end after closing.ensures.status_is.0)
+    (after_status writing.result closing.result.status c.status_after-2.result closing.result.end after closing.ensures.status_is)
 
 pub returns-clause-read_fault : goal.returns-clause-read_fault
 returns-clause-read_fault g c = λ e.
