@@ -143,6 +143,19 @@ def refusals(cases):
     cases.check('words of another program', done.returncode == 1 and done.stdout == b'')
 
 
+def filling(cases):
+    """A disk that fills at each byte: no file may be longer than a limit."""
+    typed = b''.join(b'%d+%d\n' % (n, n) for n in range(40)) + b'.ticks 3\n'
+    for limit in range(500):
+        with tempfile.TemporaryDirectory() as folder:
+            small = lambda: resource.setrlimit(resource.RLIMIT_FSIZE, (limit, limit))
+            status, out, err = live(cases.live, folder, typed, preexec_fn=small, restore_signals=False)
+            written = os.path.exists(os.path.join(folder, 'r', 'command.txt'))
+            again = replay(cases.play, folder)[1] if written else b''
+            told = b'r: the record was not written' in err
+            cases.check(f'files of at most {limit} bytes', again == out and told == (status == 9) and status in (0, 9))
+
+
 def main():
     """Plays all cases."""
     if len(sys.argv) != 3:
@@ -151,6 +164,7 @@ def main():
     cases = Cases(os.path.abspath(sys.argv[1]), os.path.abspath(sys.argv[2]))
     by_hand(cases)
     refusals(cases)
+    filling(cases)
     for seed in range(200):
         cases.session(f'random session {seed}', random_session(random.Random(seed)), '--quiet-after=2000')
     print(f'live sessions: {cases.count}, differing: {cases.differing}')

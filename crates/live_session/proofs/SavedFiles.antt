@@ -1,5 +1,5 @@
 -- The files of a record that was written whole.
-use Rattle.std.proofs.Common.{◌≡◌, ℕ, ◌≤◌, Bool, List, Option, None, inl, inr, refl, subst, sym, arith}
+use Rattle.std.proofs.Common.{◌≡◌, ◌≢◌, ℕ, ◌≤◌, Bool, false, List, [], Option, None, inl, inr, refl, subst, sym, arith}
 use Rattle.std.specs.Prelude.{IfSome, ◌⊎◌}
 use Rattle.wind_base.specs.Limits.{most_steps}
 use Rattle.wind_outside.specs.Files.{Files}
@@ -11,12 +11,16 @@ use Rattle.wind_session.specs.Outside.{Outside}
 use Rattle.wind_session.specs.declared.run.RunEnd.{RunEnd}
 use Rattle.wind_session.specs.declared.run.RunEnd.TheVariants as ends
 use Rattle.live_session.specs.Command.{CommandState}
+use Rattle.live_session.specs.Ending.{is_quiet}
 use Rattle.live_session.specs.Folder.{Replaced}
 use Rattle.live_session.specs.Journal.{Holds, IsAlwaysReplayed, IsCurrent, Journaled, scene}
 use Rattle.live_session.specs.LiveAround.{Store}
+use Rattle.live_session.specs.Moments.{Wherever}
 use Rattle.live_session.specs.Saving.{IsSaved, IsSavedInPart, WritesOnly, replay_limit, command_path, command_text, console_path, ticks_path}
-use Rattle.live_session.specs.Seen.{IsRun, IsSound, LiveState}
+use Rattle.live_session.specs.Seen.{IsRun, IsSound, LiveState, Runs}
+use Rattle.live_session.specs.declared.saving.Unsaved.{Unsaved}
 use Rattle.live_session.proofs.Journaling.{always_on, always_same, always_written}
+use Rattle.live_session.proofs.Moving.{run_at}
 use Rattle.live_session.proofs.Replaying.{replayed_here}
 use Rattle.live_session.proofs.Replays.{limit_reached, limit_within}
 use Rattle.live_session.proofs.Scenes.{all_held, console_written, limit_written, ticks_written}
@@ -30,9 +34,9 @@ current_saved c l old new sound saved = record {
   held = all_held c l.console.bytes l.ticks.bytes l.board.steps old saved.with_console saved.with_ticks new saved.first saved.second saved.last;
 }
 
--- the files before it may be said otherwise
-pub saved_from : (c : CommandState) (console ticks : List ℕ) (limit : ℕ) (old older new : Option Files) → old ≡ older → IsSaved c console ticks limit old new → IsSaved c console ticks limit older new
-saved_from c console ticks limit old older new same saved = subst (λ (f : Option Files). IsSaved c console ticks limit f new) same saved
+-- at the opening
+pub opening_current : (c : CommandState) (l : LiveState) (old new : Option Files) → IsSound l → IsSaved c l.console.bytes l.ticks.bytes (replay_limit l.board.steps false) old new → IsCurrent c l new
+opening_current c l old new sound saved = current_saved c l old new sound saved
 
 -- ---- if they were current
 module _ (law : WritingLaw) (c : CommandState) (l : LiveState) (end : RunEnd) (limit : ℕ) (sound : IsSound l) (reached : l.board.steps ≤ limit) (few : limit ≤ most_steps) (old new : Option Files) (now : IsCurrent c l old) where
@@ -113,3 +117,14 @@ journal_saved law c end l a before after over sound writes faults parts =
       current = λ named now none. (ends_so now parts).0;
       always = λ named now shelf setup old here. (ends_so now parts).1 shelf setup old a.logged here.live;
     }
+
+-- ---- at the end of a session
+pub safe_end : WritingLaw → (c : CommandState) (failure : Option Unsaved) (end : RunEnd) (l m : LiveState) (a b : Around) (opened closed : Store) (new : Option Files) → c.record_folder ≢ [] → IsCurrent c l opened.files
+    → Runs end c.modules l a m b → Journaled c failure end l a opened m b closed → failure ≡ None → IsSavedInPart c m.console.bytes m.ticks.bytes (replay_limit m.board.steps (is_quiet end)) closed.files new
+    → Wherever c.modules l a (λ shelf setup old. IsAlwaysReplayed c shelf setup old.bytes (scene opened.files a.logged.bytes) (scene new b.logged.bytes))
+safe_end law c failure end l m a b opened closed new named now runs journal none parts = λ shelf setup old here.
+    let steps = m.board.steps in
+    let ends_so = saved_in_part law c m end (replay_limit steps (is_quiet end)) runs.sound (limit_reached steps (is_quiet end)) (limit_within steps (is_quiet end) runs.sound.few) closed.files new (journal.current named now none) parts in
+    always_on c shelf setup old.bytes (scene opened.files a.logged.bytes) (scene closed.files b.logged.bytes) (scene new b.logged.bytes)
+    (journal.always named now shelf setup old here)
+    (ends_so.1 shelf setup old b.logged (run_at c.modules shelf setup old l a here end m b runs))

@@ -15,7 +15,7 @@ use Rattle.wind_session.specs.declared.run.RunEnd.{RunEnd}
 use Rattle.wind_session.specs.declared.run.RunEnd.TheVariants as ends
 use Rattle.live_session.specs.Command.{CommandState}
 use Rattle.live_session.specs.Ending.{IsAfterRun, IsGoing, is_quiet}
-use Rattle.live_session.specs.Journal.{IsAlwaysReplayed, scene}
+use Rattle.live_session.specs.Journal.{IsAlwaysReplayed, IsCurrent, scene}
 use Rattle.live_session.specs.LiveAround.{LiveAround, RecordFailed, Store}
 use Rattle.live_session.specs.Moments.{Wherever, moment}
 use Rattle.live_session.specs.Saving.{IsSaved, WritesOnly, replay_limit}
@@ -27,7 +27,6 @@ use Rattle.live_session.specs.declared.status.Status.TheVariants as status
 use Rattle.live_session.proofs.ReplayText.{replay_text}
 use Rattle.live_session.proofs.Replaying.{replayed_here}
 use Rattle.live_session.proofs.Replays.{limit_within, replayed}
-use Rattle.live_session.proofs.SavedFiles.{current_saved}
 use Rattle.live_session.proofs.Starting.{planned}
 
 -- ---- the record that was written
@@ -53,7 +52,7 @@ pub record Closed (s : Status) (c : CommandState) (end : RunEnd) (l m : LiveStat
   pub writes : WritesOnly c.record_folder before.records after.records
   pub saved : s ≡ status.Ended → c.record_folder ≢ [] → IsGoing end × IsSaved c m.console.bytes m.ticks.bytes (replay_limit m.board.steps (is_quiet end)) closed.files after.records
   pub unrecorded : s ≡ status.Unrecorded → (c.record_folder ≢ []) × RecordFailed before after
-  pub safe : c.record_folder ≢ [] → IsSaved c l.console.bytes l.ticks.bytes l.board.steps before.records opened.files
+  pub safe : c.record_folder ≢ [] → IsCurrent c l opened.files
       × Wherever c.modules l before.session (λ shelf setup old. IsAlwaysReplayed c shelf setup old.bytes (scene opened.files before.session.logged.bytes) (scene after.records after.session.logged.bytes))
 
 -- the same parts, with another property
@@ -103,9 +102,8 @@ plays law s c end l m before after told failure opened closed h devices permitte
           is_recorded end c shelf (setup_of c devices) m.console.bytes m.ticks.bytes m.board old now closed.files after.records (h.saved e named).0 run h.runs.quiet (limit_within m.board.steps (is_quiet end) h.runs.sound.few) (h.saved e named).1;
       unrecorded = h.unrecorded;
       safe = λ named.
-          let saved = (h.safe named).0 in
           record {
-            opening = replayed_here law c shelf (setup_of c devices) l ends.Limit old old opened.files begins.sound live (current_saved c l before.records opened.files begins.sound saved);
+            opening = replayed_here law c shelf (setup_of c devices) l ends.Limit old old opened.files begins.sound live (h.safe named).0;
             always = (h.safe named).1 shelf (setup_of c devices) old (record { shelf_is = refl; live = live });
           };
     }

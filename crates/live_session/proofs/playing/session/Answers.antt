@@ -13,12 +13,9 @@ use Rattle.live_session.specs.declared.saving.Unsaved.TheVariants as unsaved
 use Rattle.live_session.specs.declared.status.Status.{Status}
 use Rattle.live_session.specs.declared.status.Status.TheVariants as status
 use Rattle.live_session.proofs.Closings.{is_failure, no_failure, some_failure}
-use Rattle.live_session.proofs.Journaling.{always_on}
-use Rattle.live_session.proofs.Moving.{run_at}
 use Rattle.live_session.proofs.OtherFiles.{named_by, writes_both, writes_kept, writes_record}
 use Rattle.live_session.proofs.Outcomes.{IsAfter, after_failed, after_recorded, after_status, after_typed, ended_going, ended_same, never_usage, opened_record, put_same, read_same, unopened_refusal, unopened_status}
-use Rattle.live_session.proofs.Replays.{limit_reached, limit_within}
-use Rattle.live_session.proofs.SavedFiles.{current_saved, saved_from, saved_in_part}
+use Rattle.live_session.proofs.SavedFiles.{opening_current, safe_end}
 use Rattle.live_session.proofs.Whole.{plays}
 use Rattle.live_session.proofs.playing.session.Goals as goal
 
@@ -60,7 +57,7 @@ returns-then-is_some-clause-leaves g c =
     let command = command_state c.args.target.command.now in
     let folder = c.args.target.command.now.record.now in
     let named : folder ≢ [] = named_by folder (sym c.is_empty.ensures ∙ c.if-is_empty.false) in
-    let saved = saved_from _ _ _ _ _ _ _ c.may_record.ensures.files (c.in_default-open_record.ensures.ok named) in
+    let opened = opening_current command _ _ _ c.in-Ok.ensures.begins.sound (c.in_default-open_record.ensures.ok named) in
     let stuck = is_failure closing.result.unsaved (sym c.is_some.ensures ∙ c.if-is_some.true) in
     inr (plays c.writing_law.ensures.written closing.result.status command closing.result.end _ _
     (live_around g.I.Input g.F.Folder g.O.Sink g.D.RecordFolder c.args.input.now c.args.folder.now c.args.out.now c.args.records.now)
@@ -71,7 +68,10 @@ returns-then-is_some-clause-leaves g c =
       status_is = closing.ensures.status_is;
       typed = closing.ensures.typed;
       unopened = λ e. absurd (named e);
-      opens = λ e. opened_record _ _ _ _ _ _ c.in-Ok.ensures.begins.empty c.in-Ok.ensures.begins.no_ticks c.in-Ok.ensures.begins.no_steps saved;
+      opens = λ e.
+          let saved = c.in_default-open_record.ensures.ok e in
+          subst (λ (f : Option Files). IsSaved command [] [] 0 f (g.D.RecordFolder.files c.open_record.new.records)) c.may_record.ensures.files
+          (opened_record _ _ _ _ _ _ c.in-Ok.ensures.begins.empty c.in-Ok.ensures.begins.no_ticks c.in-Ok.ensures.begins.no_steps saved);
       writes =
           writes_both _ _ _ _
           (subst (λ (f : Option Files). WritesOnly folder f (g.D.RecordFolder.files c.open_record.new.records)) c.may_record.ensures.files c.open_record.ensures.writes)
@@ -82,7 +82,7 @@ returns-then-is_some-clause-leaves g c =
         rose_earlier _ _ _ (omega (arith, c.may_record.ensures.never_falls, c.open_record.ensures.never_falls)) closing.ensures.journal.faults
             (closing.ensures.journal.failed (closing.ensures.unrecorded e)),
       );
-      safe = λ some. (saved, closing.ensures.journal.always named (current_saved command _ _ _ c.in-Ok.ensures.begins.sound saved));
+      safe = λ some. (opened, closing.ensures.journal.always named opened);
     })
     _ (c.may_record.ensures.permitted (search rules)) c.in-Ok.ensures.begins)
 
@@ -97,10 +97,9 @@ returns-clause-leaves g c =
     let command = command_state c.args.target.command.now in
     let folder = c.args.target.command.now.record.now in
     let named : folder ≢ [] = named_by folder (sym c.is_empty.ensures ∙ c.if-is_empty.false) in
-    let saved = saved_from _ _ _ _ _ _ _ c.may_record.ensures.files (c.in_default-open_record.ensures.ok named) in
+    let opened = opening_current command _ _ _ c.in-Ok.ensures.begins.sound (c.in_default-open_record.ensures.ok named) in
     let none = no_failure closing.result.unsaved (sym c.is_some.ensures ∙ c.if-is_some.false) in
     let known : closing.result.status ≢ status.Unrecorded = λ e. some_failure _ _ (closing.ensures.unrecorded e) none in
-    let opened = current_saved command _ _ _ c.in-Ok.ensures.begins.sound saved in
     let after : IsAfter writing.result closing.result.status c.status_after-2.result = record { ok = c.status_after-2.ensures.ok; err = c.status_after-2.ensures.err } in
     inr (plays c.writing_law.ensures.written c.status_after-2.result command closing.result.end _ _
     (live_around g.I.Input g.F.Folder g.O.Sink g.D.RecordFolder c.args.input.now c.args.folder.now c.args.out.now c.args.records.now)
@@ -111,7 +110,10 @@ returns-clause-leaves g c =
       status_is = after_status writing.result closing.result.status c.status_after-2.result closing.result.end after closing.ensures.status_is;
       typed = after_typed writing.result closing.result.status c.status_after-2.result _ _ _ _ after closing.ensures.typed;
       unopened = λ e. absurd (named e);
-      opens = λ e. opened_record _ _ _ _ _ _ c.in-Ok.ensures.begins.empty c.in-Ok.ensures.begins.no_ticks c.in-Ok.ensures.begins.no_steps saved;
+      opens = λ e.
+          let saved = c.in_default-open_record.ensures.ok e in
+          subst (λ (f : Option Files). IsSaved command [] [] 0 f (g.D.RecordFolder.files c.open_record.new.records)) c.may_record.ensures.files
+          (opened_record _ _ _ _ _ _ c.in-Ok.ensures.begins.empty c.in-Ok.ensures.begins.no_ticks c.in-Ok.ensures.begins.no_steps saved);
       writes =
           writes_both _ _ _ _
           (subst (λ (f : Option Files). WritesOnly folder f (g.D.RecordFolder.files c.open_record.new.records)) c.may_record.ensures.files c.open_record.ensures.writes)
@@ -126,11 +128,10 @@ returns-clause-leaves g c =
         rose_earlier _ _ _ (omega (arith, c.may_record.ensures.never_falls, c.open_record.ensures.never_falls, closing.ensures.journal.faults)) writing.ensures.never_falls
             (writing.ensures.failed (after_failed writing.result closing.result.status c.status_after-2.result after known e)),
       );
-      safe = λ some. (saved, λ shelf setup old here.
-          always_on command shelf setup old.bytes _ _ _ (closing.ensures.journal.always named opened shelf setup old here)
-          ((saved_in_part c.writing_law.ensures.written command _ closing.result.end _ closing.ensures.runs.sound (limit_reached _ _) (limit_within _ _ closing.ensures.runs.sound.few) _ _
-          (closing.ensures.journal.current named opened none) writing.ensures.parts).1 shelf setup old _
-          (run_at _ shelf setup old _ _ here closing.result.end _ _ closing.ensures.runs)));
+      safe = λ some. (
+        opened,
+        safe_end c.writing_law.ensures.written command closing.result.unsaved closing.result.end _ _ _ _ _ _ _ named opened closing.ensures.runs closing.ensures.journal none writing.ensures.parts,
+      );
     })
     _ (c.may_record.ensures.permitted (search rules)) c.in-Ok.ensures.begins)
 
@@ -190,3 +191,40 @@ pub returns-then-not-may_record-clause-leaves : goal.returns-then-not-may_record
 returns-then-not-may_record-clause-leaves g c =
     let no : c.may_record.result ≡ false = search rules in
     inl (c.may_record.ensures.refused no, record { outside = refl; input = refl }, record { writes = writes_kept _ _ _ c.may_record.ensures.files; permitted = inr c.may_record.ensures.files })
+
+-- ---- the counts of faults, and the folder of modules
+pub returns-then-is_empty-clause-keeps : goal.returns-then-is_empty-clause-keeps
+returns-then-is_empty-clause-keeps g c = c.converse-closing.ensures.runs.keeps
+
+pub returns-then-is_empty-clause-input_faults : goal.returns-then-is_empty-clause-input_faults
+returns-then-is_empty-clause-input_faults g c = c.converse-closing.ensures.input_faults
+
+pub returns-then-is_empty-clause-read_fault : goal.returns-then-is_empty-clause-read_fault
+returns-then-is_empty-clause-read_fault g c = c.converse-closing.ensures.read_fault
+
+pub returns-then-is_empty-clause-fault : goal.returns-then-is_empty-clause-fault
+returns-then-is_empty-clause-fault g c = c.converse-closing.ensures.fault
+
+pub returns-then-is_empty-clause-record_faults : goal.returns-then-is_empty-clause-record_faults
+returns-then-is_empty-clause-record_faults g c = omega (arith, c.may_record.ensures.never_falls, c.open_record.ensures.never_falls, c.converse-closing.ensures.journal.faults)
+
+pub returns-then-is_some-clause-keeps : goal.returns-then-is_some-clause-keeps
+returns-then-is_some-clause-keeps g c = c.converse-closing.ensures.runs.keeps
+
+pub returns-then-is_some-clause-input_faults : goal.returns-then-is_some-clause-input_faults
+returns-then-is_some-clause-input_faults g c = c.converse-closing.ensures.input_faults
+
+pub returns-then-is_some-clause-read_fault : goal.returns-then-is_some-clause-read_fault
+returns-then-is_some-clause-read_fault g c = c.converse-closing.ensures.read_fault
+
+pub returns-then-is_some-clause-fault : goal.returns-then-is_some-clause-fault
+returns-then-is_some-clause-fault g c = c.converse-closing.ensures.fault
+
+pub returns-then-is_some-clause-record_faults : goal.returns-then-is_some-clause-record_faults
+returns-then-is_some-clause-record_faults g c = omega (arith, c.may_record.ensures.never_falls, c.open_record.ensures.never_falls, c.converse-closing.ensures.journal.faults)
+
+pub returns-clause-input_faults : goal.returns-clause-input_faults
+returns-clause-input_faults g c = c.converse-closing.ensures.input_faults
+
+pub returns-clause-record_faults : goal.returns-clause-record_faults
+returns-clause-record_faults g c = omega (arith, c.may_record.ensures.never_falls, c.open_record.ensures.never_falls, c.converse-closing.ensures.journal.faults, c.write_record-written.ensures.never_falls)
