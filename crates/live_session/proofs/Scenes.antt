@@ -92,8 +92,10 @@ all_held c console ticks limit old with_console with_ticks new one two three =
   where
     HasConsole : CommandState → List ℕ → Files → Type 0
     HasConsole c console held = held (console_path c.record_folder) ≡ Some console
+
     HasBoth : CommandState → List ℕ → List ℕ → Files → Type 0
     HasBoth c console ticks held = (held (console_path c.record_folder) ≡ Some console) × (held (ticks_path c.record_folder) ≡ Some ticks)
+
     if_any : (files : Option Files) → IfSome files (λ held. Unit {0})
     if_any None = tt
     if_any (Some held) = tt

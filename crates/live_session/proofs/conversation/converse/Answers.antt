@@ -104,8 +104,8 @@ returns-in-Err-clause-typed g c =
     let ready : IsGoing c.loop.went.end × (c.loop.went.unsaved ≡ None) = c.is_going.ensures.0 (search rules) in
     typed_as _ _ _ _ _ _
     (λ parts talks shelf setup old here.
-        subst (λ (f : Option Unsaved). IsTalk (command_state c.args.target.command.now) parts shelf setup old (live c.args.live.now) (around g.F.Folder g.O.Sink c.args.folder.now c.args.out.now) (store g.D.RecordFolder c.args.records.now)
-        (moment (live c.loop.live) (around g.F.Folder g.O.Sink c.loop.folder c.loop.out) (messages g.E.Sink c.loop.err) (store g.D.RecordFolder c.loop.records) c.loop.went.end f)) ready.1 (talks shelf setup old here))
+    subst (λ (f : Option Unsaved). IsTalk (command_state c.args.target.command.now) parts shelf setup old (live c.args.live.now) (around g.F.Folder g.O.Sink c.args.folder.now c.args.out.now) (store g.D.RecordFolder c.args.records.now)
+    (moment (live c.loop.live) (around g.F.Folder g.O.Sink c.loop.folder c.loop.out) (messages g.E.Sink c.loop.err) (store g.D.RecordFolder c.loop.records) c.loop.went.end f)) ready.1 (talks shelf setup old here))
     (typed_heard c.in-Err.status _ _ _ _ _ _ _ c.in-Err.ensures.kept c.loop.invariant.typing
     (λ parts. stop_heard c.in-Err.status _ parts c.in-Err.ensures.ended.1 (λ e. c.in-Err.ensures.over (ap (λ (s : Status). Err s) e))))
 
