@@ -1,23 +1,22 @@
 -- The run of a record with one event more, whose bytes aren't in the console file yet.
-use Rattle.std.proofs.Common.{◌≡◌, ℕ, ◌+◌, ◌<◌, ◌≤◌, Bool, true, false, not, List, [], ◌∷◌, ◌++◌, length, max, refl, sym, ap, ◌∙◌, subst, arith}
+use Rattle.std.proofs.Common.{◌≡◌, ℕ, ◌+◌, ◌<◌, ◌≤◌, Bool, true, false, not, List, [], ◌∷◌, ◌++◌, length, refl, sym, ap, ◌∙◌, subst, arith}
 use Rattle.std.specs.Prelude.{◌&&◌}
 use Rattle.std.proofs.lemmas.List.{append-nil, length-append}
 use Rattle.wind_base.specs.Limits.{greatest_word}
 use Rattle.tick_file.specs.declared.event.Event.{Event}
-use Rattle.tick_file.specs.Schedule.{Timed, Timetable, brings_bytes, timetable_of}
-use Rattle.tick_file.specs.Writing.{recorded, AreRecordable, IsInRange, LongerLaw, event_line}
+use Rattle.tick_file.specs.Schedule.{Timetable, brings_bytes, timetable_of}
+use Rattle.tick_file.specs.Writing.{AreRecordable, IsInRange, LongerLaw, event_line}
 use Rattle.wind_machine.specs.State.{State}
 use Rattle.wind_machine.specs.Machine.{opening}
-use Rattle.wind_machine.specs.Run.{after, text}
+use Rattle.wind_machine.specs.Run.{after}
 use Rattle.wind_machine.specs.Extending.{Begins, ExtendLaw, IsLater, IsUndemanded, Joins, More, RecordLaw, Setup, booted, extended, longer, more_of}
 use Rattle.wind_session.specs.Modules.{Shelf}
 use Rattle.wind_session.specs.Outside.{Outside}
-use Rattle.wind_session.specs.Runs.{Ran}
 use Rattle.wind_session.specs.Live.{IsLive}
 use Rattle.wind_session.specs.declared.run.RunEnd.TheVariants as ends
 use Rattle.live_session.specs.Journal.{IsPrefixShown, IsReplay}
 use Rattle.live_session.specs.Moments.{IsSent, event_time}
-use Rattle.live_session.specs.Record.{IsRecord, last_time}
+use Rattle.live_session.specs.Record.{last_time}
 use Rattle.live_session.specs.Seen.{IsLiveAt, IsSound, LiveState}
 use Rattle.live_session.proofs.Recording.{recordable}
 use Rattle.live_session.proofs.Replaying.{written_prefix}

@@ -1,5 +1,5 @@
 -- What a part of a session does to the files of the record.
-use Rattle.std.proofs.Common.{◌≡◌, ◌≢◌, ℕ, ◌+◌, ◌≤◌, List, [], ◌∷◌, ◌++◌, Option, None, Some, refl, sym, ap, ◌∙◌, subst, inl, inr, arith}
+use Rattle.std.proofs.Common.{◌≡◌, ◌≢◌, ℕ, ◌≤◌, List, [], ◌∷◌, ◌++◌, Option, None, Some, refl, sym, ap, ◌∙◌, subst, inl, inr, arith}
 use Rattle.std.specs.Prelude.{IfSome, ◌⊎◌}
 use Rattle.wind_base.specs.Limits.{most_steps}
 use Rattle.wind_base.specs.OutBuf.{Output}
@@ -14,15 +14,15 @@ use Rattle.wind_session.specs.Modules.{Shelf}
 use Rattle.wind_session.specs.Outside.{Outside}
 use Rattle.wind_session.specs.declared.run.RunEnd.{RunEnd}
 use Rattle.wind_session.specs.declared.run.RunEnd.TheVariants as ends
-use Rattle.wind_session.proofs.AppendingLemmas.{rose_earlier, rose_later}
+use Rattle.wind_session.proofs.AppendingLemmas.{rose_earlier}
 use Rattle.live_session.specs.Command.{CommandState}
 use Rattle.live_session.specs.Ending.{IsGoing}
 use Rattle.live_session.specs.Folder.{Lengthened, Replaced}
 use Rattle.live_session.specs.Journal.{Holds, IsAlwaysReplayed, IsCurrent, IsReplayed, Journaled, Scene, scene}
 use Rattle.live_session.specs.LiveAround.{Store}
 use Rattle.live_session.specs.Moments.{IsHere, IsSameRecord, IsSent, Wherever, event_time}
-use Rattle.live_session.specs.Saving.{IsAdded, IsSaved, IsSavedInPart, WritesOnly, command_path, command_text, console_path, ticks_path}
-use Rattle.live_session.specs.Seen.{IsLiveAt, IsRun, IsSound, LiveState, Runs, StaysLive}
+use Rattle.live_session.specs.Saving.{IsAdded, WritesOnly, command_path, command_text, console_path, ticks_path}
+use Rattle.live_session.specs.Seen.{IsLiveAt, IsSound, LiveState, Runs, StaysLive}
 use Rattle.live_session.specs.declared.saving.Unsaved.{Unsaved}
 use Rattle.live_session.specs.declared.saving.Unsaved.TheVariants as failures
 use Rattle.live_session.proofs.Announcing.{announced}

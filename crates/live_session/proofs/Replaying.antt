@@ -1,7 +1,6 @@
 -- What was shown is a prefix of what a replay of the record writes.
-use Rattle.std.proofs.Common.{◌≡◌, ℕ, suc, ◌≤◌, List, [], ◌++◌, take, drop, refl, sym, ap, ◌∙◌, subst, arith, append_assoc}
+use Rattle.std.proofs.Common.{◌≡◌, ℕ, suc, ◌≤◌, List, [], ◌++◌, take, drop, sym, ap, ◌∙◌, subst, arith, append_assoc}
 use Rattle.std.proofs.lemmas.List.{append-nil, take-append-drop}
-use Rattle.wind_base.specs.Limits.{most_steps}
 use Rattle.wind_outside.specs.Files.{Files}
 use Rattle.tick_file.specs.Schedule.{timetable_of}
 use Rattle.tick_file.specs.Writing.{WritingLaw}

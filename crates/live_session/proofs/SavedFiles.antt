@@ -1,6 +1,6 @@
 -- The files of a record that was written whole.
-use Rattle.std.proofs.Common.{◌≡◌, ◌≢◌, ℕ, ◌≤◌, Bool, false, List, [], Option, None, inl, inr, refl, subst, sym, arith}
-use Rattle.std.specs.Prelude.{IfSome, ◌⊎◌}
+use Rattle.std.proofs.Common.{◌≡◌, ◌≢◌, ℕ, ◌≤◌, Bool, false, [], Option, None, inl, inr, refl, subst, sym, arith}
+use Rattle.std.specs.Prelude.{IfSome}
 use Rattle.wind_base.specs.Limits.{most_steps}
 use Rattle.wind_outside.specs.Files.{Files}
 use Rattle.tick_file.specs.Writing.{WritingLaw}

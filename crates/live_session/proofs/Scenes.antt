@@ -1,6 +1,6 @@
 -- The files of a record while they are written, and the scenes of a session.
-use Rattle.std.proofs.Common.{◌≡◌, ◌≢◌, ℕ, ◌+◌, ◌≤◌, Bool, true, false, cond, List, [], ◌∷◌, ◌++◌, Option, None, Some, eqb, refl, sym, ap, ◌∙◌, subst, inl, inr, arith}
-use Rattle.std.specs.Prelude.{IfSome, IsSomeAnd, codes, ◌&&◌, ◌⊎◌}
+use Rattle.std.proofs.Common.{◌≡◌, ℕ, true, false, cond, List, [], ◌∷◌, ◌++◌, Option, None, Some, eqb, refl, sym, ap, ◌∙◌, subst, arith}
+use Rattle.std.specs.Prelude.{IfSome, IsSomeAnd, codes, ◌&&◌}
 use Rattle.std.specs.Str.{bytes_eq}
 use Rattle.std.proofs.lemmas.Bool.Decides.{nat_tests}
 use Rattle.std.proofs.lemmas.Slice.Eq.{bytes_eq-Decides}
@@ -8,7 +8,7 @@ use Rattle.wind_outside.specs.Files.{Files, with_file}
 use Rattle.wind_session.specs.Paths.{path_in}
 use Rattle.live_session.specs.Command.{CommandState}
 use Rattle.live_session.specs.Folder.{Lengthened, Replaced}
-use Rattle.live_session.specs.Journal.{Follows, Holds, Passes, Scene, scene}
+use Rattle.live_session.specs.Journal.{Holds, Passes, Scene}
 use Rattle.live_session.specs.Saving.{command_path, command_text, console_path, ticks_path}
 
 -- ---- scenes

@@ -1,5 +1,5 @@
-use Rattle.std.proofs.Common.{◌≡◌, ap, arith, rules, Err}
-use Rattle.live_session.specs.Ending.{IsGoing, is_quiet}
+use Rattle.std.proofs.Common.{ap, arith, rules, Err}
+use Rattle.live_session.specs.Ending.{IsGoing}
 use Rattle.live_session.specs.declared.saving.Unsaved.{Unsaved}
 use Rattle.live_session.proofs.Journaling.{journal_failed, journal_limit, journal_on, journal_ran}
 use Rattle.live_session.proofs.Replays.{limit_reached}

@@ -1,4 +1,4 @@
-use Rattle.std.proofs.Common.{◌≡◌, ◌∙◌, [], ◌++◌, None, Some, Err, ap, refl, subst, sym}
+use Rattle.std.proofs.Common.{◌∙◌, None, Err, ap, subst, sym}
 use Rattle.std.proofs.lemmas.List.{append-nil}
 use Rattle.wind_base.specs.OutBuf.{Output}
 use Rattle.wind_session.specs.Keeping.{around, messages}
@@ -6,7 +6,6 @@ use Rattle.wind_session.specs.declared.run.RunEnd.TheVariants as ends
 use Rattle.live_session.specs.LiveAround.{store}
 use Rattle.live_session.specs.Moments.{moment}
 use Rattle.live_session.specs.Seen.{LiveState, Runs, live_by}
-use Rattle.live_session.specs.Words.{command_state}
 use Rattle.live_session.specs.declared.saving.Unsaved.{Unsaved}
 use Rattle.live_session.proofs.Flow.{runs_none, runs_on, runs_sent}
 use Rattle.live_session.proofs.Journaling.{here_sent, journal_both, journal_event, journal_same, journal_unadded}
