@@ -2,7 +2,7 @@
 """Plays live sessions with LIVE, and replays each by the words of its record with PLAY.
 
 A replay has to write the same bytes, and to end as the session did: with status 0 if nothing was left to do, else
-with status 3 at its limit. 200 sessions are typed at random, and a few by hand. It prints a line for each session
+with status 3 at its limit. 300 sessions are typed at random, and a few by hand. It prints a line for each session
 that differs, and one that counts them. It ends with 1 if one differs.
 
 usage: tests/live.py LIVE PLAY
@@ -10,16 +10,23 @@ usage: tests/live.py LIVE PLAY
 import os
 import random
 import resource
+import shutil
 import subprocess
 import sys
 import tempfile
+
+TOP = os.path.dirname(os.path.dirname(os.path.abspath(__file__)))
 
 LINES = [
     b'1+2', b's = semBCreate(0, 0)', b'semGive s', b'semTake s, 3', b'm = semMCreate(13)', b'semTake m, -1', b'semGive m',
     b'taskDelay 2', b'sp taskDelay, 3', b'sp semTake, m, -1', b'i', b'tickGet', b'printf("%d\\n", tickGet())', b'w = wdCreate()',
     b'wdStart w, 2, semGive, s', b'*0x1000 = 0x48000000', b'1 +', b'', b'a' * 300, b'\xff\xfe\x00', b'x = 5; y = x * 2; y',
 ]
-DOTS = [b'.ticks 1', b'.ticks 3', b'.run 5', b'.run 100', b'.break', b'.state', b'.save', b'.help', b'.nothing']
+DOTS = [b'.ticks 1', b'.ticks 3', b'.ticks 4 every 7', b'.ticks 2 every 300', b'.irq 0', b'.irq 9', b'.irqs 3 every 20 2', b'.irqs 2 every 1 1', b'.run 5', b'.run 100', b'.break', b'.state', b'.save', b'.help', b'.nothing']
+
+
+# A task that never waits.
+BUSY = b'*0x1000 = 0x48000000\nsp 0x1000\n'
 
 
 def live(program, folder, typed, *words, **more):
@@ -29,10 +36,11 @@ def live(program, folder, typed, *words, **more):
 
 
 def replay(program, folder):
-    """The status of the replay of a record, and what it wrote."""
-    with open(os.path.join(folder, 'r', 'command.txt'), encoding='utf-8') as file:
+    """The status of the replay of a record, from its own folder, and what it wrote."""
+    record = os.path.join(folder, 'r')
+    with open(os.path.join(record, 'command.txt'), encoding='utf-8') as file:
         words = file.read().split('\n')[:-1]
-    done = subprocess.run([program, *words], cwd=folder, capture_output=True, timeout=100)
+    done = subprocess.run([program, *words], cwd=record, capture_output=True, timeout=100)
     return done.returncode, done.stdout
 
 
@@ -57,7 +65,7 @@ class Cases:
             self.differing += 1
             print(f'{name}: differs')
 
-    def session(self, name, typed, *words, status=0, replayed=(0, 3), console=None, shown=None, said=None, before=None):
+    def session(self, name, typed, *words, status=0, replayed=(0, 3), console=None, ticks=None, shown=None, said=None, before=None):
         """A session, its record and its replay."""
         with tempfile.TemporaryDirectory() as folder:
             os.mkdir(os.path.join(folder, 'r'))
@@ -67,6 +75,7 @@ class Cases:
             again, bytes_again = replay(self.play, folder)
             self.check(name, ended == status and again in replayed and bytes_again == out
                        and (console is None or held(folder, 'console.txt') == console)
+                       and (ticks is None or held(folder, 'ticks.txt') == ticks)
                        and (shown is None or shown in out) and (said is None or said in err))
 
 
@@ -89,6 +98,17 @@ def by_hand(cases):
     cases.session('a line of 5000 bytes', b'b' * 5000 + b'\n', console=b'b' * 5000 + b'\n')
     cases.session('bytes that are no text', b'\xff\xfe\x80\n1\n', console=b'\xff\xfe\x80\n1\n')
     cases.session('ticks', b'taskDelay 3; tickGet\n.ticks 5\n', shown=b'value = 3 = 0x3', replayed=(0,))
+    cases.session('ticks over a busy task', BUSY + b'.ticks 3 every 100\ntickGet\n', '--quiet-after', '1000', shown=b'value = 3 = 0x3',
+                  said=b'windlive: events sent: 3\n')
+    cases.session('the times of ticks', b'.ticks 3 every 100\n', said=b'windlive: events sent: 3\n', ticks=b'tick 101\ntick 201\ntick 301\n',
+                  replayed=(0,))
+    cases.session('an interrupt', b'.irq 2\n', said=b'windlive: events sent: 1\n', ticks=b'irq 2 2\n', replayed=(0,))
+    cases.session('interrupts', b'.irqs 2 every 10 0\n', said=b'windlive: events sent: 2\n', ticks=b'irq 11 0\nirq 21 0\n', replayed=(0,))
+    cases.session('an interrupt of an empty slot', b'.irq 3\n', said=b'windlive: not sent: slot 3 has no device\n', ticks=b'', replayed=(0,))
+    cases.session('too many ticks', b'.ticks 100000 every 1\n', said=b'events sent: 9', replayed=(0, 3))
+    for line in (b'.ticks 1 every 0', b'.ticks 1 every 1000001', b'.ticks 1 every', b'.ticks 1 every 2 3', b'.irq 16', b'.irq', b'.irqs 1 every 2',
+                 b'.irqs 1 every 2 16', b'.ticks  1 every 2'):
+        cases.session(f'no line for the program: {line}', line + b'\n', said=b'unknown', ticks=b'', replayed=(0,))
     cases.session('a long line for the program', b'.' + b'c' * 5000 + b'\n1\n', console=b'1\n', said=b'unknown')
     cases.session('a busy loop and a break', b'*0x1000 = 0x48000000\n(0x1000)()\n.run 10\n.break\n7\n', '--quiet-after', '1000',
                   said=b'still running', shown=b'value = 7 = 0x7')
@@ -96,6 +116,43 @@ def by_hand(cases):
     cases.session('a task that sleeps', b'sp taskDelay, 1\n.ticks 1\n', replayed=(0,))
     full = (b'd' * 4095 + b'\n') * 256
     cases.session('a console file of 1 MiB', full + b'1+2\n.ticks 1\n', console=full, said=b'not sent: console.txt would be longer than 1 MiB')
+
+
+def modules(cases):
+    """A record has the modules that its session loaded, as they were when they were first loaded."""
+    with tempfile.TemporaryDirectory() as folder:
+        record = os.path.join(folder, 'r')
+        os.mkdir(record)
+        first, other = (os.path.join(TOP, 'examples', name, f'{name}.o') for name in ('function', 'deadlock'))
+        shutil.copyfile(first, os.path.join(folder, 'f.o'))
+        play = subprocess.Popen([cases.live, '--record=r'], cwd=folder, stdin=subprocess.PIPE, stdout=subprocess.PIPE, stderr=subprocess.PIPE)
+        play.stdin.write(b'ld < f.o\n')
+        play.stdin.flush()
+        shown = until(play.stdout, b'\n-> ')
+        shutil.copyfile(other, os.path.join(folder, 'f.o'))
+        out, err = play.communicate(b'ld < f.o\nld < ../f.o\nld < no.o\n.quit\n', timeout=100)
+        cases.check('a module that has changed', b'f.o has changed; this record keeps the first: load it under another name\n' in err)
+        cases.check('a name that is a path', b'../f.o isn\'t in the record, since its name is a path\n' in err)
+        with open(first, 'rb') as kept, open(os.path.join(record, 'modules', 'f.o'), 'rb') as copied:
+            cases.check('the copy of a module', kept.read() == copied.read())
+        cases.check('no other file', sorted(os.listdir(folder)) == ['f.o', 'r'] and os.listdir(os.path.join(record, 'modules')) == ['f.o'])
+        os.remove(os.path.join(folder, 'f.o'))
+        os.rename(record, os.path.join(folder, 'moved'))
+        os.mkdir(record)
+        os.rename(os.path.join(folder, 'moved'), os.path.join(record, 'r'))
+        _, again = replay(cases.play, record)
+        cases.check('the replay of a record elsewhere', again == shown + out)
+
+
+def until(stream, end):
+    """The bytes of a stream up to an end."""
+    shown = b''
+    while not shown.endswith(end):
+        byte = stream.read(1)
+        if not byte:
+            break
+        shown += byte
+    return shown
 
 
 def refusals(cases):
@@ -150,8 +207,9 @@ def main():
         return 2
     cases = Cases(os.path.abspath(sys.argv[1]), os.path.abspath(sys.argv[2]))
     by_hand(cases)
+    modules(cases)
     refusals(cases)
-    for seed in range(200):
+    for seed in range(300):
         cases.session(f'random session {seed}', random_session(random.Random(seed)), '--quiet-after=2000')
     print(f'live sessions: {cases.count}, differing: {cases.differing}')
     return 1 if cases.differing else 0

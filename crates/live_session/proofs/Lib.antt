@@ -10,6 +10,7 @@ pub mod Recording
 pub mod ReplayText
 pub mod Replays
 pub mod Sending
+pub mod Spacings
 pub mod Starting
 pub mod Ticking
 pub mod Typing

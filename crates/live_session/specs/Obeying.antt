@@ -1,5 +1,5 @@
 -- What a part of the input does.
-use Rattle.std.specs.Prelude.{◌≡◌, ◌≢◌, ◌⊎◌, ℕ, suc, zero, List, [], ◌∷◌, length, Option, Some, None}
+use Rattle.std.specs.Prelude.{◌≡◌, ◌≢◌, ◌⊎◌, ℕ, ◌-◌, suc, zero, List, [], ◌∷◌, length, Option, Some, None}
 use Rattle.wind_outside.specs.Counts.{Rose}
 use Rattle.tick_file.specs.declared.event.Event.TheVariants.{Tick, Rx}
 use Rattle.wind_machine.specs.Extending.{Setup}
@@ -14,6 +14,7 @@ use Rattle.live_session.specs.LiveAround.{Store}
 use Rattle.live_session.specs.Moments.{Moment, IsRefused, IsSentAndRuns, IsTold, RunsFor, Sends}
 use Rattle.live_session.specs.Saving.{IsSaved, replay_limit}
 use Rattle.live_session.specs.Seen.{LiveState}
+use Rattle.live_session.specs.Spacing.{SeriesComes, sent_text}
 use Rattle.live_session.specs.Telling.{help_text, memory_text, state_text, unknown_text, unsaved_text, unwritten_text, written_text}
 use Rattle.live_session.specs.declared.dot_line.DotLine.{DotLine}
 use Rattle.live_session.specs.declared.dot_line.DotLine.TheVariants as lines
@@ -33,6 +34,13 @@ TicksCome (suc n) most shelf setup old now later =
 -- the board runs, and then ticks come
 abbrev pub RunsAndTicks : ℕ → ℕ → Shelf → Setup → Outside → Moment → Moment → Type 0
 RunsAndTicks n most shelf setup old now later = (first : Moment) × RunsFor most shelf setup old now.live now.around first × TicksCome n most shelf setup old first later
+
+-- and then it was told how many came, each of which has a line of the tick file
+pub record TicksAreTold (n most : ℕ) (shelf : Shelf) (setup : Setup) (old : Outside) (now later : Moment) : Type 0 where
+  pub ran : Moment
+  pub come : RunsAndTicks n most shelf setup old now ran
+  pub same : later ≡ record ran { told = later.told }
+  pub told : IsTold (sent_text (ran.live.lines - now.live.lines) None) ran.told later.told
 
 -- nothing was sent or written
 abbrev pub IsUnsent : Option Refusal → Store → Store → Type 0
@@ -59,7 +67,8 @@ pub record Saves (c : CommandState) (l : LiveState) (end : RunEnd) (told later :
 
 -- what a line for the program does; only `.break` sends something, and only `.save` writes
 abbrev pub Obeys : CommandState → DotLine → Option Refusal → Shelf → Setup → Outside → Moment → Moment → Store → Store → Type 0
-Obeys c (lines.Ticks n) refusal shelf setup old now later before after = RunsAndTicks n c.quiet_after shelf setup old now later × IsUnsent refusal before after
+Obeys c (lines.Ticks n) refusal shelf setup old now later before after = TicksAreTold n c.quiet_after shelf setup old now later × IsUnsent refusal before after
+Obeys c (lines.Events series) refusal shelf setup old now later before after = SeriesComes series c.quiet_after shelf setup old now later × IsUnsent refusal before after
 Obeys c (lines.Run n) refusal shelf setup old now later before after = RunsFor n shelf setup old now.live now.around later × IsUnsent refusal before after
 Obeys c lines.Break refusal shelf setup old now later before after = Sends (Rx 1) (3 ∷ []) c.quiet_after refusal shelf setup old now later × (after ≡ before)
 Obeys c lines.State refusal shelf setup old now later before after = Shows (state_text now.live.board) now later × IsUnsent refusal before after

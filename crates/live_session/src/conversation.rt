@@ -20,12 +20,13 @@ ghost use Rattle.live_session.specs.declared.serving.Request.TheVariants as requ
 ghost use Rattle.live_session.specs.declared.status.Status.TheVariants as status;
 
 use crate::dot_line::DotLine;
+use crate::events::{run_counted_ticks, run_series};
 use crate::input::{Input, InputPart};
 use crate::keeping::save_now;
 use crate::live::Live;
 use crate::messages::{tell, tell_help, tell_state};
 use crate::record_folder::RecordFolder;
-use crate::running::{Served, run, run_ticks, send_and_run};
+use crate::running::{Served, run, send_and_run};
 use crate::saving::Target;
 use crate::serving::{Position, Request, position_after, request_of};
 use crate::status::Status;
@@ -75,7 +76,12 @@ fn obey<F: Folder, O: Sink, E: Sink, D: RecordFolder>(
 {
     let command = target.command;
     match line {
-        DotLine::Ticks(ticks) => unsent(run_ticks(alloc, command, live, folder, out, err, ticks)),
+        DotLine::Ticks(ticks) => unsent(run_counted_ticks(
+            alloc, command, live, folder, out, err, ticks,
+        )),
+        DotLine::Events(series) => unsent(run_series(
+            alloc, command, live, folder, out, err, series, end,
+        )),
         DotLine::Run(most) => unsent(run(alloc, command, live, folder, out, err, most)),
         DotLine::Break => {
             let abort = Event::Rx(1);

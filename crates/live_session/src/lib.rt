@@ -5,6 +5,7 @@
 mod command;
 mod conversation;
 mod dot_line;
+mod events;
 mod host;
 mod input;
 mod keeping;
@@ -19,8 +20,9 @@ mod running;
 mod saving;
 mod serving;
 mod status;
+mod terminal;
 
-pub use command::{Command, command_of};
+pub use command::{Command, command_of, is_at_terminal};
 pub use host::{HostInput, HostRecordFolder};
 pub use input::{Input, InputPart};
 pub use memory::{MemInput, MemRecordFolder};
@@ -29,3 +31,4 @@ pub use playing::play_live;
 pub use program::live_program;
 pub use record_folder::{Presence, RecordFolder};
 pub use status::Status;
+pub use terminal::HostTerminal;
