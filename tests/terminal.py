@@ -102,9 +102,10 @@ class Cases:
 
     def replays(self, folder):
         """Whether windplay takes the words of the record."""
-        with open(os.path.join(folder, 'r', 'command.txt'), encoding='utf-8') as file:
+        record = os.path.join(folder, 'r')
+        with open(os.path.join(record, 'command.txt'), encoding='utf-8') as file:
             words = file.read().split('\n')[:-1]
-        done = subprocess.run([self.play, *words], cwd=folder, capture_output=True, timeout=100, check=False)
+        done = subprocess.run([self.play, *words], cwd=record, capture_output=True, timeout=100, check=False)
         return done.returncode in (0, 3)
 
 

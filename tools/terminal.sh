@@ -10,6 +10,8 @@ typed() {
     settings=$(stty -g)
     trap 'stty "$settings" 2>/dev/null || :' EXIT
     trap 'exit 129' HUP
+    trap 'exit 130' INT
+    trap 'exit 131' QUIT
     trap 'exit 143' TERM
     stty -icanon min 1 time 0 -echo intr undef
     typed_program=$1
