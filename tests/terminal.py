@@ -167,7 +167,7 @@ def end_key(terminal):
     terminal.press('C-d')
     if not terminal.shows('status 0', '$'):
         return False
-    terminal.line('stty -a | tr "; " "\\n\\n" | grep -x -e icanon -e echo -e ^C')
+    terminal.line('stty -a | tr "; " "\\n\\n" | grep -F -x -e icanon -e echo -e ^C')
     return terminal.shows('^C', 'icanon', 'echo', '$')
 
 

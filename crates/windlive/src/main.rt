@@ -50,11 +50,7 @@ fn play_with<I: Input, F: Folder, E: Print + Drop>(
 }
 
 // Plays the session of this input. With a record, the board's modules are those of the record.
-fn play<I: Input, E: Print + Drop>(
-    around: Around,
-    input: &mut I,
-    err: &mut HostSink<E>,
-) -> u8 {
+fn play<I: Input, E: Print + Drop>(around: Around, input: &mut I, err: &mut HostSink<E>) -> u8 {
     let rt = around.rt;
     let alloc = rt.alloc();
     match command_of(alloc, around.words) {
