@@ -1,5 +1,5 @@
 -- Events that are sent one after the other.
-use Rattle.std.proofs.Common.{◌≡◌, ℕ, true, suc, zero, ◌+◌, ◌-◌, ◌<◌, ◌≤◌, List, [], ◌++◌, Option, None, Some, Result, Ok, Err, IfErr, OnOk, max, refl, sym, ap, ◌∙◌, subst, inl, inr, arith}
+use Rattle.std.proofs.Common.{◌≡◌, ℕ, true, suc, ◌+◌, ◌-◌, ◌<◌, List, [], ◌++◌, Option, None, Some, Result, Ok, Err, IfErr, OnOk, refl, sym, ap, ◌∙◌, subst, inl, inr, arith}
 use Rattle.std.proofs.lemmas.Grind.{common_steps}
 use Rattle.std.proofs.lemmas.List.{append-nil}
 use Rattle.tick_file.specs.declared.event.Event.{Event}
@@ -57,10 +57,10 @@ module _ (n period : ℕ) (event : Event) (start : ℕ) (l : LiveState) where
 
   module _ (count from : ℕ) (here : LiveState) (t : Spaced n period event start l count from here) where
     -- all were sent
-    pub spaced_end : n ≤ count → Sends n start None count l here
-    spaced_end done =
-        let none : 0 ≡ n - count = omega arith in
-        let same : count + 0 ≡ count = omega arith in
+    pub spaced_end : count ≡ n → Sends n start None n l here
+    spaced_end all =
+        let none : 0 ≡ n - count = omega (arith, all) in
+        let same : count + 0 ≡ n = omega (arith, all) in
         subst (λ k. Sends n start None k l here) same (t.goes_on None 0 here (subst (λ k. Sends k from None 0 here here) none (refl, refl, refl)))
 
     module _ (more : count < n) where

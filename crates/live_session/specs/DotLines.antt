@@ -1,6 +1,5 @@
 -- The lines that are for the program and not for the board.
-use Rattle.std.specs.Prelude.{ℕ, ◌-◌, Bool, false, ◌==◌, ◌&&◌, nat_le, if◌then◌else◌, List, [], ◌∷◌, length, take, drop, slice_index, Option, None, Some, codes}
-use Rattle.std.specs.List.{position_or_len}
+use Rattle.std.specs.Prelude.{ℕ, ◌-◌, Bool, false, ◌==◌, ◌&&◌, nat_le, if◌then◌else◌, List, [], ◌∷◌, length, take, drop, position, slice_index, Option, None, Some, unwrap_or, codes}
 use Rattle.std.specs.Option.{option_and_then, option_map}
 use Rattle.std.specs.Str.{bytes_eq}
 use Rattle.wind_base.specs.Decimal.{decimal_value}
@@ -36,7 +35,7 @@ greatest_slot = 15
 
 -- the first word of a text, up to a blank, and what follows it
 abbrev pub word_len : List ℕ → ℕ
-word_len text = position_or_len (λ byte. byte == 32) text
+word_len text = unwrap_or (position (λ byte. byte == 32) text) (length text)
 
 abbrev pub first_word : List ℕ → List ℕ
 first_word text = take (word_len text) text

@@ -1,6 +1,6 @@
 //! The lines that are for the program and not for the board.
 
-ghost use Rattle.std.specs.Prelude.{◌≡◌, ◌≤◌, length, IfSome};
+ghost use Rattle.std.specs.Prelude.{◌≡◌, ◌==◌, ◌≤◌, length, position, IfSome};
 ghost use Rattle.std.specs.Option.{option_map};
 ghost use Rattle.live_session.specs.DotLines.{dot_line_of, interrupt_asked as interrupt_asked_lem, interrupts_asked as interrupts_asked_lem, interrupts_of as interrupts_of_lem, is_dotted as is_dotted_lem, number_after as number_after_lem, plain_line as plain_line_lem, spaced_from as spaced_from_lem, spaced_of, text_after as text_after_lem, ticks_asked as ticks_asked_lem, ticks_of as ticks_of_lem, without_end as without_end_lem, word_len as word_len_lem};
 ghost use Rattle.live_session.specs.Spaced.{spaced_seen};
@@ -90,14 +90,20 @@ fn number_after(text: &[u8], word: &[u8], greatest: u64) -> Option<u64>
     }
 }
 
+// Where the first blank of a text is.
+fn blank_at(text: &[u8]) -> Option<usize>
+    ensures value { result ≡ position (λ byte. byte == 32) text.now }
+    ensures within { IfSome result (λ at. at ≤ length text.now) }
+{
+    text.iter().position(|byte| *byte == b' ')
+}
+
 // How many bytes the first word of a text has. It ends before a blank.
 fn word_len(text: &[u8]) -> usize
     ensures value { result ≡ word_len_lem text.now }
     ensures within { result ≤ length text.now }
 {
-    text.iter()
-        .position(|byte| *byte == b' ')
-        .unwrap_or(text.len())
+    blank_at(text).unwrap_or(text.len())
 }
 
 // `N every M`, and what follows.

@@ -15,13 +15,13 @@ pub returns-in-Ticks-clause-obeys : goal.returns-in-Ticks-clause-obeys
 returns-in-Ticks-clause-obeys g c = λ shelf setup old here. rw (c.unsent.ensures, c.in-Ticks.is) (c.run_counted_ticks.ensures.come c.args.end shelf setup old here, (refl, refl))
 
 pub returns-in-Events-clause-runs : goal.returns-in-Events-clause-runs
-returns-in-Events-clause-runs g c = rw c.unsent.ensures c.run_series.ensures.runs
+returns-in-Events-clause-runs g c = rw c.unsent-in-Events.ensures c.run_series.ensures.runs
 
 pub returns-in-Events-clause-console : goal.returns-in-Events-clause-console
-returns-in-Events-clause-console g c = c.run_series.ensures.console ∙ sym (sent_nothing _ _)
+returns-in-Events-clause-console g c = rw c.in-Events.is (c.run_series.ensures.console ∙ sym (sent_nothing _ _))
 
 pub returns-in-Events-clause-obeys : goal.returns-in-Events-clause-obeys
-returns-in-Events-clause-obeys g c = λ shelf setup old here. rw c.unsent.ensures (c.run_series.ensures.comes shelf setup old here, (refl, refl))
+returns-in-Events-clause-obeys g c = λ shelf setup old here. rw (c.unsent-in-Events.ensures, c.in-Events.is) (c.run_series.ensures.comes shelf setup old here, (refl, refl))
 
 pub returns-in-Run-clause-runs : goal.returns-in-Run-clause-runs
 returns-in-Run-clause-runs g c = rw c.unsent-in-Run.ensures c.run.ensures.runs

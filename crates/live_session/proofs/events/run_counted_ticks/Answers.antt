@@ -1,4 +1,7 @@
-use Rattle.std.proofs.Common.{◌≡◌, refl}
+use Rattle.std.proofs.Common.{◌≡◌, ℕ, None, refl, subst}
+use Rattle.wind_session.specs.Keeping.{messages}
+use Rattle.live_session.specs.Moments.{IsTold}
+use Rattle.live_session.specs.Spacing.{sent_text}
 use Rattle.live_session.proofs.events.run_counted_ticks.Goals as goal
 
 pub returns-clause-come : goal.returns-clause-come
@@ -6,5 +9,7 @@ returns-clause-come g c = λ now shelf setup old here. record {
   ran = _;
   come = c.run_ticks-end.ensures.come now shelf setup old here;
   same = refl;
-  told = c.tell_sent.ensures;
+  told =
+      subst (λ (count : ℕ). IsTold (sent_text count None) (messages g.E.Sink c.run_ticks-end.new.err) (messages g.E.Sink c.tell_sent.new.err)) c.saturating_sub.ensures
+      c.tell_sent.ensures.printed;
 }

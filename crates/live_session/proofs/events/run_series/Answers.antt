@@ -4,18 +4,18 @@ use Rattle.live_session.proofs.Flow.{runs_none, runs_on}
 use Rattle.live_session.proofs.Spacings.{may_bring, may_range}
 use Rattle.live_session.proofs.events.run_series.Goals as goal
 
-pub send_series-requires-clause-range : goal.send_series-requires-clause-range
-send_series-requires-clause-range g c = may_range _ _ (sym c.may_come.ensures ∙ c.if-not-may_come.false)
+pub send_series-sent-requires-clause-range : goal.send_series-sent-requires-clause-range
+send_series-sent-requires-clause-range g c = may_range _ _ (sym c.may_come.ensures ∙ c.if-not-may_come.false)
 
-pub send_series-requires-clause-no_bytes : goal.send_series-requires-clause-no_bytes
-send_series-requires-clause-no_bytes g c = may_bring _ _ (sym c.may_come.ensures ∙ c.if-not-may_come.false)
+pub send_series-sent-requires-clause-no_bytes : goal.send_series-sent-requires-clause-no_bytes
+send_series-sent-requires-clause-no_bytes g c = may_bring _ _ (sym c.may_come.ensures ∙ c.if-not-may_come.false)
 
 -- the slot is empty
 pub returns-then-not-may_come-clause-runs : goal.returns-then-not-may_come-clause-runs
 returns-then-not-may_come-clause-runs g c = runs_none _ _ _ _ c.requires.going c.requires.sound c.requires.over
 
 pub returns-then-not-may_come-clause-comes : goal.returns-then-not-may_come-clause-comes
-returns-then-not-may_come-clause-comes g c = λ shelf setup old here. inl (sym c.may_come.ensures ∙ c.if-not-may_come.true, refl, c.tell_no_device.ensures)
+returns-then-not-may_come-clause-comes g c = λ shelf setup old here. inl (sym c.may_come.ensures ∙ c.if-not-may_come.true, refl, c.tell_no_device.ensures.printed)
 
 -- the events were sent, and the board ran
 pub returns-clause-runs : goal.returns-clause-runs
@@ -38,5 +38,5 @@ returns-clause-comes g c = λ shelf setup old here.
       live = there;
       runs = rw (← c.steps_for-most.ensures) (c.run-end.ensures.made shelf setup old (record { shelf_is = here.shelf_is; live = there }));
       same = refl;
-      told = c.tell_sent.ensures;
+      told = c.tell_sent.ensures.printed;
     })

@@ -1,4 +1,3 @@
-use Rattle.std.proofs.Common.{◌≡◌, ◌+◌, ◌≤◌, Result, Ok, Err, max, arith, subst, sym}
 use Rattle.live_session.proofs.Spacings.{given_now, cause_now}
 use Rattle.live_session.proofs.live.send.Goals as goal
 
