@@ -1,5 +1,5 @@
 -- Where a session is after it went on, and what the parts of its input did.
-use Rattle.std.proofs.Common.{◌≡◌, ◌≢◌, ℕ, ◌+◌, List, [], ◌∷◌, ◌++◌, Option, None, Some, refl, sym, ap, ◌∙◌, subst}
+use Rattle.std.proofs.Common.{◌≡◌, ℕ, List, [], ◌∷◌, ◌++◌, Option, refl, sym, ap, ◌∙◌, subst}
 use Rattle.wind_outside.specs.Files.{Files}
 use Rattle.tick_file.specs.Schedule.{timetable_of}
 use Rattle.wind_machine.specs.State.{State}

@@ -1,5 +1,5 @@
 -- The moments of a live session, what a run of the board and an event lead to, and what is told.
-use Rattle.std.specs.Prelude.{◌≡◌, ℕ, ◌+◌, ◌-◌, ◌<◌, List, [], ◌∷◌, ◌++◌, Option, Some, None, length, min, max, codes}
+use Rattle.std.specs.Prelude.{◌≡◌, ℕ, ◌+◌, ◌-◌, ◌<◌, List, [], ◌∷◌, ◌++◌, Option, Some, None, length, min, max}
 use Rattle.wind_base.specs.Limits.{greatest_word, longest_text_file, most_steps}
 use Rattle.wind_outside.specs.Counts.{Rose}
 use Rattle.tick_file.specs.declared.event.Event.{Event}

@@ -1,4 +1,4 @@
-use Rattle.std.proofs.Common.{◌≡◌, ◌≢◌, ◌∙◌, ℕ, List, Option, Err, true, false, ap, arith, inl, inr, refl, rules, subst, sym}
+use Rattle.std.proofs.Common.{◌≡◌, ◌≢◌, ◌∙◌, ℕ, List, Err, true, false, ap, arith, inr, refl, rules, subst, sym}
 use Rattle.wind_base.specs.OutBuf.{Output}
 use Rattle.wind_session.specs.Keeping.{around, messages}
 use Rattle.live_session.specs.Ending.{IsGoing}
@@ -6,7 +6,6 @@ use Rattle.live_session.specs.Input.{IsLongest, IsPart, Takes}
 use Rattle.live_session.specs.LiveAround.{store}
 use Rattle.live_session.specs.Moments.{moment}
 use Rattle.live_session.specs.Seen.{live_by}
-use Rattle.live_session.specs.Session.{IsTyped}
 use Rattle.live_session.specs.Words.{command_state}
 use Rattle.live_session.specs.declared.dot_line.DotLine.TheVariants as lines
 use Rattle.live_session.specs.declared.serving.Request.TheVariants as requests

@@ -1,4 +1,4 @@
-use Rattle.std.proofs.Common.{◌≡◌, ◌∙◌, ap, refl, sym, inl, inr, ⊎_elim}
+use Rattle.std.proofs.Common.{◌∙◌, ap, refl, sym, inl, inr, ⊎_elim}
 use Rattle.wind_base.specs.OutBuf.{Output}
 use Rattle.live_session.proofs.Flow.{runs_none}
 use Rattle.live_session.proofs.Ticking.{sent_nothing}

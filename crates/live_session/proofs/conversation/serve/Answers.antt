@@ -1,4 +1,4 @@
-use Rattle.std.proofs.Common.{◌≡◌, refl, sym}
+use Rattle.std.proofs.Common.{refl, sym}
 use Rattle.live_session.proofs.Flow.{runs_none}
 use Rattle.live_session.proofs.Ticking.{sent_nothing}
 use Rattle.live_session.proofs.conversation.serve.Goals as goal

@@ -1,4 +1,4 @@
-use Rattle.std.proofs.Common.{◌≡◌, ℕ, None, refl, subst}
+use Rattle.std.proofs.Common.{ℕ, None, refl, subst}
 use Rattle.wind_session.specs.Keeping.{messages}
 use Rattle.live_session.specs.Moments.{IsTold}
 use Rattle.live_session.specs.Spacing.{sent_text}

@@ -1,4 +1,4 @@
-use Rattle.std.proofs.Common.{◌≡◌, ◌∙◌, ap, inl, inr, refl, subst, sym}
+use Rattle.std.proofs.Common.{◌∙◌, ap, inl, inr, refl, sym}
 use Rattle.wind_base.specs.OutBuf.{Output}
 use Rattle.live_session.proofs.Flow.{runs_none, runs_on}
 use Rattle.live_session.proofs.Spacings.{may_bring, may_range}

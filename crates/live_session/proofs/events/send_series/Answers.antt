@@ -1,4 +1,4 @@
-use Rattle.std.proofs.Common.{◌≡◌, ◌∙◌, ap, arith, refl, subst, sym}
+use Rattle.std.proofs.Common.{◌∙◌, ap, arith, subst, sym}
 use Rattle.live_session.specs.Seen.{LiveState, StaysLive, live_by}
 use Rattle.live_session.proofs.Flow.{stays_same}
 use Rattle.live_session.proofs.Spacings.{Spaced, spaced_begin, spaced_end, spaced_more, spaced_refused}

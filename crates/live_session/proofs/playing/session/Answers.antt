@@ -1,4 +1,4 @@
-use Rattle.std.proofs.Common.{refl, inl, ◌≡◌, ◌≢◌, ◌∙◌, ℕ, List, [], ◌∷◌, Option, Err, ap, arith, eqb, eqb-true, false, inr, length, rules, subst, sym}
+use Rattle.std.proofs.Common.{refl, inl, ◌≡◌, ◌≢◌, ◌∙◌, [], Option, Err, ap, arith, eqb-true, false, inr, length, rules, subst, sym}
 use Rattle.std.proofs.lemmas.List.{nil_from_length}
 use Rattle.wind_outside.specs.Counts.{Rose}
 use Rattle.wind_outside.specs.Files.{Files}
