@@ -1,9 +1,9 @@
-use Rattle.std.proofs.Common.{◌∙◌, Some, ap, inl, inr, refl, sym}
+use Rattle.std.proofs.Common.{ℕ, ◌∙◌, Some, ap, inl, inr, refl, subst, sym}
 use Rattle.wind_base.specs.OutBuf.{Output}
 use Rattle.wind_session.specs.Keeping.{around, messages}
 use Rattle.wind_session.specs.declared.run.RunEnd.TheVariants as ends
 use Rattle.live_session.specs.LiveAround.{store}
-use Rattle.live_session.specs.Moments.{Moment, moment}
+use Rattle.live_session.specs.Moments.{Moment, RunsFor, moment}
 use Rattle.live_session.specs.Seen.{live_by}
 use Rattle.live_session.proofs.Flow.{runs_none, runs_on, runs_sent}
 use Rattle.live_session.proofs.Journaling.{here_sent, journal_as, journal_both, journal_none}
@@ -68,21 +68,28 @@ returns-clause-console g c = ap (λ (o : Output). o.bytes) c.run-went.ensures.re
 
 pub returns-clause-comes : goal.returns-clause-comes
 returns-clause-comes g c = λ shelf setup old here.
+    let live = live_by (λ d. (goal.Device-dyn g (d.vtable, d.value)).kind_of d.value) (λ d. (goal.Device-dyn g (d.vtable, d.value)).words_of d.value) in
     let there = c.send_series-sent.ensures.stays.live shelf setup old _ here.live in
-    let before = (c.send_series-sent.ensures.journal (around g.F.Folder g.O.Sink c.args.folder.now c.args.out.now)).faults in
+    let now = around g.F.Folder g.O.Sink c.args.folder.now c.args.out.now in
+    let files = store g.D.RecordFolder c.args.records.now in
+    let noted = store g.D.RecordFolder c.send_series-sent.new.records in
+    let ran : Moment =
+    moment (live c.run-went.new.live) (around g.F.Folder g.O.Sink c.run-went.new.folder c.run-went.new.out) (messages g.E.Sink c.run-went.new.err)
+    (store g.D.RecordFolder c.run-went.new.records) c.run-went.result.end c.run-went.result.unsaved in
     inr (record {
       sent = c.send_series-sent.result.count;
       refusal = c.send_series-sent.result.refusal;
       failure = c.send_series-sent.result.unsaved;
-      mid = _;
-      ran = _;
+      mid = live c.send_series-sent.new.live;
+      ran = ran;
       may = sym c.may_come.ensures ∙ c.if-not-may_come.false;
       are_sent = c.send_series-sent.ensures.sent;
       live = there;
       halted = λ some. absurd (some c.in_default.is);
       runs =
-          runs_later _ shelf setup old _ _ _ _ _ before c.run-went.ensures.journal.faults
-          (rw (← c.steps_for-most.ensures) (c.run-went.ensures.made shelf setup old (record { shelf_is = here.shelf_is; live = there })));
+          subst (λ (n : ℕ). RunsFor n shelf setup old (live c.send_series-sent.new.live) now files ran) c.steps_for-most.ensures
+          (runs_later c.steps_for-most.result shelf setup old (live c.send_series-sent.new.live) now files noted ran (c.send_series-sent.ensures.journal now).faults c.run-went.ensures.journal.faults
+          (c.run-went.ensures.made shelf setup old (record { shelf_is = here.shelf_is; live = there })));
       same = refl;
       told = c.tell_sent-2.ensures.printed;
     })
