@@ -270,7 +270,7 @@ def refusals(cases):
 
 def filling(cases):
     """A disk that fills at each byte: no file may be longer than a limit."""
-    typed = b''.join(b'%d+%d\n' % (n, n) for n in range(40)) + b'.ticks 3\n'
+    typed = b''.join(b'%d+%d\n' % (n, n) for n in range(40)) + b'.ticks 3\n.irqs 3 every 5 0\n'
     for limit in range(500):
         with tempfile.TemporaryDirectory() as folder:
             small = lambda: resource.setrlimit(resource.RLIMIT_FSIZE, (limit, limit))
@@ -291,14 +291,9 @@ def main():
     modules(cases)
     module_outside(cases)
     refusals(cases)
-<<<<<<< HEAD
     filling(cases)
-    for seed in range(200):
-        cases.session(f'random session {seed}', random_session(random.Random(seed)), '--quiet-after=2000')
-=======
     for seed in range(300):
         at_random(cases, seed)
->>>>>>> 9eb0b5e13698b182f728633aba58ad7db03186a4
     print(f'live sessions: {cases.count}, differing: {cases.differing}')
     return 1 if cases.differing else 0
 
