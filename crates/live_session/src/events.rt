@@ -1,7 +1,6 @@
 //! Events that a line for the program sends, a period of board time apart.
 
-ghost use Rattle.std.specs.Prelude.{◌≡◌, ◌++◌, codes, None};
-ghost use Rattle.std.specs.Fmt.{decimal};
+ghost use Rattle.std.specs.Prelude.{◌≡◌, None};
 ghost use Rattle.tick_file.specs.Writing.{IsInRange};
 ghost use Rattle.wind_machine.specs.Extending.{bytes_asked};
 ghost use Rattle.wind_machine.specs.Machine.{IsOver};
