@@ -14,7 +14,7 @@ import subprocess
 import sys
 import tempfile
 
-TYPED = b'1+2\n.ticks 2\ns = semBCreate(0, 0)\nsemTake s, 2\n.ticks 3\nprintf("%d\\n", tickGet())\n'
+TYPED = b'1+2\n.ticks 2\ns = semBCreate(0, 0)\nsemTake s, 2\n.ticks 3\n.irqs 2 every 9 0\n.ticks 2 every 30\nprintf("%d\\n", tickGet())\n'
 # Requests of ptrace, and an option of it: a child doesn't outlive its tracer.
 TRACE_ME, NEXT_CALL, SET_OPTIONS = 0, 24, 0x4200
 EXIT_KILL = 0x100000
@@ -68,7 +68,7 @@ def replayed(program, folder):
             words = file.read().split('\n')[:-1]
     except FileNotFoundError:
         return b''
-    done = subprocess.run([program, *words], cwd=folder, capture_output=True, timeout=100)
+    done = subprocess.run([program, *words], cwd=os.path.join(folder, 'r'), capture_output=True, timeout=100)
     return done.stdout
 
 

@@ -2,24 +2,41 @@
 """Plays live sessions with LIVE, and replays each by the words of its record with PLAY.
 
 A replay has to write the same bytes, and to end as the session did: with status 0 if nothing was left to do, else
-with status 3 at its limit. 200 sessions are typed at random, and a few by hand. It prints a line for each session
-that differs, and one that counts them. It ends with 1 if one differs.
+with status 3 at its limit. A few sessions are typed by hand, and 300 at random; in these, modules are replaced between
+loads, and the script `play` replays each. It prints a line for each session that differs, and one that counts them. It
+ends with 1 if one differs.
 
 usage: tests/live.py LIVE PLAY
 """
 import os
 import random
 import resource
+import shutil
 import subprocess
 import sys
 import tempfile
+
+TOP = os.path.dirname(os.path.dirname(os.path.abspath(__file__)))
 
 LINES = [
     b'1+2', b's = semBCreate(0, 0)', b'semGive s', b'semTake s, 3', b'm = semMCreate(13)', b'semTake m, -1', b'semGive m',
     b'taskDelay 2', b'sp taskDelay, 3', b'sp semTake, m, -1', b'i', b'tickGet', b'printf("%d\\n", tickGet())', b'w = wdCreate()',
     b'wdStart w, 2, semGive, s', b'*0x1000 = 0x48000000', b'1 +', b'', b'a' * 300, b'\xff\xfe\x00', b'x = 5; y = x * 2; y',
 ]
-DOTS = [b'.ticks 1', b'.ticks 3', b'.run 5', b'.run 100', b'.break', b'.state', b'.save', b'.help', b'.nothing']
+LOADS = [b'ld < f.o', b'ld < f.o', b'ld < g.o', b'ld < ../f.o', b'ld < no.o', b'unld "f.o"', b'&worker', b'sum 4', b'sp worker, s, s', b'worker']
+DOTS = [
+    b'.ticks 1', b'.ticks 3', b'.ticks 4 every 7', b'.ticks 2 every 300', b'.irq 0', b'.irq 9', b'.irqs 3 every 20 2', b'.irqs 2 every 1 1', b'.run 5',
+    b'.run 100', b'.break', b'.state', b'.save', b'.help',
+]
+
+# Modules that define different symbols, or the same ones differently.
+MODULES = ['function/function.o', 'deadlock/deadlock.o', 'device_interrupt/worker.o', 'turns/turns.o']
+
+# A line that shows that the lines before it have been read.
+MARK = b'.nothing\n'
+
+# A task that never waits.
+BUSY = b'*0x1000 = 0x48000000\nsp 0x1000\n'
 
 
 def live(program, folder, typed, *words, **more):
@@ -28,11 +45,44 @@ def live(program, folder, typed, *words, **more):
     return done.returncode, done.stdout, done.stderr
 
 
+def place(module, folder, name):
+    """Makes a file of the folder of modules a copy of an example's module."""
+    shutil.copyfile(os.path.join(TOP, 'examples', module), os.path.join(folder, 'm', name))
+
+
+def read_to_mark(stream):
+    """Reads messages up to the one for the mark, or to the end."""
+    for line in stream:
+        if line.startswith(b'windlive: unknown'):
+            return
+
+
+def live_in_pieces(program, folder, pieces, *words):
+    """A session in a folder with a record, whose module f.o is replaced before each piece: its status and what it showed."""
+    with open(os.path.join(folder, 'shown'), 'w+b') as shown:
+        play = subprocess.Popen([program, '--record=r', '--modules=m', *words], cwd=folder, stdin=subprocess.PIPE, stdout=shown, stderr=subprocess.PIPE)
+        for module, typed in pieces:
+            place(module, folder, 'f.o')
+            play.stdin.write(typed + MARK)
+            play.stdin.flush()
+            read_to_mark(play.stderr)
+        play.communicate(b'1+', timeout=100)
+        shown.seek(0)
+        return play.returncode, shown.read()
+
+
+def replay_by_script(folder):
+    """The status of the replay of a record by the script `play`, and what it wrote."""
+    done = subprocess.run([os.path.join(TOP, 'play'), 'r'], cwd=folder, capture_output=True, timeout=100)
+    return done.returncode, done.stdout
+
+
 def replay(program, folder):
-    """The status of the replay of a record, and what it wrote."""
-    with open(os.path.join(folder, 'r', 'command.txt'), encoding='utf-8') as file:
+    """The status of the replay of a record, from its own folder, and what it wrote."""
+    record = os.path.join(folder, 'r')
+    with open(os.path.join(record, 'command.txt'), encoding='utf-8') as file:
         words = file.read().split('\n')[:-1]
-    done = subprocess.run([program, *words], cwd=folder, capture_output=True, timeout=100)
+    done = subprocess.run([program, *words], cwd=record, capture_output=True, timeout=100)
     return done.returncode, done.stdout
 
 
@@ -57,7 +107,7 @@ class Cases:
             self.differing += 1
             print(f'{name}: differs')
 
-    def session(self, name, typed, *words, status=0, replayed=(0, 3), console=None, shown=None, said=None, before=None):
+    def session(self, name, typed, *words, status=0, replayed=(0, 3), console=None, ticks=None, shown=None, said=None, before=None):
         """A session, its record and its replay."""
         with tempfile.TemporaryDirectory() as folder:
             os.mkdir(os.path.join(folder, 'r'))
@@ -67,17 +117,33 @@ class Cases:
             again, bytes_again = replay(self.play, folder)
             self.check(name, ended == status and again in replayed and bytes_again == out
                        and (console is None or held(folder, 'console.txt') == console)
+                       and (ticks is None or held(folder, 'ticks.txt') == ticks)
                        and (shown is None or shown in out) and (said is None or said in err))
 
 
+def random_line(dice):
+    """A line for the board, or one for the program."""
+    return dice.choice(dice.choice([LINES, LINES, LOADS, DOTS]))
+
+
 def random_session(dice):
-    """Lines of a session: most are for the board, some for the program, and some have no end."""
-    typed = b''
-    for _ in range(dice.randrange(1, 12)):
-        typed += dice.choice(LINES if dice.random() < 0.7 else DOTS) + b'\n'
-    if dice.random() < 0.1:
-        typed += b'1+'
-    return typed
+    """The pieces of a session, with the module that each finds as f.o."""
+    pieces = []
+    for _ in range(dice.randrange(1, 5)):
+        typed = b''.join(random_line(dice) + b'\n' for _ in range(dice.randrange(1, 6)))
+        pieces.append((dice.choice(MODULES), typed))
+    return pieces
+
+
+def at_random(cases, seed):
+    """A session of this seed, its record and its replay."""
+    with tempfile.TemporaryDirectory() as folder:
+        for name in ('m', 'r'):
+            os.mkdir(os.path.join(folder, name))
+        place('modules/talk.o', folder, 'g.o')
+        status, shown = live_in_pieces(cases.live, folder, random_session(random.Random(seed)), '--quiet-after=2000')
+        again, shown_again = replay_by_script(folder)
+        cases.check(f'random session {seed}', status == 0 and again in (0, 3) and shown_again == shown)
 
 
 def by_hand(cases):
@@ -88,7 +154,19 @@ def by_hand(cases):
     cases.session('a line of 300 bytes', b'a' * 300 + b'\n', console=b'a' * 300 + b'\n')
     cases.session('a line of 5000 bytes', b'b' * 5000 + b'\n', console=b'b' * 5000 + b'\n')
     cases.session('bytes that are no text', b'\xff\xfe\x80\n1\n', console=b'\xff\xfe\x80\n1\n')
-    cases.session('ticks', b'taskDelay 3; tickGet\n.ticks 5\n', shown=b'value = 3 = 0x3', replayed=(0,))
+    cases.session('ticks', b'taskDelay 3; tickGet\n.ticks 5\n', shown=b'value = 3 = 0x3', said=b'windlive: events sent: 5\n', replayed=(0,))
+    cases.session('no ticks over a busy task', BUSY + b'.ticks 3\n', '--quiet-after', '1000', said=b'windlive: events sent: 0\n')
+    cases.session('ticks over a busy task', BUSY + b'.ticks 3 every 100\ntickGet\n', '--quiet-after', '1000', shown=b'value = 3 = 0x3',
+                  said=b'windlive: events sent: 3\n')
+    cases.session('the times of ticks', b'.ticks 3 every 100\n', said=b'windlive: events sent: 3\n', ticks=b'tick 101\ntick 201\ntick 301\n',
+                  replayed=(0,))
+    cases.session('an interrupt', b'.irq 2\n', said=b'windlive: events sent: 1\n', ticks=b'irq 2 2\n', replayed=(0,))
+    cases.session('interrupts', b'.irqs 2 every 10 0\n', said=b'windlive: events sent: 2\n', ticks=b'irq 11 0\nirq 21 0\n', replayed=(0,))
+    cases.session('an interrupt of an empty slot', b'.irq 3\n', said=b'windlive: not sent: slot 3 has no device\n', ticks=b'', replayed=(0,))
+    cases.session('too many ticks', b'.ticks 100000 every 1\n', said=b'events sent: 9', replayed=(0, 3))
+    for line in (b'.ticks 1 every 0', b'.ticks 1 every 1000001', b'.ticks 1 every', b'.ticks 1 every 2 3', b'.irq 16', b'.irq', b'.irqs 1 every 2',
+                 b'.irqs 1 every 2 16', b'.ticks  1 every 2'):
+        cases.session(f'no line for the program: {line}', line + b'\n', said=b'unknown', ticks=b'', replayed=(0,))
     cases.session('a long line for the program', b'.' + b'c' * 5000 + b'\n1\n', console=b'1\n', said=b'unknown')
     cases.session('a busy loop and a break', b'*0x1000 = 0x48000000\n(0x1000)()\n.run 10\n.break\n7\n', '--quiet-after', '1000',
                   said=b'still running', shown=b'value = 7 = 0x7')
@@ -96,6 +174,53 @@ def by_hand(cases):
     cases.session('a task that sleeps', b'sp taskDelay, 1\n.ticks 1\n', replayed=(0,))
     full = (b'd' * 4095 + b'\n') * 256
     cases.session('a console file of 1 MiB', full + b'1+2\n.ticks 1\n', console=full, said=b'not sent: console.txt would be longer than 1 MiB')
+
+
+def modules(cases):
+    """A record has the modules that its session loaded, as they were when they were first loaded."""
+    with tempfile.TemporaryDirectory() as folder:
+        os.mkdir(os.path.join(folder, 'm'))
+        place('function/function.o', folder, 'f.o')
+        words = [cases.live, '--record=r', '--modules=m']
+        play = subprocess.Popen(words, cwd=folder, stdin=subprocess.PIPE, stdout=subprocess.PIPE, stderr=subprocess.PIPE)
+        play.stdin.write(b'ld < f.o\n')
+        play.stdin.flush()
+        shown = until(play.stdout, b'\n-> ')
+        place('deadlock/deadlock.o', folder, 'f.o')
+        out, err = play.communicate(b'ld < f.o\nld < ../f.o\nld < no.o\n.quit\n', timeout=100)
+        cases.check('a module that has changed', b'f.o has changed; this record keeps the first: load it under another name\n' in err)
+        cases.check('a name that is a path', b'../f.o isn\'t in the record, since its name is a path\n' in err)
+        with open(os.path.join(TOP, 'examples', 'function', 'function.o'), 'rb') as kept:
+            cases.check('the copy of a module', kept.read() == held(folder, os.path.join('modules', 'f.o')))
+        cases.check('no other file', sorted(os.listdir(folder)) == ['m', 'r'] and os.listdir(os.path.join(folder, 'r', 'modules')) == ['f.o'])
+        shutil.rmtree(os.path.join(folder, 'm'))
+        os.mkdir(os.path.join(folder, 'elsewhere'))
+        os.rename(os.path.join(folder, 'r'), os.path.join(folder, 'elsewhere', 'r'))
+        _, again = replay(cases.play, os.path.join(folder, 'elsewhere'))
+        cases.check('the replay of a record elsewhere', again == shown + out)
+
+
+def module_outside(cases):
+    """A module whose name leads out of the record's folder of modules isn't copied."""
+    with tempfile.TemporaryDirectory() as folder:
+        os.mkdir(os.path.join(folder, 'm'))
+        place('function/function.o', folder, '../console.txt')
+        typed = b'ld < ../console.txt\n'
+        _, out, err = live(cases.live, folder, typed, '--modules=m')
+        cases.check('a module outside its folder', b'value = ' in out and b'../console.txt isn\'t in the record, since its name is a path\n' in err)
+        cases.check('the files of that record', held(folder, 'console.txt') == typed
+                    and sorted(os.listdir(os.path.join(folder, 'r'))) == ['command.txt', 'console.txt', 'ticks.txt'])
+
+
+def until(stream, end):
+    """The bytes of a stream up to an end."""
+    shown = b''
+    while not shown.endswith(end):
+        byte = stream.read(1)
+        if not byte:
+            break
+        shown += byte
+    return shown
 
 
 def refusals(cases):
@@ -145,7 +270,7 @@ def refusals(cases):
 
 def filling(cases):
     """A disk that fills at each byte: no file may be longer than a limit."""
-    typed = b''.join(b'%d+%d\n' % (n, n) for n in range(40)) + b'.ticks 3\n'
+    typed = b''.join(b'%d+%d\n' % (n, n) for n in range(40)) + b'.ticks 3\n.irqs 3 every 5 0\n'
     for limit in range(500):
         with tempfile.TemporaryDirectory() as folder:
             small = lambda: resource.setrlimit(resource.RLIMIT_FSIZE, (limit, limit))
@@ -163,10 +288,12 @@ def main():
         return 2
     cases = Cases(os.path.abspath(sys.argv[1]), os.path.abspath(sys.argv[2]))
     by_hand(cases)
+    modules(cases)
+    module_outside(cases)
     refusals(cases)
     filling(cases)
-    for seed in range(200):
-        cases.session(f'random session {seed}', random_session(random.Random(seed)), '--quiet-after=2000')
+    for seed in range(300):
+        at_random(cases, seed)
     print(f'live sessions: {cases.count}, differing: {cases.differing}')
     return 1 if cases.differing else 0
 

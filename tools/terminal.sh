@@ -1,8 +1,8 @@
 # How a program is run at a terminal. `live` and the installed windlive source this file.
 # shellcheck shell=sh
 
-# Runs a program on its words. At a terminal the terminal's own echo is off, since the board echoes; at every end that can be caught
-# the terminal is as it was.
+# Runs a program on its words. At a terminal its keys come one by one: the terminal neither edits nor echoes, ^C is a key, and the
+# program gets the word --terminal. At every end that can be caught the terminal is as it was.
 #
 # usage: typed PROGRAM WORDS..
 typed() {
@@ -11,7 +11,10 @@ typed() {
     trap 'stty "$settings" 2>/dev/null || :' EXIT
     trap 'exit 129' HUP
     trap 'exit 130' INT
+    trap 'exit 131' QUIT
     trap 'exit 143' TERM
-    stty -echo
-    "$@"
+    stty -icanon min 1 time 0 -echo intr undef
+    typed_program=$1
+    shift
+    "$typed_program" --terminal "$@"
 }

@@ -38,6 +38,13 @@ file words '--limit 3\n'
 plays_in "$work/session" .
 ends 3 '-> 1+2\n' "${proved}windplay: limit of 3 steps reached\n"
 
+shows 'play takes the words of a record from its folder'
+mkdir -p "$work/record/modules"
+cp "$work/session/console.txt" "$work/session/ticks.txt" "$work/record"
+printf '%s\n' --console=console.txt --ticks=ticks.txt --modules=modules --limit=3 >"$work/record/command.txt"
+plays_in "$work" record
+ends 3 '-> 1+2\n' "${proved}windplay: limit of 3 steps reached\n"
+
 shows 'play without a word tells its usage'
 plays_in "$work"
 difference=

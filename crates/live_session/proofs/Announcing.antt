@@ -15,7 +15,7 @@ use Rattle.wind_session.specs.Outside.{Outside}
 use Rattle.wind_session.specs.Live.{IsLive}
 use Rattle.wind_session.specs.declared.run.RunEnd.TheVariants as ends
 use Rattle.live_session.specs.Journal.{IsPrefixShown, IsReplay}
-use Rattle.live_session.specs.Moments.{IsSent, event_time}
+use Rattle.live_session.specs.Moments.{IsGiven, event_time}
 use Rattle.live_session.specs.Record.{last_time}
 use Rattle.live_session.specs.Seen.{IsLiveAt, IsSound, LiveState}
 use Rattle.live_session.proofs.Recording.{recordable}
@@ -96,23 +96,23 @@ module _ (law : ExtendLaw) (records : RecordLaw) (shelf : Shelf) (setup : Setup)
       (replay_longer limit within)))
 
 -- ---- the tick file of a session to which an event was sent
-module _ (one_more : LongerLaw) (l n : LiveState) (event : Event) (bytes : List ℕ) (before : IsSound l) (sound : IsSound n) (range : IsInRange event) (sent : IsSent event bytes l n) where
-  time_fits : event_time l ≤ greatest_word
+module _ (one_more : LongerLaw) (l n : LiveState) (time : ℕ) (due : event_time l ≤ time) (event : Event) (bytes : List ℕ) (before : IsSound l) (sound : IsSound n) (range : IsInRange event) (sent : IsGiven time event bytes l n) where
+  time_fits : time ≤ greatest_word
   time_fits = omega (arith, sent.last, sound.kept.last_is, last_fits 0 sound.kept.events sound.kept.fits (omega arith))
 
   pub longer_timetable : timetable_of n.ticks.bytes
-      ≡ longer (more_of [] (1 + length before.kept.events) (event_time l) event (timetable_of l.ticks.bytes).on_demand) (timetable_of l.ticks.bytes)
+      ≡ longer (more_of [] (1 + length before.kept.events) time event (timetable_of l.ticks.bytes).on_demand) (timetable_of l.ticks.bytes)
   longer_timetable =
       let xs = before.kept.events in
-      let fits : AreRecordable 0 (xs ++ (event_time l, event) ∷ []) = recordable 0 xs (event_time l) event before.kept.fits (omega (arith, before.kept.last_is)) time_fits range in
-      ap timetable_of (sent.ticks ∙ ap (λ b. b ++ (event_line (event_time l) event ++ 10 ∷ [])) before.kept.text)
-      ∙ one_more xs (event_time l) event fits
-      ∙ ap (λ (b : List ℕ). longer (more_of [] (1 + length xs) (event_time l) event (timetable_of b).on_demand) (timetable_of b)) (sym before.kept.text)
+      let fits : AreRecordable 0 (xs ++ (time, event) ∷ []) = recordable 0 xs time event before.kept.fits (omega (arith, before.kept.last_is, due)) time_fits range in
+      ap timetable_of (sent.ticks ∙ ap (λ b. b ++ (event_line time event ++ 10 ∷ [])) before.kept.text)
+      ∙ one_more xs time event fits
+      ∙ ap (λ (b : List ℕ). longer (more_of [] (1 + length xs) time event (timetable_of b).on_demand) (timetable_of b)) (sym before.kept.text)
 
 -- what was shown is a prefix of what a replay of the longer tick file writes
-pub announced : ExtendLaw → RecordLaw → LongerLaw → (shelf : Shelf) (setup : Setup) (l n : LiveState) (event : Event) (bytes : List ℕ) (old now : Outside) (limit : ℕ)
-    → IsSound l → IsSound n → IsInRange event → IsSent event bytes l n → IsLiveAt shelf setup l old now → l.board.steps ≤ limit
+pub announced : ExtendLaw → RecordLaw → LongerLaw → (shelf : Shelf) (setup : Setup) (l n : LiveState) (time : ℕ) → event_time l ≤ time → (event : Event) (bytes : List ℕ) (old now : Outside) (limit : ℕ)
+    → IsSound l → IsSound n → IsInRange event → IsGiven time event bytes l n → IsLiveAt shelf setup l old now → l.board.steps ≤ limit
     → IsReplay shelf (booted setup l.console.bytes (timetable_of n.ticks.bytes)) limit old.bytes now.bytes
-announced law records one_more shelf setup l n event bytes old now limit before sound range sent live within =
-    replay_announced law records shelf setup l.console.bytes l.ticks.bytes l.board old now live (1 + length before.kept.events) (event_time l) event (omega arith) limit within n.ticks.bytes
-    (longer_timetable one_more l n event bytes before sound range sent)
+announced law records one_more shelf setup l n time due event bytes old now limit before sound range sent live within =
+    replay_announced law records shelf setup l.console.bytes l.ticks.bytes l.board old now live (1 + length before.kept.events) time event (omega arith) limit within n.ticks.bytes
+    (longer_timetable one_more l n time due event bytes before sound range sent)

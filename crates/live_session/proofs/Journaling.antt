@@ -20,7 +20,7 @@ use Rattle.live_session.specs.Ending.{IsGoing}
 use Rattle.live_session.specs.Folder.{Lengthened, Replaced}
 use Rattle.live_session.specs.Journal.{Holds, IsAlwaysReplayed, IsCurrent, IsReplayed, Journaled, Scene, scene}
 use Rattle.live_session.specs.LiveAround.{Store}
-use Rattle.live_session.specs.Moments.{IsHere, IsSameRecord, IsSent, Wherever, event_time}
+use Rattle.live_session.specs.Moments.{IsGiven, IsHere, IsSameRecord, Wherever, event_time}
 use Rattle.live_session.specs.Saving.{IsAdded, WritesOnly, command_path, command_text, console_path, ticks_path}
 use Rattle.live_session.specs.Seen.{IsLiveAt, IsSound, LiveState, Runs, StaysLive}
 use Rattle.live_session.specs.declared.saving.Unsaved.{Unsaved}
@@ -166,8 +166,8 @@ journal_limit law c e l a before after limit w sound reached few =
     }
 
 -- ---- an event
-module _ (law : WritingLaw) (extends : ExtendLaw) (records : RecordLaw) (one_more : LongerLaw) (c : CommandState) (l m : LiveState) (a : Around) (event : Event) (bytes line : List ℕ)
-    (before_sound : IsSound l) (stays : StaysLive l m) (range : IsInRange event) (sent : IsSent event bytes l m) (line_is : line ≡ event_line (event_time l) event ++ 10 ∷ []) where
+module _ (law : WritingLaw) (extends : ExtendLaw) (records : RecordLaw) (one_more : LongerLaw) (c : CommandState) (l m : LiveState) (a : Around) (time : ℕ) (due : event_time l ≤ time) (event : Event) (bytes line : List ℕ)
+    (before_sound : IsSound l) (stays : StaysLive l m) (range : IsInRange event) (sent : IsGiven time event bytes l m) (line_is : line ≡ event_line time event ++ 10 ∷ []) where
   ticks_are : l.ticks.bytes ++ line ≡ m.ticks.bytes
   ticks_are = ap (λ x. l.ticks.bytes ++ x) line_is ∙ sym sent.ticks
 
@@ -189,7 +189,7 @@ module _ (law : WritingLaw) (extends : ExtendLaw) (records : RecordLaw) (one_mor
     held = held;
     words = replay_text c limit few;
     planned = planned law l.console m.ticks m.lines m.last before_sound.console stays.sound.kept;
-    replay = announced extends records one_more shelf setup l m event bytes old a.logged limit before_sound stays.sound range sent live within;
+    replay = announced extends records one_more shelf setup l m time due event bytes old a.logged limit before_sound stays.sound range sent live within;
   }
 
   line_always : (shelf : Shelf) (setup : Setup) (old : Outside) (files new : Option Files) → IsLiveAt shelf setup l old a.logged → IsCurrent c l files → Lengthened files new (ticks_path c.record_folder) line

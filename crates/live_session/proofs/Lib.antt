@@ -15,6 +15,7 @@ pub mod Replays
 pub mod SavedFiles
 pub mod Scenes
 pub mod Sending
+pub mod Spacings
 pub mod Starting
 pub mod Ticking
 pub mod Typing

@@ -18,7 +18,7 @@ use Rattle.wind_session.specs.Command.{BoardOptionsState, CommandState as Sessio
 use Rattle.wind_session.specs.declared.command.Source.TheVariants as sources
 use Rattle.wind_session.proofs.CommandLemmas.{command_on_literals}
 use Rattle.live_session.specs.Command.{CommandState}
-use Rattle.live_session.specs.Saving.{IsReplayText, board_digit, console_path, profile_digit, ticks_path}
+use Rattle.live_session.specs.Saving.{IsReplayText, board_digit, profile_digit}
 
 -- the limit is read back from its digits
 limit_value : (n : ℕ) → n ≤ most_steps → number_value most_steps (decimal n) ≡ Some n
@@ -67,8 +67,8 @@ pub replay_text : (c : CommandState) (limit : ℕ) → limit ≤ most_steps → 
 replay_text c limit within = record {
   lines = simp append_assoc;
   command =
-      words_give _ _ c.modules (profile_digit c.profile) (board_digit c.board) (decimal limit)
-      ∙ ap (λ n. made_of (console_path c.record_folder) (ticks_path c.record_folder) c.modules n (profile_value (profile_digit c.profile)) (board_value (board_digit c.board))) (limit_value limit within)
-      ∙ ap (λ (p : Option Profile). made_of (console_path c.record_folder) (ticks_path c.record_folder) c.modules (Some limit) p (board_value (board_digit c.board))) (profile_read c.profile)
-      ∙ ap (λ (b : Option BoardKind). made_of (console_path c.record_folder) (ticks_path c.record_folder) c.modules (Some limit) (Some c.profile) b) (board_read c.board);
+      words_give _ _ _ (profile_digit c.profile) (board_digit c.board) (decimal limit)
+      ∙ ap (λ n. made_of (codes "console.txt") (codes "ticks.txt") (codes "modules") n (profile_value (profile_digit c.profile)) (board_value (board_digit c.board))) (limit_value limit within)
+      ∙ ap (λ (p : Option Profile). made_of (codes "console.txt") (codes "ticks.txt") (codes "modules") (Some limit) p (board_value (board_digit c.board))) (profile_read c.profile)
+      ∙ ap (λ (b : Option BoardKind). made_of (codes "console.txt") (codes "ticks.txt") (codes "modules") (Some limit) (Some c.profile) b) (board_read c.board);
 }

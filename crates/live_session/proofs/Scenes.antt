@@ -1,5 +1,5 @@
 -- The files of a record while they are written, and the scenes of a session.
-use Rattle.std.proofs.Common.{◌≡◌, ℕ, true, false, cond, List, [], ◌∷◌, ◌++◌, Option, None, Some, eqb, refl, sym, ap, ◌∙◌, subst, arith}
+use Rattle.std.proofs.Common.{◌≡◌, ℕ, true, false, cond, List, [], ◌∷◌, ◌++◌, Option, None, Some, Result, Ok, Err, OnOk, OnErr, eqb, inl, inr, refl, sym, ap, ◌∙◌, subst, arith}
 use Rattle.std.specs.Prelude.{IfSome, IsSomeAnd, codes, ◌&&◌}
 use Rattle.std.specs.Str.{bytes_eq}
 use Rattle.std.proofs.lemmas.Bool.Decides.{nat_tests}
@@ -9,7 +9,7 @@ use Rattle.wind_session.specs.Paths.{path_in}
 use Rattle.live_session.specs.Command.{CommandState}
 use Rattle.live_session.specs.Folder.{Lengthened, Replaced}
 use Rattle.live_session.specs.Journal.{Holds, Passes, Scene}
-use Rattle.live_session.specs.Saving.{command_path, command_text, console_path, ticks_path}
+use Rattle.live_session.specs.Saving.{IsSavedInPart, command_path, command_text, console_path, ticks_path}
 
 -- ---- scenes
 pub passes_on : (Holding : Scene → Type 0) (a : Scene) (xs : List Scene) (b : Scene) (ys : List Scene) (d : Scene) → Passes Holding a xs b → Passes Holding b ys d → Passes Holding a (xs ++ ys) d
@@ -124,3 +124,10 @@ module _ (c : CommandState) (console ticks : List ℕ) (limit : ℕ) (old new : 
   console_longer bytes longer =
       known_longer old new (console_path c.record_folder) bytes console
       (if_held old (Holds c console ticks limit) (λ held. held (console_path c.record_folder) ≡ Some console) (λ held h. h.console_is) holds) longer
+
+-- ---- the last file was written, or not
+pub saved_in_part : {A E : Type 0} (result : Result A E) (c : CommandState) (console ticks : List ℕ) (limit : ℕ) (old with_console with_ticks new : Option Files)
+    → Replaced old with_console (console_path c.record_folder) console → Replaced with_console with_ticks (ticks_path c.record_folder) ticks
+    → OnOk result (Replaced with_ticks new (command_path c.record_folder) (command_text c limit)) → OnErr result (new ≡ with_ticks) → IsSavedInPart c console ticks limit old new
+saved_in_part (Ok x) c console ticks limit old with_console with_ticks new first second ok err = inr (with_console, first, inr (with_ticks, second, inr ok))
+saved_in_part (Err e) c console ticks limit old with_console with_ticks new first second ok err = inr (with_console, first, inr (with_ticks, second, inl err))

@@ -9,7 +9,7 @@ use Rattle.wind_machine.specs.Extending.{IsRoom, Setup, bytes_asked, extended, m
 use Rattle.wind_session.specs.Live.{IsLive, TypedLaw}
 use Rattle.wind_session.specs.Modules.{Shelf}
 use Rattle.wind_session.specs.Outside.{Outside}
-use Rattle.live_session.specs.Moments.{IsSent, event_time}
+use Rattle.live_session.specs.Moments.{IsGiven}
 use Rattle.live_session.specs.Record.{IsRecord, IsWithinFile}
 use Rattle.live_session.specs.Seen.{LiveState, IsLiveAt, IsSound, StaysLive}
 use Rattle.live_session.proofs.Recording.{added, room_after, sent_live, within_file}
@@ -56,9 +56,9 @@ module _ (more : MoreLaw) (l m : LiveState) (time : ℕ) (event : Event) (bytes 
       (subst (λ (text : Output). IsLive shelf setup text.bytes (l.ticks.bytes ++ line) grown old now) (sym s.console)
       (sent_live law more shelf setup l.console.bytes l.ticks l.lines l.last time event bytes line l.board old now sound.kept s.late s.fits s.range s.asked s.later s.line_is live)))
 
-  -- its time is the one that the moment asks for
-  sent_is : time ≡ event_time l → IsSent event bytes l m
-  sent_is e = record {
+  -- its time is this one
+  sent_is : (at : ℕ) → time ≡ at → IsGiven at event bytes l m
+  sent_is at e = record {
     console = ap (λ (o : Output). o.bytes) s.console;
     ticks =
         ap (λ (o : Output). o.bytes) s.ticks ∙ ap (λ text. l.ticks.bytes ++ text) s.line_is
@@ -67,5 +67,5 @@ module _ (more : MoreLaw) (l m : LiveState) (time : ℕ) (event : Event) (bytes 
     board = s.board ∙ ap (λ t. extended (more_of bytes (l.lines + 1) t event l.board.schedule.on_demand) l.board) e;
   }
 
-  pub sent_stays : time ≡ event_time l → TypedLaw → IsSent event bytes l m × StaysLive l m
-  sent_stays e law = (sent_is e, record { sound = sent_sound; live = sent_at law })
+  pub sent_stays : (at : ℕ) → time ≡ at → TypedLaw → IsGiven at event bytes l m × StaysLive l m
+  sent_stays at e law = (sent_is at e, record { sound = sent_sound; live = sent_at law })

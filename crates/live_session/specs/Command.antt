@@ -29,9 +29,11 @@ app =
     with_board_options
     (with_option (codes "quiet-after") (codes "1000000")
     (with_rule
+    (with_rule
     (with_option (codes "record") []
     (new_app (codes "windlive")))
-    (flag_rule (codes "force"))))
+    (flag_rule (codes "force")))
+    (flag_rule (codes "terminal"))))
 
 -- a name stands in one line
 abbrev pub is_one_line : Text → Bool

@@ -14,6 +14,8 @@ pub mod Record
 pub mod Saving
 pub mod Seen
 pub mod Session
+pub mod Spaced
+pub mod Spacing
 pub mod Status
 pub mod Telling
 pub mod Words

@@ -90,19 +90,26 @@ pub record RunsFor (most : ℕ) (shelf : Shelf) (setup : Setup) (old : Outside) 
 abbrev pub event_time : LiveState → ℕ
 event_time l = max (l.board.time + 1) l.last
 
--- an event was sent with its bytes: both are recorded, and the board takes them
-pub record IsSent (event : Event) (bytes : List ℕ) (l m : LiveState) : Type 0 where
+-- an event was sent with its bytes and this time: both are recorded, and the board takes them
+pub record IsGiven (time : ℕ) (event : Event) (bytes : List ℕ) (l m : LiveState) : Type 0 where
   pub console : m.console.bytes ≡ l.console.bytes ++ bytes
-  pub ticks : m.ticks.bytes ≡ l.ticks.bytes ++ (event_line (event_time l) event ++ 10 ∷ [])
-  pub last : m.last ≡ event_time l
-  pub board : m.board ≡ extended (more_of bytes (l.lines + 1) (event_time l) event l.board.schedule.on_demand) l.board
+  pub ticks : m.ticks.bytes ≡ l.ticks.bytes ++ (event_line time event ++ 10 ∷ [])
+  pub last : m.last ≡ time
+  pub board : m.board ≡ extended (more_of bytes (l.lines + 1) time event l.board.schedule.on_demand) l.board
+
+-- an event was sent with its bytes now
+abbrev pub IsSent : Event → List ℕ → LiveState → LiveState → Type 0
+IsSent event bytes l m = IsGiven (event_time l) event bytes l m
 
 -- why an event isn't sent: its time is over 4,294,967,295; a file of the record would be over 1 MiB; or memory ran out
+abbrev pub IsCauseAt : ℕ → Refusal → Event → List ℕ → LiveState → Type 0
+IsCauseAt time refusals.Time event bytes l = greatest_word < time
+IsCauseAt time refusals.Console event bytes l = longest_text_file < length l.console.bytes + length bytes
+IsCauseAt time refusals.Ticks event bytes l = longest_text_file < length l.ticks.bytes + (length (event_line time event) + 1)
+IsCauseAt time refusals.NoMemory event bytes l = Unit {0}
+
 abbrev pub IsCause : Refusal → Event → List ℕ → LiveState → Type 0
-IsCause refusals.Time event bytes l = greatest_word < event_time l
-IsCause refusals.Console event bytes l = longest_text_file < length l.console.bytes + length bytes
-IsCause refusals.Ticks event bytes l = longest_text_file < length l.ticks.bytes + (length (event_line (event_time l) event) + 1)
-IsCause refusals.NoMemory event bytes l = Unit {0}
+IsCause cause event bytes l = IsCauseAt (event_time l) cause event bytes l
 
 -- an event was sent, and then the board ran for at most this many steps
 pub record IsSentAndRuns (event : Event) (bytes : List ℕ) (most : ℕ) (shelf : Shelf) (setup : Setup) (old : Outside) (now later : Moment) : Type 0 where

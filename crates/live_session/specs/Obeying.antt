@@ -1,5 +1,5 @@
 -- What a part of the input does.
-use Rattle.std.specs.Prelude.{◌≡◌, ◌≢◌, ◌⊎◌, ℕ, suc, zero, List, [], ◌∷◌, length, Option, None}
+use Rattle.std.specs.Prelude.{◌≡◌, ◌≢◌, ◌⊎◌, ℕ, ◌-◌, suc, zero, List, [], ◌∷◌, length, Option, None}
 use Rattle.wind_outside.specs.Counts.{Rose}
 use Rattle.tick_file.specs.declared.event.Event.TheVariants.{Tick, Rx}
 use Rattle.wind_machine.specs.Extending.{Setup}
@@ -14,6 +14,7 @@ use Rattle.live_session.specs.LiveAround.{Store}
 use Rattle.live_session.specs.Moments.{Moment, IsRefused, IsSentAndRuns, IsTold, RunsFor, Sends}
 use Rattle.live_session.specs.Saving.{IsSaved, replay_limit}
 use Rattle.live_session.specs.Seen.{LiveState}
+use Rattle.live_session.specs.Spacing.{SeriesComes, sent_text}
 use Rattle.live_session.specs.Telling.{help_text, memory_text, state_text, unknown_text, unsaved_text, unwritten_text, written_text}
 use Rattle.live_session.specs.declared.dot_line.DotLine.{DotLine}
 use Rattle.live_session.specs.declared.dot_line.DotLine.TheVariants as lines
@@ -34,6 +35,13 @@ TicksCome (suc n) most shelf setup old now later =
 abbrev pub RunsAndTicks : ℕ → ℕ → Shelf → Setup → Outside → Moment → Moment → Type 0
 RunsAndTicks n most shelf setup old now later = (first : Moment) × RunsFor most shelf setup old now.live now.around now.store first × TicksCome n most shelf setup old first later
 
+-- and then it was told how many came, each of which has a line of the tick file
+pub record TicksAreTold (n most : ℕ) (shelf : Shelf) (setup : Setup) (old : Outside) (now later : Moment) : Type 0 where
+  pub ran : Moment
+  pub come : RunsAndTicks n most shelf setup old now ran
+  pub same : later ≡ record ran { told = later.told }
+  pub told : IsTold (sent_text (ran.live.lines - now.live.lines) None) ran.told later.told
+
 -- only this text was told; or that memory ran out for it
 abbrev pub Tells : List ℕ → Moment → Moment → Type 0
 Tells text now later = (later ≡ record now { told = later.told }) × IsTold text now.told later.told
@@ -53,9 +61,10 @@ pub record Saves (c : CommandState) (l : LiveState) (end : RunEnd) (told later :
   pub unnamed : c.record_folder ≡ [] → (after ≡ before) × IsTold unsaved_text told later
   pub named : c.record_folder ≢ [] → Writes c l end told later before after
 
--- what a line for the program does; only `.break` sends something, and only `.save` writes the record without a need
+-- what a line for the program does; only `.break` sends bytes, and only `.save` writes the record without a need
 abbrev pub Obeys : CommandState → DotLine → Option Refusal → Shelf → Setup → Outside → Moment → Moment → Type 0
-Obeys c (lines.Ticks n) refusal shelf setup old now later = RunsAndTicks n c.quiet_after shelf setup old now later × (refusal ≡ None)
+Obeys c (lines.Ticks n) refusal shelf setup old now later = TicksAreTold n c.quiet_after shelf setup old now later × (refusal ≡ None)
+Obeys c (lines.Events series) refusal shelf setup old now later = SeriesComes series c.quiet_after shelf setup old now later × (refusal ≡ None)
 Obeys c (lines.Run n) refusal shelf setup old now later = RunsFor n shelf setup old now.live now.around now.store later × (refusal ≡ None)
 Obeys c lines.Break refusal shelf setup old now later = Sends (Rx 1) (3 ∷ []) c.quiet_after refusal shelf setup old now later
 Obeys c lines.State refusal shelf setup old now later = Shows (state_text now.live.board) now later × (refusal ≡ None)

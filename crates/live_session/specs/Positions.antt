@@ -1,5 +1,5 @@
 -- Where the input is, and what a part of it sends to the board.
-use Rattle.std.specs.Prelude.{ℕ, ◌-◌, Bool, ◌==◌, if◌then◌else◌, List, [], ◌∷◌, length, slice_index}
+use Rattle.std.specs.Prelude.{ℕ, ◌-◌, Bool, ◌==◌, ◌||◌, if◌then◌else◌, List, [], ◌∷◌, length, slice_index}
 use Rattle.live_session.specs.DotLines.{is_dotted, dot_line_of}
 use Rattle.live_session.specs.declared.dot_line.DotLine.{DotLine}
 use Rattle.live_session.specs.declared.dot_line.DotLine.TheVariants.{Break}
@@ -8,18 +8,25 @@ use Rattle.live_session.specs.declared.serving.Position.TheVariants.{Start, Text
 use Rattle.live_session.specs.declared.serving.Request.{Request}
 use Rattle.live_session.specs.declared.serving.Request.TheVariants.{Send, Skip, Obey}
 
--- the part ends a line
-abbrev pub ends_line : List ℕ → Bool
-ends_line part = slice_index part (length part - 1) == 10
+-- the board's line is empty after this byte: 0x0A and 0x0D end it, and 0x03 and 0x15 clear it
+abbrev pub empties_line : ℕ → Bool
+empties_line byte = byte == 10 || (byte == 13 || (byte == 3 || byte == 21))
+
+abbrev pub last_of : List ℕ → ℕ
+last_of part = slice_index part (length part - 1)
+
+-- where the input is after a part of a line for the program, or for the board
+abbrev pub after_command : ℕ → Position
+after_command last = if last == 10 then Start else Command
+
+abbrev pub after_text : ℕ → Position
+after_text last = if empties_line last then Start else Text
 
 -- where the input is after a part
-abbrev pub inside_after : Position → List ℕ → Position
-inside_after Start part = if is_dotted part then Command else Text
-inside_after Text part = Text
-inside_after Command part = Command
-
 abbrev pub position_after : Position → List ℕ → Position
-position_after position part = if ends_line part then Start else inside_after position part
+position_after Start part = if is_dotted part then after_command (last_of part) else after_text (last_of part)
+position_after Text part = after_text (last_of part)
+position_after Command part = after_command (last_of part)
 
 -- what a part asks for: its bytes are for the board, or it begins a line for the program, or it goes on in one
 abbrev pub request_of : Position → List ℕ → Request

@@ -72,12 +72,12 @@ board_digit boards.Two = codes "2"
 abbrev pub word_line : List ℕ → List ℕ → List ℕ
 word_line option value = option ++ (value ++ 10 ∷ [])
 
--- the words with which windplay replays the record of a command, one in each line
+-- the words with which windplay replays the record of a command, one in each line. The files are those beside them
 abbrev pub command_text : CommandState → ℕ → List ℕ
 command_text c limit =
-    word_line (codes "--console=") (console_path c.record_folder)
-    ++ (word_line (codes "--ticks=") (ticks_path c.record_folder)
-    ++ (word_line (codes "--modules=") c.modules
+    word_line (codes "--console=") (codes "console.txt")
+    ++ (word_line (codes "--ticks=") (codes "ticks.txt")
+    ++ (word_line (codes "--modules=") (codes "modules")
     ++ (word_line (codes "--profile=") (profile_digit c.profile)
     ++ (word_line (codes "--board=") (board_digit c.board)
     ++ word_line (codes "--limit=") (decimal limit)))))
@@ -85,9 +85,9 @@ command_text c limit =
 -- the same words, and their text
 abbrev pub command_words : CommandState → ℕ → List (List ℕ)
 command_words c limit =
-    (codes "--console=" ++ console_path c.record_folder)
-    ∷ (codes "--ticks=" ++ ticks_path c.record_folder)
-    ∷ (codes "--modules=" ++ c.modules)
+    (codes "--console=" ++ codes "console.txt")
+    ∷ (codes "--ticks=" ++ codes "ticks.txt")
+    ∷ (codes "--modules=" ++ codes "modules")
     ∷ (codes "--profile=" ++ profile_digit c.profile)
     ∷ (codes "--board=" ++ board_digit c.board)
     ∷ (codes "--limit=" ++ decimal limit)
@@ -97,12 +97,12 @@ abbrev pub word_lines : List (List ℕ) → List ℕ
 word_lines [] = []
 word_lines (word ∷ words) = word ++ 10 ∷ word_lines words
 
--- windplay's command for the replay: the two files, the same modules and board, and this limit
+-- windplay's command for the replay: the two files, the copies of the modules, the same board, and this limit
 abbrev pub replay_of : CommandState → ℕ → SessionCommand
 replay_of c limit = record {
-  console = console_path c.record_folder;
-  ticks = ticks_path c.record_folder;
-  modules = c.modules;
+  console = codes "console.txt";
+  ticks = codes "ticks.txt";
+  modules = codes "modules";
   limit = limit;
   source = sources.Files;
   profile = c.profile;

@@ -43,9 +43,16 @@ failure_text folder unsaved.NoMemory = memory_text
 -- the lines that begin with `.`
 abbrev pub help_text : List ℕ
 help_text =
-    codes ".ticks N  N ticks, each when nothing else is left to do\n.run N    N steps\n"
-    ++ codes ".break    the byte 0x03, which aborts the shell's line and call\n.state    board time, steps, ticks and the table of tasks\n"
-    ++ codes ".save     write the record now\n.quit     end\n.help     this list\n"
+    codes ".ticks N               N ticks, each when nothing else is left to do\n"
+    ++ codes ".ticks N every M       N ticks, M units of board time apart, whatever runs\n"
+    ++ codes ".irq SLOT              an interrupt of the device in a slot\n"
+    ++ codes ".irqs N every M SLOT   N of them, M units of board time apart\n"
+    ++ codes ".run N                 N steps\n"
+    ++ codes ".break                 the byte 0x03, which aborts the shell's line and call\n"
+    ++ codes ".state                 board time, steps, ticks and the table of tasks\n"
+    ++ codes ".save                  write the record now\n"
+    ++ codes ".quit                  end\n"
+    ++ codes ".help                  this list\n"
 
 -- board time, and the number of steps and of ticks
 abbrev pub numbers_text : State → List ℕ

@@ -1,6 +1,7 @@
 //! The arguments of the command line.
 
 ghost use Rattle.std.specs.Prelude.{◌≡◌, ◌≢◌, ◌≤◌, false, IfOk, IfErr, Some, None, map, codes};
+ghost use Rattle.std.specs.List.{list_any};
 ghost use Rattle.std.specs.Str.{bytes_eq};
 ghost use Rattle.clap.specs.Words.{app_of, found_of, rows_of, rule_of};
 ghost use Rattle.wind_base.specs.Limits.{most_steps};
@@ -48,6 +49,11 @@ const RECORD_HELP: &str = "\
 // How long the board runs after a line.
 const QUIET_HELP: &str = "The most steps after a line before the next is read, up to 1000000000000";
 
+// The option of a program whose keys come one by one.
+const TERMINAL: &str = "terminal";
+
+const TERMINAL_HELP: &str = "The input is a terminal without its own editing and echo";
+
 // An option without a value.
 fn flag<'a>(alloc: Global, name: &'a str, help: &'a str) -> Arg<'a>
     ensures rule { rule_of result ≡ flag_rule name.now }
@@ -68,6 +74,7 @@ fn app<'a>(alloc: Global) -> Result<clap::Command<'a>, AllocError>
     let command = command_line(alloc, "windlive", about)
         .arg(option(alloc, "record", "DIR", "", RECORD_HELP))?
         .arg(flag(alloc, "force", "Replaces a record that is there"))?
+        .arg(flag(alloc, TERMINAL, TERMINAL_HELP))?
         .arg(option(alloc, "quiet-after", "N", "1000000", QUIET_HELP))?;
     with_board_options(alloc, command)
 }
@@ -120,4 +127,11 @@ pub fn command_of<'a>(alloc: Global, words: &'a [&'a str]) -> Result<Command<'a>
         profile: options.profile,
         board: options.board,
     })
+}
+
+/// Whether these words say that the input is a terminal without its own editing and echo.
+pub fn is_at_terminal(words: &[&str]) -> bool
+    ensures { result ≡ list_any (λ w. bytes_eq w.now (codes "--terminal")) words.now }
+{
+    words.iter().any(|word| *word == "--terminal")
 }

@@ -21,12 +21,13 @@ ghost use Rattle.live_session.specs.declared.serving.Request.TheVariants as requ
 ghost use Rattle.live_session.specs.declared.status.Status.TheVariants as status;
 
 use crate::dot_line::DotLine;
+use crate::events::{run_counted_ticks, run_series};
 use crate::input::{Input, InputPart};
 use crate::keeping::save_now;
 use crate::live::{Live, Went, can_run};
 use crate::messages::{tell, tell_help, tell_state};
 use crate::record_folder::RecordFolder;
-use crate::running::{Served, run, run_ticks, send_and_run};
+use crate::running::{Served, run, send_and_run};
 use crate::saving::{Target, Unsaved};
 use crate::serving::{Position, Request, position_after, request_of};
 use crate::status::Status;
@@ -92,9 +93,12 @@ fn obey<F: Folder, O: Sink, E: Sink, D: RecordFolder>(
         (store ⟦<D as RecordFolder>⟧ records.new) }
 {
     match line {
-        DotLine::Ticks(ticks) => {
-            ran(run_ticks(alloc, target, live, folder, out, err, records, ticks))
-        }
+        DotLine::Ticks(ticks) => ran(run_counted_ticks(
+            alloc, target, live, folder, out, err, records, ticks,
+        )),
+        DotLine::Events(series) => ran(run_series(
+            alloc, target, live, folder, out, err, records, series, end,
+        )),
         DotLine::Run(most) => ran(run(alloc, target, live, folder, out, err, records, most)),
         DotLine::Break => {
             let abort = Event::Rx(1);

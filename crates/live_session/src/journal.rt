@@ -1,7 +1,6 @@
 //! The files of the record, written as the session goes on.
 
 ghost use Rattle.std.specs.Prelude.{◌≡◌, ◌≢◌, ◌⊎◌, ◌≤◌, [], Err, OnOk, OnErr};
-ghost use Rattle.wind_base.specs.Limits.{most_steps};
 ghost use Rattle.wind_outside.specs.Counts.{Rose};
 ghost use Rattle.live_session.specs.Folder.{Lengthened, Replaced};
 ghost use Rattle.live_session.specs.Saving.{IsAdded, WritesOnly, command_path, command_text, ticks_path};

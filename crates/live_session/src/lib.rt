@@ -5,6 +5,7 @@
 mod command;
 mod conversation;
 mod dot_line;
+mod events;
 mod host;
 mod input;
 mod journal;
@@ -20,8 +21,9 @@ mod running;
 mod saving;
 mod serving;
 mod status;
+mod terminal;
 
-pub use command::{Command, command_of};
+pub use command::{Command, command_of, is_at_terminal};
 pub use host::{HostInput, HostRecordFolder};
 pub use input::{Input, InputPart};
 pub use memory::{MemInput, MemRecordFolder};
@@ -30,3 +32,4 @@ pub use playing::play_live;
 pub use program::live_program;
 pub use record_folder::{Presence, RecordFolder};
 pub use status::Status;
+pub use terminal::HostTerminal;

@@ -1,6 +1,6 @@
 //! The board of a live session, the record of what was sent to it, and the board's runs.
 
-ghost use Rattle.std.specs.Prelude.{◌≡◌, ◌≤◌, ◌↔◌, ◌∷◌, ◌++◌, [], length, IsTrue, IfErr, IfOk, OnOk, OnErr};
+ghost use Rattle.std.specs.Prelude.{◌≡◌, ◌≤◌, ◌+◌, ◌↔◌, ◌∷◌, ◌++◌, [], length, IsTrue, IfErr, IfOk, OnOk, OnErr};
 ghost use Rattle.wind_base.specs.Limits.{most_steps};
 ghost use Rattle.tick_file.specs.Writing.{event_line, IsInRange};
 ghost use Rattle.wind_machine.specs.Extending.{bytes_asked};
@@ -8,12 +8,13 @@ ghost use Rattle.wind_session.specs.Keeping.{around};
 ghost use Rattle.live_session.specs.Ending.{IsGoing};
 ghost use Rattle.live_session.specs.Journal.{Journaled};
 ghost use Rattle.live_session.specs.LiveAround.{store};
-ghost use Rattle.live_session.specs.Moments.{HasGone, HasRun, IsCause, IsSameRecord, IsSent, Wherever, event_time, steps_after};
+ghost use Rattle.live_session.specs.Moments.{HasGone, HasRun, IsCause, IsCauseAt, IsGiven, IsSameRecord, IsSent, Wherever, event_time, steps_after};
 ghost use Rattle.live_session.specs.Seen.{live_seen, IsSound, Runs, StaysLive};
+ghost use Rattle.live_session.specs.Spacing.{time_due};
 ghost use Rattle.live_session.specs.Words.{command_state, IsTarget};
 
 use crate::journal::note_limit;
-use crate::record::{Record, Refusal, add_event, line_of, next_time};
+use crate::record::{Record, Refusal, add_event, due_time, line_of};
 use crate::record_folder::RecordFolder;
 use crate::saving::{Target, Unsaved, replay_limit};
 use std::alloc::Global;
@@ -30,6 +31,51 @@ pub struct Live {
     pub board: Board,
     /// The record.
     pub record: Record,
+}
+
+/// Sends an event with its bytes to the board, and records both. The event is due a period after a
+/// time, but comes later than board time. Returns its line. An event that can't be recorded, or not
+/// sent, is refused; then nothing changes.
+pub(crate) fn send_at(
+    alloc: Global,
+    live: &mut Live,
+    from: u128,
+    period: u64,
+    event: Event,
+    bytes: &[u8],
+) -> Result<Vec<u8>, Refusal>
+    requires sound { IsSound (live_seen ⟦<dyn Device as Device>⟧ live.old) }
+    requires asked { bytes_asked event ≡ length bytes.now }
+    requires range { IsInRange event }
+    ensures ok { OnOk result (IsGiven (time_due (from + period) (live_seen ⟦<dyn Device as Device>⟧ live.old))
+        event bytes.now (live_seen ⟦<dyn Device as Device>⟧ live.old) (live_seen ⟦<dyn Device as Device>⟧ live.new)
+        × StaysLive (live_seen ⟦<dyn Device as Device>⟧ live.old) (live_seen ⟦<dyn Device as Device>⟧ live.new)) }
+    ensures line { IfOk result (λ line. line.items
+        ≡ event_line (time_due (from + period) (live_seen ⟦<dyn Device as Device>⟧ live.old)) event ++ 10 ∷ []) }
+    ensures err { OnErr result (live_seen ⟦<dyn Device as Device>⟧ live.new
+        ≡ live_seen ⟦<dyn Device as Device>⟧ live.old) }
+    ensures cause { IfErr result (λ cause. IsCauseAt
+        (time_due (from + period) (live_seen ⟦<dyn Device as Device>⟧ live.old))
+        cause event bytes.now (live_seen ⟦<dyn Device as Device>⟧ live.old)) }
+{
+    growing_law();
+    writing_law();
+    let Some(time) = due_time(live.board.time(), live.record.last, from, period) else {
+        return Err(Refusal::Time);
+    };
+    if live.record.console.room() < bytes.len() {
+        return Err(Refusal::Console);
+    }
+    let line = line_of(alloc, time, event)?;
+    if live.record.ticks.room() < line.len() {
+        return Err(Refusal::Ticks);
+    }
+    match live.board.extend(live.record.lines + 1, time, event, bytes) {
+        Ok(()) => {}
+        Err(NoMemory) => return Err(Refusal::NoMemory),
+    }
+    add_event(&mut live.record, time, &line, bytes);
+    Ok(line)
 }
 
 /// Sends an event with its bytes to the board, and records both. The event comes later than board
@@ -54,24 +100,7 @@ pub(crate) fn send(
     ensures cause { IfErr result (λ cause. IsCause cause event bytes.now
         (live_seen ⟦<dyn Device as Device>⟧ live.old)) }
 {
-    growing_law();
-    writing_law();
-    let Some(time) = next_time(live.board.time(), live.record.last) else {
-        return Err(Refusal::Time);
-    };
-    if live.record.console.room() < bytes.len() {
-        return Err(Refusal::Console);
-    }
-    let line = line_of(alloc, time, event)?;
-    if live.record.ticks.room() < line.len() {
-        return Err(Refusal::Ticks);
-    }
-    match live.board.extend(live.record.lines + 1, time, event, bytes) {
-        Ok(()) => {}
-        Err(NoMemory) => return Err(Refusal::NoMemory),
-    }
-    add_event(&mut live.record, time, &line, bytes);
-    Ok(line)
+    send_at(alloc, live, 0, 0, event, bytes)
 }
 
 /// How the board's last run ended, and why a file of the record was not written, if one wasn't. If

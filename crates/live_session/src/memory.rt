@@ -1,16 +1,13 @@
 //! An input and a folder in memory.
 
-ghost use Rattle.std.specs.Prelude.{◌≡◌, ◌≢◌, ◌≤◌, ◌<◌, ◌-◌, ◌++◌, ℕ, List, IsTrue, IfSome, IsSomeAnd, OnOk, OnErr, length, take, slice_index};
-ghost use Rattle.std.specs.List.{All};
-ghost use Rattle.wind_base.specs.Limits.{longest_chunk};
+ghost use Rattle.std.specs.Prelude.{◌≡◌, ◌≤◌, ◌++◌, ℕ, List, IsTrue, IfSome, IsSomeAnd, OnOk, OnErr};
 ghost use Rattle.wind_outside.specs.Counts.{Rose};
 ghost use Rattle.wind_outside.specs.Files.{with_file};
 
-use crate::input::{Input, InputPart};
+use crate::input::{Input, InputPart, part_len};
 use crate::record_folder::{Presence, RecordFolder};
 use std::alloc::{AllocError, Global};
 use std::collections::BTreeMap;
-use wind_base::limits::CHUNK_BYTES;
 use wind_outside::Put;
 
 /// The numbers, from 1 on, of the calls that fail; the number of calls made; and the number of
@@ -72,24 +69,6 @@ impl MemInput {
             left: bytes,
             calls: Calls::new(failing),
         }
-    }
-}
-
-// The length of the next part of these bytes.
-fn part_len(bytes: &[u8]) -> usize
-    ensures inside { result ≤ length bytes.now }
-    ensures few { result ≤ longest_chunk }
-    ensures some { (result ≡ 0) → length bytes.now ≡ 0 }
-    ensures one_line { All (λ byte. byte ≢ 10) (take (result - 1) bytes.now) }
-    ensures full { result < longest_chunk → slice_index bytes.now (result - 1) ≢ 10 → result ≡ length bytes.now }
-{
-    match bytes
-        .iter()
-        .take(CHUNK_BYTES)
-        .position(|byte| *byte == b'\n')
-    {
-        Some(end) => end + 1,
-        None => bytes.len().min(CHUNK_BYTES),
     }
 }
 

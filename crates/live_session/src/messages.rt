@@ -48,9 +48,16 @@ pub(crate) fn tell_help<E: Sink>(err: &mut E)
 {
     put_pieces(
         err,
-        b".ticks N  N ticks, each when nothing else is left to do\n.run N    N steps\n",
-        b".break    the byte 0x03, which aborts the shell's line and call\n.state    board time, steps, ticks and the table of tasks\n",
-        b".save     write the record now\n.quit     end\n.help     this list\n",
+        b".ticks N               N ticks, each when nothing else is left to do\n\
+        .ticks N every M       N ticks, M units of board time apart, whatever runs\n\
+        .irq SLOT              an interrupt of the device in a slot\n",
+        b".irqs N every M SLOT   N of them, M units of board time apart\n\
+        .run N                 N steps\n\
+        .break                 the byte 0x03, which aborts the shell's line and call\n",
+        b".state                 board time, steps, ticks and the table of tasks\n\
+        .save                  write the record now\n\
+        .quit                  end\n\
+        .help                  this list\n",
     );
 }
 

@@ -89,13 +89,14 @@ pub(crate) fn add_event(record: &mut Record, time: u64, line: &[u8], bytes: &[u8
     record.last = time;
 }
 
-/// The time of the next event: later than board time, and not before the last event. `None` if that
-/// is over 4,294,967,295.
-pub(crate) fn next_time(now: u128, last: u64) -> Option<u64>
-    ensures some { IfSome result (λ time. (time ≡ max (now + 1) last) × (time ≤ greatest_word)) }
-    ensures none { IfNone result (greatest_word < max (now + 1) last) }
+/// The time of an event that is due a period after a time: then, but later than board time, and not
+/// before the last event. `None` if that is over 4,294,967,295.
+pub(crate) fn due_time(now: u128, last: u64, from: u128, period: u64) -> Option<u64>
+    ensures some { IfSome result (λ time. (time ≡ max (max (now + 1) last) (from + period)) × (time ≤ greatest_word)) }
+    ensures none { IfNone result (greatest_word < max (max (now + 1) last) (from + period)) }
 {
-    let time = now.saturating_add(1).max(u128::from(last));
+    let due = from.saturating_add(u128::from(period));
+    let time = now.saturating_add(1).max(u128::from(last)).max(due);
     if time > GREATEST_TIME {
         return None;
     }

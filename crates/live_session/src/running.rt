@@ -1,6 +1,6 @@
 //! Runs of the board between two parts of the input.
 
-ghost use Rattle.std.specs.Prelude.{◌≡◌, ◌↔◌, ◌++◌, [], None, IsTrue, length};
+ghost use Rattle.std.specs.Prelude.{◌≡◌, ◌↔◌, ◌++◌, None, IsTrue, length};
 ghost use Rattle.tick_file.specs.Writing.{IsInRange};
 ghost use Rattle.wind_machine.specs.Extending.{bytes_asked};
 ghost use Rattle.wind_machine.specs.Machine.{IsOver};

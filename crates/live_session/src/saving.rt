@@ -115,15 +115,13 @@ fn board_digit(board: BoardKind) -> &'static [u8]
 }
 
 // The words with which windplay replays the record, one in each line.
-fn command_text(alloc: Global, target: Target, limit: u64) -> Result<Vec<u8>, AllocError>
-    requires { IsTarget target }
-    ensures { IfOk result (λ text. text.items ≡ command_text_lem (command_state target.entry.command.now) limit) }
+fn command_text(alloc: Global, command: &Command, limit: u64) -> Result<Vec<u8>, AllocError>
+    ensures { IfOk result (λ text. text.items ≡ command_text_lem (command_state command.now) limit) }
 {
-    let Target { command, paths } = target;
     let mut text = Vec::new(alloc);
-    add_word(&mut text, "--console=", paths.console.as_bytes())?;
-    add_word(&mut text, "--ticks=", paths.ticks.as_bytes())?;
-    add_word(&mut text, "--modules=", command.modules.as_bytes())?;
+    add_word(&mut text, "--console=", b"console.txt")?;
+    add_word(&mut text, "--ticks=", b"ticks.txt")?;
+    add_word(&mut text, "--modules=", b"modules")?;
     add_word(&mut text, "--profile=", profile_digit(command.profile))?;
     add_word(&mut text, "--board=", board_digit(command.board))?;
     add_word(
@@ -243,7 +241,7 @@ pub(crate) fn write_words<D: RecordFolder>(
     ensures failed { result ≡ Err unsaved.Failed → Rose (D.faults records.old) (D.faults records.new) }
     ensures never_falls { D.faults records.old ≤ D.faults records.new }
 {
-    let words = command_text(alloc, target, limit)?;
+    let words = command_text(alloc, target.command, limit)?;
     write(alloc, records, &target.paths.command, &words)
 }
 
@@ -265,7 +263,7 @@ pub(crate) fn save<D: RecordFolder>(
     ensures failed { result ≡ Err unsaved.Failed → Rose (D.faults records.old) (D.faults records.new) }
     ensures never_falls { D.faults records.old ≤ D.faults records.new }
 {
-    let words = command_text(alloc, target, limit)?;
+    let words = command_text(alloc, target.command, limit)?;
     write(
         alloc,
         records,

@@ -1,7 +1,7 @@
 //! What a part of the input asks for.
 
 ghost use Rattle.std.specs.Prelude.{◌≡◌};
-ghost use Rattle.live_session.specs.Positions.{ends_line as ends_line_lem, position_after as position_after_lem, request_of as request_of_lem};
+ghost use Rattle.live_session.specs.Positions.{empties_line as empties_line_lem, last_of as last_of_lem, position_after as position_after_lem, request_of as request_of_lem};
 
 use crate::dot_line::{DotLine, dot_line, is_dotted};
 
@@ -27,13 +27,21 @@ pub enum Request {
     Obey(DotLine),
 }
 
-// Whether the part ends a line.
-fn ends_line(part: &[u8]) -> bool
-    ensures { result ≡ ends_line_lem part.now }
+/// Whether the board's line is empty after this byte: 0x0A and 0x0D end it, and 0x03 and 0x15 clear
+/// it.
+pub(crate) fn empties_line(byte: u8) -> bool
+    ensures { result ≡ empties_line_lem byte }
+{
+    matches!(byte, b'\n' | b'\r' | 0x03 | 0x15)
+}
+
+// The last byte of a part.
+fn last_of(part: &[u8]) -> u8
+    ensures { result ≡ last_of_lem part.now }
 {
     match part {
-        [.., last] => *last == b'\n',
-        [] => false,
+        [.., last] => *last,
+        [] => 0,
     }
 }
 
@@ -41,13 +49,23 @@ fn ends_line(part: &[u8]) -> bool
 pub(crate) fn position_after(position: Position, part: &[u8]) -> Position
     ensures { result ≡ position_after_lem position part.now }
 {
-    if ends_line(part) {
-        return Position::Start;
+    let last = last_of(part);
+    let is_command = match position {
+        Position::Start => is_dotted(part),
+        Position::Text => false,
+        Position::Command => true,
+    };
+    if is_command {
+        return if last == b'\n' {
+            Position::Start
+        } else {
+            Position::Command
+        };
     }
-    match position {
-        Position::Start if is_dotted(part) => Position::Command,
-        Position::Start | Position::Text => Position::Text,
-        Position::Command => Position::Command,
+    if empties_line(last) {
+        Position::Start
+    } else {
+        Position::Text
     }
 }
 

@@ -7,13 +7,25 @@ use Rattle.live_session.proofs.conversation.obey.Goals as goal
 
 -- ---- the board runs
 pub returns-in-Ticks-clause-runs : goal.returns-in-Ticks-clause-runs
-returns-in-Ticks-clause-runs g c = rw c.ran.ensures c.run_ticks.ensures.runs
+returns-in-Ticks-clause-runs g c = rw c.ran.ensures c.run_counted_ticks.ensures.runs
 
 pub returns-in-Ticks-clause-console : goal.returns-in-Ticks-clause-console
-returns-in-Ticks-clause-console g c = rw c.in-Ticks.is (c.run_ticks.ensures.console ∙ sym (sent_nothing _ _))
+returns-in-Ticks-clause-console g c = rw c.in-Ticks.is (c.run_counted_ticks.ensures.console ∙ sym (sent_nothing _ _))
 
 pub returns-in-Ticks-clause-obeys : goal.returns-in-Ticks-clause-obeys
-returns-in-Ticks-clause-obeys g c = λ shelf setup old here. rw (c.ran.ensures, c.in-Ticks.is) (c.run_ticks.ensures.come c.args.end shelf setup old here, refl)
+returns-in-Ticks-clause-obeys g c = λ shelf setup old here. rw (c.ran.ensures, c.in-Ticks.is) (c.run_counted_ticks.ensures.come c.args.end shelf setup old here, refl)
+
+pub returns-in-Events-clause-runs : goal.returns-in-Events-clause-runs
+returns-in-Events-clause-runs g c = rw c.ran-in-Events.ensures c.run_series.ensures.runs
+
+pub returns-in-Events-clause-console : goal.returns-in-Events-clause-console
+returns-in-Events-clause-console g c = rw c.in-Events.is (c.run_series.ensures.console ∙ sym (sent_nothing _ _))
+
+pub returns-in-Events-clause-obeys : goal.returns-in-Events-clause-obeys
+returns-in-Events-clause-obeys g c = λ shelf setup old here. rw (c.ran-in-Events.ensures, c.in-Events.is) (c.run_series.ensures.comes shelf setup old here, refl)
+
+pub returns-in-Events-clause-journal : goal.returns-in-Events-clause-journal
+returns-in-Events-clause-journal g c = rw c.ran-in-Events.ensures c.run_series.ensures.journal
 
 pub returns-in-Run-clause-runs : goal.returns-in-Run-clause-runs
 returns-in-Run-clause-runs g c = rw c.ran-in-Run.ensures c.run.ensures.runs
@@ -28,7 +40,7 @@ pub returns-in-Break-clause-obeys : goal.returns-in-Break-clause-obeys
 returns-in-Break-clause-obeys g c = λ shelf setup old here. rw c.in-Break.is (c.send_and_run.ensures.sends shelf setup old here)
 
 pub returns-in-Ticks-clause-journal : goal.returns-in-Ticks-clause-journal
-returns-in-Ticks-clause-journal g c = rw c.ran.ensures c.run_ticks.ensures.journal
+returns-in-Ticks-clause-journal g c = rw c.ran.ensures c.run_counted_ticks.ensures.journal
 
 pub returns-in-Run-clause-journal : goal.returns-in-Run-clause-journal
 returns-in-Run-clause-journal g c = rw c.ran-in-Run.ensures c.run.ensures.journal

@@ -1,25 +1,9 @@
-use Rattle.std.proofs.Common.{length, ap, ◌∙◌, ◌+◌, max, arith}
-use Rattle.live_session.proofs.Sending.{sent_stays}
+use Rattle.live_session.proofs.Spacings.{given_now, cause_now}
 use Rattle.live_session.proofs.live.send.Goals as goal
 
--- the record has the event, and the board has taken it
+-- an event that is due at the beginning is due now
 pub returns-clause-ok : goal.returns-clause-ok
-returns-clause-ok g c =
-    sent_stays c.writing_law.ensures.more _ (record { console = c.add_event.new.record.console; ticks = c.add_event.new.record.ticks; lines = c.add_event.new.record.lines; last = c.add_event.new.record.last; board = _ })
-    c.in-Some.time c.args.event c.args.bytes.now c.deref.result.now c.requires.sound
-    (record {
-      console = c.add_event.ensures.console;
-      ticks = c.add_event.ensures.ticks;
-      lines = c.add_event.ensures.lines;
-      last = c.add_event.ensures.last;
-      board = c.in-Ok.ensures.ok;
-      late = omega (arith, c.in-Some.ensures.some.0);
-      later = omega (arith, c.in-Some.ensures.some.0, c.time.ensures);
-      fits = c.in-Some.ensures.some.1;
-      range = c.requires.range;
-      asked = c.requires.asked;
-      line_is = c.deref.ensures.value ∙ c.in_ok-line.ensures;
-      console_room = omega (arith, c.if-room-bytes.false, c.room.ensures);
-      ticks_room = omega (arith, c.if-room-len.false, c.len.ensures, c.room-2.ensures, ap length c.deref.ensures.value);
-    })
-    (c.in-Some.ensures.some.0 ∙ ap (λ now. max (now + 1) c.args.live.now.record.last) c.time.ensures) c.growing_law.ensures
+returns-clause-ok g c = given_now _ _ _ _ _ _ c.send_at.ensures.ok
+
+pub returns-clause-cause : goal.returns-clause-cause
+returns-clause-cause g c = cause_now _ _ _ _ c.send_at.ensures.cause

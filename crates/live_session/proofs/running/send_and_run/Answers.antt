@@ -1,10 +1,10 @@
-use Rattle.std.proofs.Common.{◌∙◌, None, Err, ap, subst, sym}
+use Rattle.std.proofs.Common.{◌∙◌, None, Err, ap, subst, sym, arith}
 use Rattle.std.proofs.lemmas.List.{append-nil}
 use Rattle.wind_base.specs.OutBuf.{Output}
 use Rattle.wind_session.specs.Keeping.{around, messages}
 use Rattle.wind_session.specs.declared.run.RunEnd.TheVariants as ends
 use Rattle.live_session.specs.LiveAround.{store}
-use Rattle.live_session.specs.Moments.{moment}
+use Rattle.live_session.specs.Moments.{event_time, moment}
 use Rattle.live_session.specs.Seen.{LiveState, Runs, live_by}
 use Rattle.live_session.specs.declared.saving.Unsaved.{Unsaved}
 use Rattle.live_session.proofs.Flow.{runs_none, runs_on, runs_sent}
@@ -52,7 +52,9 @@ returns-in-Err-note_event-clause-sends g c = λ shelf setup old here.
 
 pub returns-in-Err-note_event-clause-journal : goal.returns-in-Err-note_event-clause-journal
 returns-in-Err-note_event-clause-journal g c =
-    journal_unadded c.writing_law.ensures.written c.extend_law.ensures.run c.live_law.ensures.records c.writing_law.ensures.longer _ _ _ _ c.args.event c.args.bytes.now c.deref.result.now
+    let live = live_by (λ d. (goal.Device-dyn g (d.vtable, d.value)).kind_of d.value) (λ d. (goal.Device-dyn g (d.vtable, d.value)).words_of d.value) in
+    let l : LiveState = live c.args.live.now in
+    journal_unadded c.writing_law.ensures.written c.extend_law.ensures.run c.live_law.ensures.records c.writing_law.ensures.longer _ _ _ _ (event_time l) (omega arith) c.args.event c.args.bytes.now c.deref.result.now
     c.requires.sound c.in-Ok.ensures.ok.1 c.requires.range c.in-Ok.ensures.ok.0 (c.deref.ensures.value ∙ c.in-Ok.ensures.line) c.in-Err-note_event.failure _ _
     (record {
       named = c.in-Err-note_event.ensures.unnamed;
@@ -82,7 +84,9 @@ returns-clause-sends g c = λ shelf setup old here.
 
 pub returns-clause-journal : goal.returns-clause-journal
 returns-clause-journal g c =
+    let live = live_by (λ d. (goal.Device-dyn g (d.vtable, d.value)).kind_of d.value) (λ d. (goal.Device-dyn g (d.vtable, d.value)).words_of d.value) in
+    let l : LiveState = live c.args.live.now in
     journal_both _ _ ends.Limit _ _ _ _ _ _ _ _ _ _ (here_sent _ _ _ _ c.in-Ok.ensures.ok.1)
-    (journal_event c.writing_law.ensures.written c.extend_law.ensures.run c.live_law.ensures.records c.writing_law.ensures.longer _ _ _ _ c.args.event c.args.bytes.now c.deref.result.now
+    (journal_event c.writing_law.ensures.written c.extend_law.ensures.run c.live_law.ensures.records c.writing_law.ensures.longer _ _ _ _ (event_time l) (omega arith) c.args.event c.args.bytes.now c.deref.result.now
     c.requires.sound c.in-Ok.ensures.ok.1 c.requires.range c.in-Ok.ensures.ok.0 (c.deref.ensures.value ∙ c.in-Ok.ensures.line) _ _ c.note_event.ensures.writes c.note_event.ensures.never_falls c.in_default.ensures.ok)
     c.run-went.ensures.journal

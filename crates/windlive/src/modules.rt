@@ -1,0 +1,178 @@
+//! The modules of a record: the board gets each file as it was when it was first loaded, and the
+//! record gets a copy. This is a trusted edge of the program.
+
+ghost use Rattle.std.specs.Prelude.{◌≡◌, ◌≢◌, ◌≤◌, IsTrue};
+ghost use Rattle.wind_outside.specs.Counts.{Rose};
+ghost use Rattle.wind_outside.specs.Files.{IsWithin};
+ghost use Rattle.wind_outside.specs.declared.folder.Fetched.TheVariants as fetched;
+
+use kept_files::{KeptFile, KeptFiles, Unkept};
+use std::alloc::{AllocError, Global};
+use std::io::{ErrorKind, Print};
+use std::rt::Files;
+use std::{fs, io};
+use wind_base::limits::MODULE_FILE_BYTES;
+use wind_outside::{Fetched, Folder, HostFolder};
+
+/// The folder of modules of a session with a record.
+#[derive(Drop)]
+pub(crate) struct Modules<'a, R: Files + Copy + Drop, P: Print + Drop> {
+    rt: R,
+    folder: HostFolder<R>,
+    kept: KeptFiles,
+    // the names of the folder and of the record's folder
+    name: &'a str,
+    record: &'a str,
+    // where the program says what the record lacks
+    texts: P,
+}
+
+// Whether a name is that of a file in its folder: it names no other folder.
+fn is_file_name(name: &str) -> bool {
+    !name.is_empty()
+        && name != "."
+        && name != ".."
+        && name.as_bytes().iter().all(|byte| *byte != b'/')
+}
+
+// What is kept of a file, for a fetch of at most so many bytes.
+fn answer_of(alloc: Global, kept: Option<&KeptFile>, limit: u32) -> Fetched
+    ensures within { IsWithin limit result }
+    ensures kept { result ≢ fetched.Failed }
+{
+    match kept {
+        Some(KeptFile::Found(bytes)) if bytes.len() <= limit as usize => {
+            match Vec::from_slice(alloc, bytes) {
+                Ok(copy) => Fetched::Found(copy),
+                Err(AllocError) => Fetched::NoMemory,
+            }
+        }
+        Some(KeptFile::Found(_) | KeptFile::TooLong) => Fetched::TooLong,
+        Some(KeptFile::Missing) => Fetched::Missing,
+        None => Fetched::NoMemory,
+    }
+}
+
+impl<'a, R: Files + Copy + Drop, P: Print + Drop> Modules<'a, R, P> {
+    /// The folder of modules with this name, for a session with a record in a folder. `texts` takes
+    /// the messages.
+    pub(crate) fn new(
+        alloc: Global,
+        rt: R,
+        name: &'a str,
+        record: &'a str,
+        texts: P,
+    ) -> Modules<'a, R, P> {
+        Modules {
+            rt,
+            folder: HostFolder::new(rt),
+            kept: KeptFiles::new(alloc, MODULE_FILE_BYTES),
+            name,
+            record,
+            texts,
+        }
+    }
+
+    // Says something of a file. A message that can't be written is lost.
+    fn tell(&self, file: &str, text: &str) {
+        for piece in ["windlive: ", file, text] {
+            if self.texts.write_all(piece.as_bytes()).is_err() {
+                return;
+            }
+        }
+    }
+
+    // The name of a file of the folder.
+    fn file_of<'b>(&self, path: &'b str) -> &'b str {
+        let name = path.strip_prefix(self.name).unwrap_or(path);
+        name.strip_prefix("/").unwrap_or(name)
+    }
+
+    // Makes the record's copy of a file what is kept of it.
+    fn write_copy(&self, alloc: Global, path: &str, file: &str) -> io::Result<()> {
+        let folder = wind_session::path_in(alloc, self.record, "modules")?;
+        let copy = wind_session::path_in(alloc, &folder, file)?;
+        match self.kept.get(path) {
+            Some(KeptFile::Found(bytes)) => {
+                make_folder(&self.rt, &folder)?;
+                fs::write(&self.rt, copy.as_str(), bytes.as_slice())
+            }
+            _ => remove(&self.rt, &copy),
+        }
+    }
+
+    // Copies what is kept of a file into the record, or says that the record lacks it.
+    fn copy(&self, alloc: Global, path: &str) {
+        let file = self.file_of(path);
+        if !is_file_name(file) {
+            self.tell(file, " isn't in the record, since its name is a path\n");
+        } else if self.write_copy(alloc, path, file).is_err() {
+            self.tell(file, " isn't in the record: it can't be written\n");
+        } else if let Some(KeptFile::TooLong) = self.kept.get(path) {
+            self.tell(file, " isn't in the record: it is over 4 MiB\n");
+        }
+    }
+
+    // Whether the folder has other bytes for a file than what is kept.
+    fn has_changed(&self, alloc: Global, path: &str) -> bool {
+        let now = HostFolder::new(self.rt).fetch(alloc, path, MODULE_FILE_BYTES);
+        match (self.kept.get(path), now) {
+            (Some(KeptFile::Found(first)), Fetched::Found(bytes)) => {
+                first.as_slice() != bytes.as_slice()
+            }
+            (Some(KeptFile::Missing), Fetched::Missing) => false,
+            (Some(KeptFile::TooLong), Fetched::TooLong) => false,
+            (_, Fetched::Failed | Fetched::NoMemory) => false,
+            _ => true,
+        }
+    }
+
+    // Says if a file has changed since it was loaded first.
+    fn tell_change(&self, alloc: Global, path: &str) {
+        if self.has_changed(alloc, path) {
+            let text = " has changed; this record keeps the first: load it under another name\n";
+            self.tell(self.file_of(path), text);
+        }
+    }
+}
+
+// Makes a folder, unless it is there.
+fn make_folder<R: Files>(rt: &R, name: &str) -> io::Result<()> {
+    match fs::create_dir(rt, name) {
+        Err(error) if error.kind() == ErrorKind::AlreadyExists => Ok(()),
+        made => made,
+    }
+}
+
+// Removes a file, if it is there.
+fn remove<R: Files>(rt: &R, name: &str) -> io::Result<()> {
+    match fs::remove_file(rt, name) {
+        Err(error) if error.kind() == ErrorKind::NotFound => Ok(()),
+        Err(error) if error.kind() == ErrorKind::NotADirectory => Ok(()),
+        removed => removed,
+    }
+}
+
+impl<R: Files + Copy + Drop, P: Print + Drop> Folder for Modules<'_, R, P> {
+    ghost use Rattle.std.specs.Prelude.{None};
+
+    ghost files = { λ _. None };
+
+    ghost requests = { λ _. None };
+
+    ghost faults = { λ m. m.folder.faults };
+
+    fn fetch(&mut self, alloc: Global, name: &str, limit: u32) -> Fetched {
+        if self.kept.get(name).is_some() {
+            self.tell_change(alloc, name);
+            return answer_of(alloc, self.kept.get(name), limit);
+        }
+        match self.kept.keep(alloc, &mut self.folder, name) {
+            Ok(()) => {}
+            Err(Unkept::Failed) => return Fetched::Failed,
+            Err(Unkept::NoMemory) => return Fetched::NoMemory,
+        }
+        self.copy(alloc, name);
+        answer_of(alloc, self.kept.get(name), limit)
+    }
+}
