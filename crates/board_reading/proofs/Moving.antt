@@ -102,10 +102,10 @@ module _ (w v : WorldState) (who : ℕ) (is : IsKern w.kern) (moved : IsMoved w 
   shown tasks e =
       ap (λ ts. record (snapshot_of w) { tasks = ts }) e
       ∙ sym (
-        ap (λ o. record (snapshot_of v) { tasks = map (view_in o) v.kern.tasks }) moved.objects
-        ∙ ap (λ (k : KernState). record (snapshot_of v) { tasks = map (view_in w.objects) k.tasks; last = k.last }) moved.kern
-        ∙ ap (λ ds. record { tasks = map (view_in w.objects) (set_regs w.kern who moved.regs).tasks; watchdogs = map view_of_watchdog ds; modules = ids v.modules.rows; last = w.kern.last }) moved.watchdogs
-        ∙ ap (λ ms. record { tasks = map (view_in w.objects) (set_regs w.kern who moved.regs).tasks; watchdogs = map view_of_watchdog w.watch.watchdogs; modules = ids ms.rows; last = w.kern.last }) moved.modules
+      ap (λ o. record (snapshot_of v) { tasks = map (view_in o) v.kern.tasks }) moved.objects
+      ∙ ap (λ (k : KernState). record (snapshot_of v) { tasks = map (view_in w.objects) k.tasks; last = k.last }) moved.kern
+      ∙ ap (λ ds. record { tasks = map (view_in w.objects) (set_regs w.kern who moved.regs).tasks; watchdogs = map view_of_watchdog ds; modules = ids v.modules.rows; last = w.kern.last }) moved.watchdogs
+      ∙ ap (λ ms. record { tasks = map (view_in w.objects) (set_regs w.kern who moved.regs).tasks; watchdogs = map view_of_watchdog w.watch.watchdogs; modules = ids ms.rows; last = w.kern.last }) moved.modules
       )
 
   module _ (s : SnapshotState) (same : s ≡ snapshot_of w) where
@@ -128,5 +128,5 @@ module _ (w v : WorldState) (who : ℕ) (is : IsKern w.kern) (moved : IsMoved w 
         ap (λ (x : SnapshotState). record x { tasks = slice_set x.tasks place taken }) same
         ∙ ap (λ t. record (snapshot_of w) { tasks = slice_set (map (view_in w.objects) w.kern.tasks) place t }) (is_view ∙ ap (λ o. view_in o now) moved.objects)
         ∙ shown (slice_set (map (view_in w.objects) w.kern.tasks) place (view_in w.objects now))
-            (retaken (view_in w.objects) (λ t. refl) who moved.regs w.kern.tasks place now is.rising (ap (λ (x : SnapshotState). position (λ t. eqb t.id who) x.tasks) (sym same) ∙ found)
-            (ap (λ (k : KernState). task_of k.tasks who) (sym moved.kern) ∙ sym there))
+        (retaken (view_in w.objects) (λ t. refl) who moved.regs w.kern.tasks place now is.rising (ap (λ (x : SnapshotState). position (λ t. eqb t.id who) x.tasks) (sym same) ∙ found)
+        (ap (λ (k : KernState). task_of k.tasks who) (sym moved.kern) ∙ sym there))

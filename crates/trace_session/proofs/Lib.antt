@@ -10,3 +10,4 @@ mod CommandLemmas
 mod LeftLemmas
 mod ProgramLemmas
 mod TracePromises
+mod Skipping

@@ -1,7 +1,7 @@
 //! What happens in each step of a board, from snapshots before and after it.
 
-ghost use Rattle.std.specs.Prelude.{◌≡◌, Some, OnOk, IfOk};
-ghost use Rattle.wind_machine.specs.{State.State, Good.Good, Silent.last_actor};
+ghost use Rattle.std.specs.Prelude.{◌≡◌, OnOk, IfOk};
+ghost use Rattle.wind_machine.specs.{State.State, Good.Good};
 ghost use Rattle.wind_session.specs.BoardPlayerBursts.{MovesOnly};
 ghost use Rattle.wind_session.specs.BoardPlayerSeen.{last_reply, seen};
 ghost use Rattle.board_trace.specs.Snapshots.{snapshot_of};
@@ -51,8 +51,8 @@ impl StepReader {
     /// Instructions of a task or routine were made at once. Of what a snapshot shows they changed at
     /// most the task's registers, so its view alone is taken again.
     pub(crate) fn skip(&mut self, board: &Board, who: &Actor)
-        ensures { (s : State) → Good s → last_actor s.world ≡ Some who.now
-            → MovesOnly s.world (seen ⟦<dyn Device as Device>⟧ board.now).world
+        ensures { (s : State) → Good s
+            → MovesOnly who.now s.world (seen ⟦<dyn Device as Device>⟧ board.now).world
             → snapshot_state self.old.before ≡ snapshot_of s.world
             → snapshot_state self.new.before ≡ snapshot_of (seen ⟦<dyn Device as Device>⟧ board.now).world }
     {

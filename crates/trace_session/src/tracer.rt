@@ -4,7 +4,9 @@ ghost use Rattle.std.specs.Prelude.{◌≡◌, ◌≤◌, ◌<◌, ◌+◌, ◌+
 ghost use Rattle.std.specs.List.{sum_by};
 ghost use Rattle.wind_machine.specs.LiveLoadingSaid.{FileSaid};
 ghost use Rattle.wind_machine.specs.State.{State};
+ghost use Rattle.wind_machine.specs.Good.{Good};
 ghost use Rattle.wind_machine.specs.Replies.{step_reply};
+ghost use Rattle.wind_session.specs.BoardPlayerBursts.{MovesOnly};
 ghost use Rattle.wind_session.specs.BoardPlayerSeen.{last_reply, seen};
 ghost use Rattle.board_trace.specs.Before.{before_step as before_step_lem};
 ghost use Rattle.board_trace.specs.Runs.{Line, step_lines, with_line, with_lines};
@@ -99,8 +101,8 @@ impl Tracer {
               what = Happening.Instructions who.now count;
             }) made)) }
         ensures waits { OnOk result (count_in self.new.page.growing ≤ count_in self.old.page.growing + count) }
-        ensures before { OnOk result ((s : State) → Good s → last_actor s.world ≡ Some who.now
-            → MovesOnly s.world (seen ⟦<dyn Device as Device>⟧ board.now).world
+        ensures before { OnOk result ((s : State) → Good s
+            → MovesOnly who.now s.world (seen ⟦<dyn Device as Device>⟧ board.now).world
             → snapshot_state self.old.reader.before ≡ snapshot_of s.world
             → snapshot_state self.new.reader.before ≡ snapshot_of (seen ⟦<dyn Device as Device>⟧ board.now).world) }
     {

@@ -32,3 +32,12 @@ returns-clause-lines g c =
     let some : 0 < c.burst-count.result = omega arith in
     lines_burst c.silent_lines_law.ensures c.burst-count.result old new _ _ _ _ _ _ some (ap last_actor (sym c.world.ensures) ∙ sym c.last_actor-who.ensures ∙ c.in-Some.is) c.burst-count.ensures.made
     c.time-time.ensures (ap (λ n. n + 1) c.steps.ensures) c.requires.before c.in_ok-tell_instructions.ensures.lines
+
+-- only the view of who made them is taken again
+pub returns-clause-before : goal.returns-clause-before
+returns-clause-before g c =
+    let state = board_by (λ d. (goal.Device-dyn g (d.vtable, d.value)).kind_of d.value) (λ d. (goal.Device-dyn g (d.vtable, d.value)).words_of d.value) in
+    let old = state c.args.board.now in
+    let some : 0 < c.burst-count.result = omega arith in
+    c.in_ok-tell_instructions.ensures.before old c.facts.ensures
+    (c.burst-count.ensures.only some _ (ap last_actor (sym c.world.ensures) ∙ sym c.last_actor-who.ensures ∙ c.in-Some.is)) c.requires.before
