@@ -1,4 +1,5 @@
 pub mod Bursts
+pub mod Choosing
 pub mod Counts
 pub mod LineLaws
 pub mod Lines

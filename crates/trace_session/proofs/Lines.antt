@@ -1,6 +1,6 @@
 -- The lines of a list of happenings.
-use Rattle.std.proofs.Common.{◌≡◌, ℕ, zero, suc, ◌+◌, ◌<◌, ◌&&◌, true, arith, ap₂, le-leb, Option, List, [], ◌∷◌, ◌++◌, map, take, get_or, length, refl, sym, ap, subst, ◌∙◌}
-use Rattle.std.specs.Prelude.{cond, All}
+use Rattle.std.proofs.Common.{◌≡◌, Bool, false, ℕ, zero, suc, ◌+◌, ◌<◌, ◌&&◌, true, arith, ap₂, le-leb, Option, List, [], ◌∷◌, ◌++◌, map, take, get_or, length, refl, sym, ap, subst, ◌∙◌}
+use Rattle.std.specs.Prelude.{cond}
 use Rattle.std.specs.List.{filter}
 use Rattle.std.proofs.lemmas.List.{map-append, take_more}
 use Rattle.kernel_world.specs.declared.reply.Reply.{Reply}
@@ -63,15 +63,13 @@ added c b before after hs i h given made page name below at name_is ends =
     subst (Ends given page) (one_more c (line_of b before after) hs i h made below at) (subst P name_is ends)
 
 -- ---- everything
-all_in : (c : ChoiceState) (ls : List Line) → All (λ l. is_chosen c l ≡ true) ls → filter (is_chosen c) ls ≡ ls
-all_in c [] h = refl
-all_in c (l ∷ ls) h = ap (λ b. cond b (l ∷ filter (is_chosen c) ls) (filter (is_chosen c) ls)) h.0 ∙ ap (λ rest. l ∷ rest) (all_in c ls h.1)
-
-each_in : (s t : State) (hs : List Happening) → All (λ l. is_chosen everything l ≡ true) (map (line_in s t) hs)
-each_in s t [] = tt
-each_in s t (h ∷ hs) = (ap (λ b. b && true) (le-leb 1 (s.steps + 1) (omega arith)), each_in s t hs)
+all_in : (s t : State) (hs : List Happening) → filter (is_chosen everything) (map (line_in s t) hs) ≡ map (line_in s t) hs
+all_in s t [] = refl
+all_in s t (h ∷ hs) =
+    let rest = filter (is_chosen everything) (map (line_in s t) hs) in
+    ap (λ b. cond ((b && true) && true) (line_in s t h ∷ rest) rest) (le-leb 1 (s.steps + 1) (omega arith)) ∙ ap (λ ls. line_in s t h ∷ ls) (all_in s t hs)
 
 pub all_lines : EverythingLaw
 all_lines said s zero = refl
 all_lines said s (suc k) =
-    ap₂ with_lines (all_in everything (step_lines (said k) (after said s k) (after said s (suc k))) (each_in (after said s k) (after said s (suc k)) (happenings (said k) (after said s k) (after said s (suc k))))) (all_lines said s k)
+    ap₂ with_lines (all_in (after said s k) (after said s (suc k)) (happenings (said k) (after said s k) (after said s (suc k)))) (all_lines said s k)

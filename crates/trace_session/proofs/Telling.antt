@@ -10,7 +10,7 @@ use Rattle.wind_machine.specs.Silent.{SilentLaw, SilentSteps}
 use Rattle.wind_session.proofs.AppendingLemmas.{appended_none}
 use Rattle.wind_session.specs.Modules.{Shelf}
 use Rattle.wind_session.specs.Runs.{TellsOr}
-use Rattle.wind_session.specs.Telling.{GoesOn, IsTold, Told}
+use Rattle.wind_session.specs.Telling.{GoesOn, IsTold, IsToldInPart, Told}
 use Rattle.wind_session.specs.declared.run.RunEnd.{RunEnd}
 use Rattle.wind_session.specs.declared.run.RunEnd.TheVariants as ends
 use Rattle.wind_session.proofs.Continuing.{burst_counted}
@@ -96,6 +96,18 @@ pub ready_on : {E : Type 0} (r : Result ℕ E) (u t : State) (waited waits : ℕ
     → IfOk r (λ k. SilentSteps k u t) → IfOk r (λ k. waits ≤ waited + k) → OnOk r (snapshot ≡ snapshot_of t.world) → OnOk r ((snapshot ≡ snapshot_of t.world) × (waits ≤ t.steps))
 ready_on (Err e) u t waited waits snapshot law few steps more same = tt
 ready_on (Ok k) u t waited waits snapshot law few steps more same = (same, omega (arith, few, more, burst_counted law u t k steps))
+
+-- by a choice that stays the same
+pub with_scope : {E A : Type 0} (r : Result ℕ E) (P Q : ℕ → Type 0) → OnOk r A → ((k : ℕ) → A → P k → Q k) → IfOk r P → IfOk r Q
+with_scope (Err e) P Q same leads holds = tt
+with_scope (Ok k) P Q same leads holds = leads k same holds
+
+module _ (c mine later : ChoiceState) (same : mine ≡ c) (shelf : Shelf) (s board : State) (n : ℕ) (old mid : Option (List Request)) (first now : Option (List ℕ)) where
+  pub told_of : (page : PageState) (end : RunEnd) → Told (IsTold (HoldsSteps later first now page) (HoldsPart mine first now) end s) shelf s n board old mid → Told (IsTold (HoldsSteps later first now page) (HoldsPart c first now) end s) shelf s n board old mid
+  told_of page end = subst (λ x. Told (IsTold (HoldsSteps later first now page) (HoldsPart x first now) end s) shelf s n board old mid) same
+
+  pub part_of : Told (IsToldInPart (HoldsPart mine first now) s) shelf s n board old mid → Told (TellsPart c s first now) shelf s n board old mid
+  part_of = subst (λ x. Told (TellsPart x s first now) shelf s n board old mid) same
 
 -- ---- the last line
 module _ (c later : ChoiceState) (stays : later ≡ c) (shelf : Shelf) (s board : State) (n : ℕ) (old mid : Option (List Request)) (first now : Option (List ℕ)) (page : PageState) (end : RunEnd)

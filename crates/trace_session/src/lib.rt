@@ -3,6 +3,7 @@
 #![tactic(auto)]
 
 mod choice;
+mod choosing;
 mod command;
 mod ending;
 mod events;
