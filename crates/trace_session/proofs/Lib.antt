@@ -1,3 +1,4 @@
+pub mod Alike
 pub mod Bursts
 pub mod Choosing
 pub mod Counts

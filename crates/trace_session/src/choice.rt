@@ -194,9 +194,12 @@ impl Choice {
         if made + 1 < self.first {
             return most.min(self.first - 1 - made);
         }
-        match self.last {
-            Some(last) if made < last => most.min(last - made),
-            _ => most,
+        let Some(last) = self.last else {
+            return most;
+        };
+        if made < last {
+            return most.min(last - made);
         }
+        most
     }
 }
