@@ -1,7 +1,6 @@
-pub mod Alike
 pub mod Bursts
-pub mod Choosing
 pub mod Counts
+pub mod Items
 pub mod LineLaws
 pub mod Lines
 pub mod Puts

@@ -1,7 +1,7 @@
 use Rattle.std.proofs.Common.{◌≡◌, Bor, List, map, drop}
 use Rattle.clap.specs.Words.{Text}
 use Rattle.trace_session.specs.Command.{each, kind_named}
-use Rattle.trace_session.proofs.Choosing.{so_far}
+use Rattle.trace_session.proofs.Items.{so_far}
 use Rattle.trace_session.proofs.choosing.kinds_named.Given as goal
 
 -- the first items have these values

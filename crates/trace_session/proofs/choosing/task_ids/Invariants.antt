@@ -2,7 +2,7 @@ use Rattle.std.proofs.Common.{◌≡◌, Bor, List, map, drop}
 use Rattle.clap.specs.Words.{Text}
 use Rattle.wind_session.specs.Command.{number_value}
 use Rattle.trace_session.specs.Command.{each, most_id}
-use Rattle.trace_session.proofs.Choosing.{so_far}
+use Rattle.trace_session.proofs.Items.{so_far}
 use Rattle.trace_session.proofs.choosing.task_ids.Given as goal
 
 -- the first items have these values

@@ -41,7 +41,7 @@ returns-in_err-last-in_default-clause-given_up g c =
 pub returns-in_err-end-in-Events-clause-given_up : goal.returns-in_err-end-in-Events-clause-given_up
 returns-in_err-end-in-Events-clause-given_up g c =
     let p = err_from_is_err_and c.from_residual-in_err-end-in-Events.result c.from_residual-in_err-end-in-Events.ensures.1 in
-    rw (p.1, c.in-Events.is) (part_of _ _ _ (ap (λ (x : Bor Choice). choice_state x.now) c.in_ok-tracer-in-Events.ensures.choice) _ _ _ _ _ _ _ _ c.in_err-end-in-Events.ensures.given_up)
+    rw (p.1, c.in-Events.is) (part_of _ _ (choice_state c.args.choice.now) (ap (λ (x : Bor Choice). choice_state x.now) c.in_ok-tracer-in-Events.ensures.choice) _ _ _ _ _ _ _ _ c.in_err-end-in-Events.ensures.given_up)
 
 -- ---- a picture
 pub returns-in_err-observer-in-Timeline-clause-given_up : goal.returns-in_err-observer-in-Timeline-clause-given_up
