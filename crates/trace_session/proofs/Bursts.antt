@@ -1,5 +1,5 @@
 -- The lines of a run after instructions that were made at once.
-use Rattle.std.proofs.Common.{◌≡◌, ℕ, zero, suc, ◌+◌, ◌<◌, List, None, Some, refl, sym, ap, subst, ◌∙◌, arith}
+use Rattle.std.proofs.Common.{◌≡◌, ℕ, zero, suc, ◌+◌, ◌<◌, List, None, Some, refl, sym, subst, ◌∙◌, arith}
 use Rattle.kernel_world.specs.declared.actor.Actor.{Actor}
 use Rattle.wind_machine.specs.State.{State}
 use Rattle.wind_machine.specs.Run.{Answers, after}

@@ -1,4 +1,4 @@
-use Rattle.std.proofs.Common.{◌≡◌, Bor, List, map, drop}
+use Rattle.std.proofs.Common.{◌≡◌, Bor, map, drop}
 use Rattle.clap.specs.Words.{Text}
 use Rattle.trace_session.specs.Command.{each, kind_named}
 use Rattle.trace_session.proofs.Items.{so_far}

@@ -6,7 +6,7 @@ use Rattle.trace_picture.specs.Areas.{areas_of}
 use Rattle.trace_session.specs.Choice.{choice_state}
 use Rattle.trace_session.specs.Traced.{HoldsPart}
 use Rattle.trace_session.specs.declared.choice.Choice.{Choice}
-use Rattle.trace_session.proofs.Seeing.{areas_told, not_lost, put_after, state_told, untold}
+use Rattle.trace_session.proofs.Seeing.{areas_told, not_lost, put_after, untold}
 use Rattle.wind_session.proofs.ToldLemmas.{given_up}
 use Rattle.trace_session.proofs.Telling.{last_given_up, last_told, lost_before, no_lines, none_waits, part_of, told_of}
 use Rattle.trace_session.proofs.forms.trace_board.Goals as goal
