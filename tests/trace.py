@@ -19,6 +19,22 @@ LINES = [
     (b"*0x1000 = 0x48000000\nkernelTimeSlice 1\nsp 0x1000\ntaskDelay 3\ntaskDelete 2\n", b"every 100 6\n",
      rb"goes after the others of its priority"),
 ]
+# Options that choose events of a session, and the lines of its whole trace that they leave: by step, WHO and text.
+CHOICES = [
+    (("--from", "10"), lambda step, who, what: step >= 10),
+    (("--to", "10"), lambda step, who, what: step <= 10),
+    (("--from", "5", "--to", "40"), lambda step, who, what: 5 <= step <= 40),
+    (("--tasks", "1,3"), lambda step, who, what: re.match(rb"[13] ", who)),
+    (("--kinds", "output"), lambda step, who, what: what.startswith(b"writes ")),
+    (("--kinds", "owners,tasks"), lambda step, who, what: re.match(
+        rb"(no longer )?owns |is (spawned|deleted|suspended|resumed)", what)),
+    (("--from", "20", "--tasks", "1", "--kinds", "output"),
+     lambda step, who, what: step >= 20 and who.startswith(b"1 ") and what.startswith(b"writes ")),
+]
+# Options that are refused.
+REFUSED = [("--from", "0"), ("--to", "x"), ("--tasks", ""), ("--tasks", "1,,2"), ("--kinds", "none"),
+           ("--as", "state", "--from", "2"), ("--as", "timeline", "--kinds", "calls")]
+LINE = re.compile(rb"^ *\d+ +(\d+)  (.{16})  (.*)$")
 WRITES = re.compile(rb'^ *\d+ +\d+  .{16}  writes "(.*)"$')
 ESCAPED = re.compile(rb"\\x([0-9a-f]{2})")
 
@@ -59,6 +75,22 @@ def faults(session, windtrace, windplay):
         yield f"the timeline is no XML: {error}"
 
 
+def without_instructions(lines):
+    """The lines that tell of no instructions; those of instructions are joined after the choice."""
+    return [line for line in lines if not re.search(rb"  \d+ instructions?$", line)]
+
+
+def choices(session, windtrace):
+    """The choices of a session's events that are wrong."""
+    lines = run(windtrace, session)[1].split(b"\n")[:-1]
+    for words, has in CHOICES:
+        _, events = run(windtrace, session, *words)
+        parts = [(line, LINE.match(line)) for line in lines[:-1]]
+        wanted = [line for line, it in parts if it and has(int(it[1]), it[2], it[3])] + lines[-1:]
+        if without_instructions(events.split(b"\n")[:-1]) != without_instructions(wanted):
+            yield f"the events of {' '.join(words)} are others"
+
+
 def missing(windtrace):
     """The consoles whose trace doesn't have its line."""
     for console, ticks, wanted in LINES:
@@ -76,15 +108,18 @@ def main():
     sessions = sorted(it.parent for it in folder.glob("*/stdout"))
     wrong = 0
     for session in sessions:
-        found = list(faults(session, windtrace, windplay))
+        found = [*faults(session, windtrace, windplay), *choices(session, windtrace)]
         wrong += bool(found)
         for fault in found:
             print(f"{session.name}: {fault}")
+    taken = [words for words in REFUSED if run(windtrace, sessions[0], *words)[0] != 1] if sessions else []
+    for words in taken:
+        print(f"{' '.join(words)} is not refused")
     without = list(missing(windtrace))
     for console in without:
         print(f"{console}: its line is missing")
     print(f"{len(sessions)} sessions, {wrong} differ; {len(LINES)} lines, {len(without)} missing")
-    return 1 if wrong or without or not sessions else 0
+    return 1 if wrong or taken or without or not sessions else 0
 
 
 if __name__ == "__main__":

@@ -1,6 +1,8 @@
 -- A silent step is one instruction: it is told in one line, which is joined with that of the instructions before it.
-use Rattle.std.proofs.Common.{◌≡◌, ℕ, zero, suc, ◌+◌, Bool, true, false, not, ◌||◌, ◌&&◌, if◌then◌else◌, List, [], ◌∷◌, ◌++◌, map, Option, None, Some, refl, sym, ap, ap₂, ◌∙◌, arith, add-one}
-use Rattle.std.specs.Prelude.{is_none, is_some}
+use Rattle.std.proofs.Common.{◌≡◌, ℕ, zero, suc, ◌+◌, Bool, true, false, not, ◌||◌, ◌&&◌, if◌then◌else◌, ◌<◌, List, [], ◌∷◌, ◌++◌, map, Option, None, Some, refl, sym, ap, ap₂, ◌∙◌, arith, add-one}
+use Rattle.std.specs.Prelude.{cond, is_none, is_some}
+use Rattle.std.specs.List.{filter}
+use Rattle.board_trace.specs.Subjects.{subject_of}
 use Rattle.std.proofs.lemmas.Bool.{eq-eqb}
 use Rattle.kernel_world.specs.Actors.{is_shell}
 use Rattle.kernel_world.specs.declared.actor.Actor.{Actor}
@@ -16,11 +18,13 @@ use Rattle.wind_machine.specs.declared.phase.Phase.{Phase}
 use Rattle.wind_machine.specs.declared.phase.Phase.TheVariants as phases
 use Rattle.board_trace.specs.Before.{at_of, before_step, counter_at, gate_of, gate_there, is_calling}
 use Rattle.board_trace.specs.Outside.{switches}
-use Rattle.board_trace.specs.Runs.{Line, line_in, lines_of, step_lines, with_line, with_lines}
+use Rattle.board_trace.specs.Runs.{Line, line_in, step_lines, with_line, with_lines}
 use Rattle.board_trace.specs.Snapshots.{after_step, snapshot_of}
 use Rattle.board_trace.specs.Steps.{happenings, has_written, instruction_of, is_instruction, step_happenings}
 use Rattle.board_trace.specs.declared.happening.Happening.TheVariants as told
 use Rattle.trace_text.specs.Joining.{JoiningLaw}
+use Rattle.wind_session.proofs.Continuing.{burst_counted}
+use Rattle.trace_session.specs.Choice.{AreAlike, ChoiceState, chosen_in, chosen_lines, is_chosen, is_of, is_among, is_step, kind_of, with_if}
 use Rattle.trace_session.specs.Bursts.{SilentLinesLaw, instructions_line, with_instructions}
 use Rattle.trace_session.specs.Spans.{looked_at, observed_in, spans_after}
 
@@ -75,12 +79,32 @@ pub made_by : (k : ℕ) (u t : State) → SilentSteps (suc k) u t → (who : Act
 made_by zero u t steps = (steps.2.who, ap (λ (v : State). last_actor v.world) (sym steps.1) ∙ steps.2.last)
 made_by (suc k) u t steps = made_by k u steps.0 steps.1
 
+-- the lines with k instructions, if their line is told
+abbrev with_either : Bool → ℕ → State → Actor → List Line → List Line
+with_either b zero s who lines = lines
+with_either b (suc n) s who lines = with_if b (instructions_line s who (suc n)) lines
+
+without : (k : ℕ) (s : State) (who : Actor) (lines : List Line) → with_either false k s who lines ≡ lines
+without zero s who lines = refl
+without (suc k) s who lines = refl
+
+as_either : (c : ChoiceState) (k : ℕ) (s : State) (who : Actor) (lines : List Line) → with_either (is_chosen c (instructions_line s who 1)) k s who lines ≡ with_instructions c k s who lines
+as_either c zero s who lines = refl
+as_either c (suc k) s who lines = refl
+
 -- the line of k instructions and that of one more
-joined_on : JoiningLaw → (k : ℕ) (u v : State) (who : Actor) (made : List Line) → SilentSteps k u v → with_line (instructions_line v who 1) (with_instructions k u who made) ≡ with_line (instructions_line u who (suc k)) made
-joined_on joins zero u v who made same = ap (λ (x : State). with_line (instructions_line x who 1) made) same
-joined_on joins (suc k) u v who made steps =
+joined_on : JoiningLaw → (k : ℕ) (u v : State) (who : Actor) (b : Bool) (made : List Line) → SilentSteps k u v
+    → with_if b (instructions_line v who 1) (with_either b k u who made) ≡ with_if b (instructions_line u who (suc k)) made
+joined_on joins k u v who false made steps = without k u who made
+joined_on joins zero u v who true made same = ap (λ (x : State). with_line (instructions_line x who 1) made) same
+joined_on joins (suc k) u v who true made steps =
     joins who (suc k) (instructions_line v who 1) (instructions_line u who 1) made
     ∙ ap (λ n. with_line (instructions_line u who n) made) (add-one (suc k))
+
+-- one line that is told or not, after these
+with_one : (b : Bool) (l : Line) (made : List Line) → with_lines (cond b (l ∷ []) []) made ≡ with_if b l made
+with_one true l made = refl
+with_one false l made = refl
 
 module _ (law : SilentLaw) (said : Answers) (s u : State) (i : ℕ) (here : u ≡ after said s i) where
   -- the state after k of them, and after one more
@@ -93,18 +117,32 @@ module _ (law : SilentLaw) (said : Answers) (s u : State) (i : ℕ) (here : u �
   next_there : (k : ℕ) (t : State) → SilentSteps (suc k) u t → t ≡ after said s (suc (i + k))
   next_there k t steps = there (suc k) t steps ∙ ap (after said s) (at_end k)
 
-  lines_on : JoiningLaw → (t : State) (who : Actor) (k : ℕ) → last_actor u.world ≡ Some who → SilentSteps k u t → lines_of said s (i + k) ≡ with_instructions k u who (lines_of said s i)
-  lines_on joins t who zero last steps = let end : i + 0 ≡ i = omega arith in ap (lines_of said s) end
-  lines_on joins t who (suc k) last steps =
-      let v = steps.0 in
-      let n = i + k in
-      let same : steps.2.who ≡ who = some_is steps.2.who who (sym steps.2.last ∙ goes_on k u v who last steps.1) in
-      ap (lines_of said s) (at_end k)
-      ∙ ap₂ (λ (a b : State). with_lines (step_lines (said n) a b) (lines_of said s n)) (sym (there k v steps.1)) (sym (next_there k t steps))
-      ∙ ap (λ l. with_lines l (lines_of said s n)) (one_line v t steps.2 (said n))
-      ∙ ap (λ w. with_line (instructions_line v w 1) (lines_of said s n)) same
-      ∙ ap (with_line (instructions_line v who 1)) (lines_on joins v who k last steps.1)
-      ∙ joined_on joins k u v who (lines_of said s i) steps.1
+  module _ (c : ChoiceState) (who : Actor) where
+    -- an instruction in the step with this number is told
+    abbrev told_at : ℕ → Bool
+    told_at step = is_chosen c (record (instructions_line u who 1) { step = step })
+
+    as_first : (k : ℕ) (v : State) → SilentSteps k u v → is_step c (u.steps + k + 1) ≡ is_step c (u.steps + 1) → told_at (v.steps + 1) ≡ told_at (u.steps + 1)
+    as_first k v steps alike =
+        let counted : v.steps + 1 ≡ u.steps + k + 1 = omega (arith, burst_counted law u v k steps) in
+        ap (λ b. b && (is_of c.tasks (subject_of (told.Instructions who 1)) && is_among c.kinds (kind_of (told.Instructions who 1)))) (ap (is_step c) counted ∙ alike)
+
+    lines_on : JoiningLaw → (t : State) (k : ℕ) → last_actor u.world ≡ Some who → SilentSteps k u t → AreAlike c u.steps k → chosen_lines c said s (i + k) ≡ with_either (told_at (u.steps + 1)) k u who (chosen_lines c said s i)
+    lines_on joins t zero last steps alike = let end : i + 0 ≡ i = omega arith in ap (chosen_lines c said s) end
+    lines_on joins t (suc k) last steps alike =
+        let v = steps.0 in
+        let n = i + k in
+        let below : k < suc k = omega arith in
+        let made = chosen_lines c said s n in
+        let same : steps.2.who ≡ who = some_is steps.2.who who (sym steps.2.last ∙ goes_on k u v who last steps.1) in
+        ap (chosen_lines c said s) (at_end k)
+        ∙ ap₂ (λ (a b : State). with_lines (chosen_in c (said n) a b) made) (sym (there k v steps.1)) (sym (next_there k t steps))
+        ∙ ap (λ l. with_lines (filter (is_chosen c) l) made) (one_line v t steps.2 (said n))
+        ∙ ap (λ w. with_lines (filter (is_chosen c) (instructions_line v w 1 ∷ [])) made) same
+        ∙ with_one (told_at (v.steps + 1)) (instructions_line v who 1) made
+        ∙ ap (λ b. with_if b (instructions_line v who 1) made) (as_first k v steps.1 (alike k below))
+        ∙ ap (with_if (told_at (u.steps + 1)) (instructions_line v who 1)) (lines_on joins v k last steps.1 (λ j h. alike j (omega (arith, h))))
+        ∙ joined_on joins k u v who (told_at (u.steps + 1)) (chosen_lines c said s i) steps.1
 
   -- they leave the spans as they are
   pub spans_on : (k : ℕ) (t : State) → SilentSteps k u t → spans_after said s (i + k) ≡ spans_after said s i
@@ -118,4 +156,4 @@ module _ (law : SilentLaw) (said : Answers) (s u : State) (i : ℕ) (here : u �
       ∙ spans_on k v steps.1
 
 pub silent_lines : JoiningLaw → SilentLaw → SilentLinesLaw
-silent_lines joins law said s u t who i k here last steps = lines_on law said s u i here joins t who k last steps
+silent_lines joins law c said s u t who i k here last steps alike = lines_on law said s u i here c who joins t k last steps alike ∙ as_either c k u who (chosen_lines c said s i)

@@ -10,17 +10,18 @@ use Rattle.wind_machine.specs.Silent.{SilentLaw, SilentSteps}
 use Rattle.wind_session.proofs.AppendingLemmas.{appended_none}
 use Rattle.wind_session.specs.Modules.{Shelf}
 use Rattle.wind_session.specs.Runs.{TellsOr}
-use Rattle.wind_session.specs.Telling.{GoesOn, IsTold, Told}
+use Rattle.wind_session.specs.Telling.{GoesOn, IsTold, IsToldInPart, Told}
 use Rattle.wind_session.specs.declared.run.RunEnd.{RunEnd}
 use Rattle.wind_session.specs.declared.run.RunEnd.TheVariants as ends
 use Rattle.wind_session.proofs.Continuing.{burst_counted}
 use Rattle.wind_session.proofs.Saying.{Agree, same_after, state_after, state_before}
 use Rattle.board_trace.specs.Before.{before_step}
-use Rattle.board_trace.specs.Runs.{Line, lines_of, step_lines, with_lines}
+use Rattle.board_trace.specs.Runs.{Line, with_lines}
 use Rattle.board_trace.specs.Snapshots.{snapshot_of}
 use Rattle.board_trace.specs.Views.{SnapshotState}
 use Rattle.trace_text.specs.Lines.{lines_text}
 use Rattle.trace_text.specs.Pages.{Ends, PageState, count_in}
+use Rattle.trace_session.specs.Choice.{ChoiceState, chosen_in, chosen_lines}
 use Rattle.trace_session.specs.Spans.{looked_at, spans_after}
 use Rattle.trace_session.specs.Traced.{HoldsLines, HoldsPart, HoldsSteps, IsPutOf, TellsEvents, TellsPart, last_line_of}
 use Rattle.trace_session.proofs.Puts.{prefix_more, prefix_put}
@@ -29,12 +30,12 @@ use Rattle.trace_session.proofs.Puts.{prefix_more, prefix_put}
 shorter : (a b : Answers) (k : ℕ) → Agree a b (suc k) → Agree a b k
 shorter a b k same j below = same j (omega (arith, below))
 
-pub same_lines : (a b : Answers) (s : State) (k : ℕ) → Agree a b k → lines_of a s k ≡ lines_of b s k
-same_lines a b s zero same = refl
-same_lines a b s (suc k) same =
-    ap₂ (λ (u v : State). with_lines (step_lines (a k) u v) (lines_of a s k)) (same_after a b s k (shorter a b k same)) (same_after a b s (suc k) same)
-    ∙ ap (λ said. with_lines (step_lines said (after b s k) (after b s (suc k))) (lines_of a s k)) (same k (omega arith))
-    ∙ ap (with_lines (step_lines (b k) (after b s k) (after b s (suc k)))) (same_lines a b s k (shorter a b k same))
+pub same_lines : (c : ChoiceState) (a b : Answers) (s : State) (k : ℕ) → Agree a b k → chosen_lines c a s k ≡ chosen_lines c b s k
+same_lines c a b s zero same = refl
+same_lines c a b s (suc k) same =
+    ap₂ (λ (u v : State). with_lines (chosen_in c (a k) u v) (chosen_lines c a s k)) (same_after a b s k (shorter a b k same)) (same_after a b s (suc k) same)
+    ∙ ap (λ said. with_lines (chosen_in c said (after b s k) (after b s (suc k))) (chosen_lines c a s k)) (same k (omega arith))
+    ∙ ap (with_lines (chosen_in c (b k) (after b s k) (after b s (suc k)))) (same_lines c a b s k (shorter a b k same))
 
 same_spans : (a b : Answers) (s : State) (k : ℕ) → Agree a b k → spans_after a s k ≡ spans_after b s k
 same_spans a b s zero same = refl
@@ -44,11 +45,11 @@ same_spans a b s (suc k) same =
 
 -- ---- one step more
 module _ (said next : Answers) (s u t : State) (reply : Option Reply) (i : ℕ) (on : GoesOn said next s u t reply i) where
-  pub lines_now : with_lines (step_lines (next i) u t) (lines_of said s i) ≡ lines_of next s (i + 1)
-  lines_now =
-      ap₂ (λ (a b : State). with_lines (step_lines (next i) a b) (lines_of said s i)) (state_before said next s u t reply i on) (state_after said next s u t reply i on)
-      ∙ ap (with_lines (step_lines (next i) (after next s i) (after next s (suc i)))) (same_lines said next s i on.same)
-      ∙ ap (lines_of next s) (sym (add-one i))
+  pub lines_now : (c : ChoiceState) → with_lines (chosen_in c (next i) u t) (chosen_lines c said s i) ≡ chosen_lines c next s (i + 1)
+  lines_now c =
+      ap₂ (λ (a b : State). with_lines (chosen_in c (next i) a b) (chosen_lines c said s i)) (state_before said next s u t reply i on) (state_after said next s u t reply i on)
+      ∙ ap (with_lines (chosen_in c (next i) (after next s i) (after next s (suc i)))) (same_lines c said next s i on.same)
+      ∙ ap (chosen_lines c next s) (sym (add-one i))
 
   pub spans_now : looked_at (before_step u) (spans_after said s i) t ≡ spans_after next s (i + 1)
   spans_now =
@@ -77,17 +78,17 @@ pub none_waits : (page : PageState) (n : ℕ) → page ≡ record { text = []; g
 none_waits page n empty = let none : count_in page.growing ≡ 0 = ap (λ (p : PageState). count_in p.growing) empty in omega (arith, none)
 
 -- what the sink gained of them, whatever is said of the files later
-pub part_held : (first now : Option (List ℕ)) (page : PageState) (said next : Answers) (s : State) (i : ℕ) → ((j : ℕ) → j < i → said j ≡ next j) → HoldsSteps first now page said s i → HoldsPart first now next s i
-part_held first now page said next s i same holds =
-    subst (λ lines. AppendedPrefix first now (lines_text lines)) (same_lines said next s i same) (prefix_put first now page (lines_of said s i) holds)
+pub part_held : (c : ChoiceState) (first now : Option (List ℕ)) (page : PageState) (said next : Answers) (s : State) (i : ℕ) → ((j : ℕ) → j < i → said j ≡ next j) → HoldsSteps c first now page said s i → HoldsPart c first now next s i
+part_held c first now page said next s i same holds =
+    subst (λ lines. AppendedPrefix first now (lines_text lines)) (same_lines c said next s i same) (prefix_put first now page (chosen_lines c said s i) holds)
 
 -- a step more was told
-pub held_on : (first now : Option (List ℕ)) (page later : PageState) (said next : Answers) (s u t : State) (reply : Option Reply) (i : ℕ) → GoesOn said next s u t reply i
-    → ((given : List ℕ) (lines : List Line) → Ends given page lines → Ends given later (with_lines (step_lines (next i) u t) lines)) → HoldsSteps first now page said s i → HoldsSteps first now later next s (i + 1)
-held_on first now page later said next s u t reply i on lines holds = record {
+pub held_on : (c : ChoiceState) (first now : Option (List ℕ)) (page later : PageState) (said next : Answers) (s u t : State) (reply : Option Reply) (i : ℕ) → GoesOn said next s u t reply i
+    → ((given : List ℕ) (lines : List Line) → Ends given page lines → Ends given later (with_lines (chosen_in c (next i) u t) lines)) → HoldsSteps c first now page said s i → HoldsSteps c first now later next s (i + 1)
+held_on c first now page later said next s u t reply i on lines holds = record {
   given = holds.given;
   gained = holds.gained;
-  ends = subst (Ends holds.given later) (lines_now said next s u t reply i on) (lines holds.given (lines_of said s i) holds.ends);
+  ends = subst (Ends holds.given later) (lines_now said next s u t reply i on c) (lines holds.given (chosen_lines c said s i) holds.ends);
 }
 
 -- after instructions that were made at once, the next step can be told
@@ -96,29 +97,43 @@ pub ready_on : {E : Type 0} (r : Result ℕ E) (u t : State) (waited waits : ℕ
 ready_on (Err e) u t waited waits snapshot law few steps more same = tt
 ready_on (Ok k) u t waited waits snapshot law few steps more same = (same, omega (arith, few, more, burst_counted law u t k steps))
 
+-- by a choice that stays the same
+pub with_scope : {E A : Type 0} (r : Result ℕ E) (P Q : ℕ → Type 0) → OnOk r A → ((k : ℕ) → A → P k → Q k) → IfOk r P → IfOk r Q
+with_scope (Err e) P Q same leads holds = tt
+with_scope (Ok k) P Q same leads holds = leads k same holds
+
+module _ (c mine later : ChoiceState) (same : mine ≡ c) (shelf : Shelf) (s board : State) (n : ℕ) (old mid : Option (List Request)) (first now : Option (List ℕ)) where
+  pub told_of : (page : PageState) (end : RunEnd) → Told (IsTold (HoldsSteps later first now page) (HoldsPart mine first now) end s) shelf s n board old mid → Told (IsTold (HoldsSteps later first now page) (HoldsPart c first now) end s) shelf s n board old mid
+  told_of page end = subst (λ x. Told (IsTold (HoldsSteps later first now page) (HoldsPart x first now) end s) shelf s n board old mid) same
+
+  pub part_of : Told (IsToldInPart (HoldsPart mine first now) s) shelf s n board old mid → Told (TellsPart c s first now) shelf s n board old mid
+  part_of = subst (λ x. Told (TellsPart x s first now) shelf s n board old mid) same
+
 -- ---- the last line
-module _ (shelf : Shelf) (s board : State) (n : ℕ) (old mid : Option (List Request)) (first now : Option (List ℕ)) (page : PageState) (end : RunEnd)
-    (ran : Told (IsTold (HoldsSteps first now page) (HoldsPart first now) end s) shelf s n board old mid) where
+module _ (c later : ChoiceState) (stays : later ≡ c) (shelf : Shelf) (s board : State) (n : ℕ) (old mid : Option (List Request)) (first now : Option (List ℕ)) (page : PageState) (end : RunEnd)
+    (ran : Told (IsTold (HoldsSteps later first now page) (HoldsPart c first now) end s) shelf s n board old mid) where
   abbrev lines : List Line
-  lines = lines_of ran.said s ran.k
+  lines = chosen_lines c ran.said s ran.k
 
   -- a put failed before it
-  pub lost_before : end ≡ ends.WriteFault → Told (TellsEvents end s first now) shelf s n board old mid
+  pub lost_before : end ≡ ends.WriteFault → Told (TellsEvents c end s first now) shelf s n board old mid
   lost_before e = record {
     said = ran.said;
     k = ran.k;
     end = ran.end;
     made = ran.made;
-    tells = inr (e, prefix_more first now (lines_text lines) (last_line_of ran.end (after ran.said s ran.k)) (lost_if (HoldsSteps first now page) (HoldsPart first now) ran.said s ran.k ran.end (sym ran.tells.0 ∙ e) ran.tells.1));
+    tells = inr (e, prefix_more first now (lines_text lines) (last_line_of ran.end (after ran.said s ran.k)) (lost_if (HoldsSteps later first now page) (HoldsPart c first now) ran.said s ran.k ran.end (sym ran.tells.0 ∙ e) ran.tells.1));
   }
 
   module _ (other : end ≢ ends.WriteFault) where
     held : HoldsLines first now page lines
-    held = tells_unless (HoldsSteps first now page) (HoldsPart first now) ran.said s ran.k ran.end (λ e. other (ran.tells.0 ∙ e)) ran.tells.1
+    held =
+        subst (λ x. HoldsSteps x first now page ran.said s ran.k) stays
+        (tells_unless (HoldsSteps later first now page) (HoldsPart c first now) ran.said s ran.k ran.end (λ e. other (ran.tells.0 ∙ e)) ran.tells.1)
 
     -- it was put, or that put failed
     pub last_told : (new : Option (List ℕ)) (result : RunEnd) → ((ls : List Line) → HoldsLines first now page ls → IsPutOf (lines_text ls ++ last_line_of end board) result end first new)
-        → Told (TellsEvents result s first new) shelf s n board old mid
+        → Told (TellsEvents c result s first new) shelf s n board old mid
     last_told new result puts = record {
       said = ran.said;
       k = ran.k;
@@ -130,7 +145,7 @@ module _ (shelf : Shelf) (s board : State) (n : ℕ) (old mid : Option (List Req
     }
 
     -- memory ran out for it
-    pub last_given_up : (new : Option (List ℕ)) → new ≡ now → Told (TellsPart s first new) shelf s n board old mid
+    pub last_given_up : (new : Option (List ℕ)) → new ≡ now → Told (TellsPart c s first new) shelf s n board old mid
     last_given_up new same = record {
       said = ran.said;
       k = ran.k;

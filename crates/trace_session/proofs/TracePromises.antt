@@ -22,7 +22,7 @@ use Rattle.trace_session.specs.Program.{Session, TracedOn}
 module _ (law : PromiseLaw) where
   by_left : (s : Status) (plan : Plan) (c : TraceState) (areas : Option (List Area)) (board : State) (before after : Around) → IsPlanOf c.session.source before.files c.session plan
       → (console : List ℕ) (schedule : Timetable) → plan ≡ Start console schedule
-      → IsLeft c.form areas s (shelf_of before.files c.session) (opening console schedule opening_devices c.session.profile c.session.board) c.session.limit board (with_inputs c.session before.logged) after.logged
+      → IsLeft c.form c.choice areas s (shelf_of before.files c.session) (opening console schedule opening_devices c.session.profile c.session.board) c.session.limit board (with_inputs c.session before.logged) after.logged
       → PlaysAsPromised plan c.session before after
   by_left s plan c areas board before after planned console schedule starts (inl told) =
       plays_as_promised law plan c.session before after planned console schedule starts told.2.said told.2.k told.2.end board told.2.made

@@ -1,15 +1,21 @@
 -- What the arguments of the command line ask for.
-use Rattle.std.specs.Prelude.{List, Option, Some, None, if◌then◌else◌, codes}
+use Rattle.std.specs.Prelude.{ℕ, Bool, ◌&&◌, ◌==◌, List, [], ◌∷◌, Option, Some, None, if◌then◌else◌, codes}
 use Rattle.std.specs.Option.{option_map}
+use Rattle.std.specs.List.{slice_split}
 use Rattle.std.specs.Str.{bytes_eq}
 use Rattle.clap.specs.Words.{App, Row, Text, new_app}
-use Rattle.wind_session.specs.Command.{CommandState, command_of_rows as session_of_rows, if_valid, rows_given, value_of, with_option, with_session_options}
+use Rattle.wind_base.specs.Limits.{most_steps}
+use Rattle.wind_session.specs.Command.{CommandState, number_value, command_of_rows as session_of_rows, if_valid, rows_given, value_of, with_option, with_session_options}
+use Rattle.trace_session.specs.Choice.{ChoiceState, everything}
+use Rattle.trace_session.specs.declared.choice.Kind.{Kind}
+use Rattle.trace_session.specs.declared.choice.Kind.TheVariants as kinds
 use Rattle.trace_session.specs.declared.forms.Form.{Form}
 use Rattle.trace_session.specs.declared.forms.Form.TheVariants.{Events, Timeline, State}
 
--- a command: the form in which a session is told, and the session
+-- a command: the form in which a session is told, what is told of it, and the session
 pub record TraceState : Type 0 where
   pub form : Form
+  pub choice : ChoiceState
   pub session : CommandState
 
 -- the form with this name
@@ -20,16 +26,105 @@ form_named name =
     else if bytes_eq name (codes "state") then Some State
     else None
 
+-- ---- what is told
+-- a command line with the options that choose it, each with its default
+abbrev pub with_choice_options : App → App
+with_choice_options app =
+    with_option (codes "kinds") (codes "all")
+    (with_option (codes "tasks") (codes "all")
+    (with_option (codes "to") (codes "last")
+    (with_option (codes "from") (codes "first") app)))
+
+-- the number of a step, from 1 on
+abbrev pub step_of_number : Option ℕ → Option ℕ
+step_of_number None = None
+step_of_number (Some n) = if n == 0 then None else Some n
+
+abbrev pub step_value : Text → Option ℕ
+step_value text = step_of_number (number_value most_steps text)
+
+-- the first step that is told
+abbrev pub first_value : Text → Option ℕ
+first_value text = if bytes_eq text (codes "first") then Some 1 else step_value text
+
+-- the last step that is told; none for the last of the run
+abbrev pub last_value : Text → Option (Option ℕ)
+last_value text = if bytes_eq text (codes "last") then Some None else option_map Some (step_value text)
+
+-- a list: its items are separated by commas
+abbrev pub parts : Text → List Text
+parts text = slice_split (λ b. b == 44) text
+
+-- the values of a list's items, or none if one is invalid
+abbrev pub each : {V : Type 0} → (Text → Option V) → List Text → Option (List V)
+each value [] = Some []
+each value (t ∷ ts) = if_valid (value t) (λ v. option_map (λ vs. v ∷ vs) (each value ts))
+
+-- the greatest id of a task
+abbrev pub most_id : ℕ
+most_id = 4294967295
+
+-- the ids of tasks; none for everybody and the board
+abbrev pub tasks_value : Text → Option (Option (List ℕ))
+tasks_value text = if bytes_eq text (codes "all") then Some None else option_map Some (each (number_value most_id) (parts text))
+
+-- the kind with this name
+abbrev pub kind_named : Text → Option Kind
+kind_named name =
+    if bytes_eq name (codes "outside") then Some kinds.Outside
+    else if bytes_eq name (codes "runs") then Some kinds.Runs
+    else if bytes_eq name (codes "calls") then Some kinds.Calls
+    else if bytes_eq name (codes "exceptions") then Some kinds.Exceptions
+    else if bytes_eq name (codes "owners") then Some kinds.Owners
+    else if bytes_eq name (codes "messages") then Some kinds.Messages
+    else if bytes_eq name (codes "waits") then Some kinds.Waits
+    else if bytes_eq name (codes "tasks") then Some kinds.Tasks
+    else if bytes_eq name (codes "priorities") then Some kinds.Priorities
+    else if bytes_eq name (codes "watchdogs") then Some kinds.Watchdogs
+    else if bytes_eq name (codes "modules") then Some kinds.Modules
+    else if bytes_eq name (codes "routines") then Some kinds.Routines
+    else if bytes_eq name (codes "output") then Some kinds.Output
+    else if bytes_eq name (codes "instructions") then Some kinds.Instructions
+    else None
+
+-- the kinds; none for all
+abbrev pub kinds_value : Text → Option (Option (List Kind))
+kinds_value text = if bytes_eq text (codes "all") then Some None else option_map Some (each kind_named (parts text))
+
+-- the choice of clap's matches; none if a value is invalid
+abbrev pub choice_of_rows : List Row → Option ChoiceState
+choice_of_rows rows =
+    if_valid (first_value (value_of (codes "from") rows)) (λ first.
+    if_valid (last_value (value_of (codes "to") rows)) (λ last.
+    if_valid (tasks_value (value_of (codes "tasks") rows)) (λ tasks.
+    if_valid (kinds_value (value_of (codes "kinds") rows)) (λ kinds.
+    Some (record { first = first; last = last; tasks = tasks; kinds = kinds })))))
+
+-- each of the options has its default
+abbrev pub has_defaults : List Row → Bool
+has_defaults rows =
+    bytes_eq (value_of (codes "from") rows) (codes "first")
+    && (bytes_eq (value_of (codes "to") rows) (codes "last")
+    && (bytes_eq (value_of (codes "tasks") rows) (codes "all") && bytes_eq (value_of (codes "kinds") rows) (codes "all")))
+
+-- events are told of a choice, other forms of everything
+abbrev pub choice_for : Form → List Row → Option ChoiceState
+choice_for Events rows = choice_of_rows rows
+choice_for Timeline rows = if has_defaults rows then Some everything else None
+choice_for State rows = if has_defaults rows then Some everything else None
+
+-- ---- the command
 -- the command line, as clap reads it
 unfoldable pub app : App
-app = with_session_options (with_option (codes "as") (codes "events") (new_app (codes "windtrace")))
+app = with_session_options (with_choice_options (with_option (codes "as") (codes "events") (new_app (codes "windtrace"))))
 
 -- the command of clap's matches; none if a value is invalid
 abbrev pub command_of_rows : List Row → Option TraceState
 command_of_rows rows =
     if_valid (form_named (value_of (codes "as") rows)) (λ form.
+    if_valid (choice_for form rows) (λ choice.
     if_valid (session_of_rows rows) (λ session.
-    Some (record { form = form; session = session })))
+    Some (record { form = form; choice = choice; session = session }))))
 
 -- the command that these words give, or none if clap refuses them or a value is invalid; the first word is the program's
 -- name

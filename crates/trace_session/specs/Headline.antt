@@ -19,15 +19,16 @@ use Rattle.wind_session.specs.declared.ending.Status.TheVariants as status
 use Rattle.wind_session.specs.declared.ending.Stand.{Stand}
 use Rattle.wind_session.specs.declared.ending.Stand.TheVariants as stands
 use Rattle.trace_picture.specs.declared.areas.Area.{Area}
+use Rattle.trace_session.specs.Choice.{ChoiceState}
 use Rattle.trace_session.specs.Forms.{TellsForm, TellsLess}
 use Rattle.trace_session.specs.declared.forms.Form.{Form}
 use Rattle.trace_session.specs.Command.{TraceState, session_of}
 
 -- the status is that of the run, or of a failed put; or memory ran out for the trace
-abbrev pub IsLeft : Form → Option (List Area) → Status → Shelf → State → ℕ → State → Outside → Outside → Type 0
-IsLeft form areas s shelf start limit board old new =
-    ((result : RunEnd) × (s ≡ status_of result) × Told (TellsForm form areas result start old.bytes new.bytes) shelf start limit board old.requests new.requests)
-    ⊎ ((s ≡ status.NoMemory) × Told (TellsLess form start old.bytes new.bytes) shelf start limit board old.requests new.requests)
+abbrev pub IsLeft : Form → ChoiceState → Option (List Area) → Status → Shelf → State → ℕ → State → Outside → Outside → Type 0
+IsLeft form choice areas s shelf start limit board old new =
+    ((result : RunEnd) × (s ≡ status_of result) × Told (TellsForm form choice areas result start old.bytes new.bytes) shelf start limit board old.requests new.requests)
+    ⊎ ((s ≡ status.NoMemory) × Told (TellsLess form choice start old.bytes new.bytes) shelf start limit board old.requests new.requests)
 
 -- a command was played for a trace on this board: the wind machine's, started with the console, the events of the tick
 -- file, these devices, and the rule and kind of the command, and given the files of modules that it needed
@@ -35,7 +36,7 @@ pub record TracedBoard (s : Status) (plan : Plan) (command : TraceState) (areas 
   pub console : List ℕ
   pub schedule : Timetable
   pub planned : plan ≡ Start console schedule
-  pub left : IsLeft command.form areas s (shelf_of before.files command.session) (opening console schedule devices command.session.profile command.session.board) command.session.limit board (with_inputs command.session before.logged) after.logged
+  pub left : IsLeft command.form command.choice areas s (shelf_of before.files command.session) (opening console schedule devices command.session.profile command.session.board) command.session.limit board (with_inputs command.session before.logged) after.logged
 
 -- a command is there, and its board was played
 abbrev pub IsTraced : Status → Plan → Option TraceState → Option (List Area) → List (Option DeviceState) → State → Around → Around → Type 0

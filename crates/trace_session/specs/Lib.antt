@@ -1,4 +1,5 @@
 pub mod Bursts
+pub mod Choice
 pub mod Forms
 pub mod Laws
 pub mod Spans

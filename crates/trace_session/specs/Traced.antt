@@ -5,10 +5,11 @@ use Rattle.wind_machine.specs.State.{State}
 use Rattle.wind_machine.specs.Run.{Answers, after}
 use Rattle.wind_session.specs.declared.run.RunEnd.{RunEnd}
 use Rattle.wind_session.specs.declared.run.RunEnd.TheVariants as ends
-use Rattle.board_trace.specs.Runs.{Line, lines_of}
+use Rattle.board_trace.specs.Runs.{Line}
 use Rattle.board_trace.specs.Snapshots.{snapshot_of}
 use Rattle.board_trace.specs.Views.{SnapshotState}
 use Rattle.board_changes.specs.Spans.{SpanState}
+use Rattle.trace_session.specs.Choice.{ChoiceState, chosen_lines}
 use Rattle.trace_session.specs.Spans.{spans_after, spans_of}
 use Rattle.trace_picture.specs.Areas.{areas_of}
 use Rattle.trace_picture.specs.declared.areas.Area.{Area}
@@ -30,21 +31,21 @@ how_text ends.NoMemory = codes "host memory ran out"
 abbrev pub last_line_of : RunEnd → State → List ℕ
 last_line_of end s = last_line s.time s.steps (how_text end) (snapshot_of s.world).tasks (length s.left)
 
--- the lines of the first k steps from s, and the last line
-abbrev pub events_text : RunEnd → Answers → State → ℕ → List ℕ
-events_text end said s k = lines_text (lines_of said s k) ++ last_line_of end (after said s k)
+-- the lines of the first k steps from s that are told, and the last line
+abbrev pub events_text : ChoiceState → RunEnd → Answers → State → ℕ → List ℕ
+events_text c end said s k = lines_text (chosen_lines c said s k) ++ last_line_of end (after said s k)
 
 -- the sink gained the text of a run that ended like this; or a prefix of it, because a put failed
 abbrev pub IsPutOf : List ℕ → RunEnd → RunEnd → Option (List ℕ) → Option (List ℕ) → Type 0
 IsPutOf text result end old new = ((result ≡ end) × Appended old new text) ⊎ ((result ≡ ends.WriteFault) × AppendedPrefix old new text)
 
--- the lines of a run were put
-abbrev pub TellsEvents : RunEnd → State → Option (List ℕ) → Option (List ℕ) → Answers → ℕ → RunEnd → Type 0
-TellsEvents result s old new said k end = IsPutOf (events_text end said s k) result end old new
+-- the lines of a run that are chosen were put
+abbrev pub TellsEvents : ChoiceState → RunEnd → State → Option (List ℕ) → Option (List ℕ) → Answers → ℕ → RunEnd → Type 0
+TellsEvents c result s old new said k end = IsPutOf (events_text c end said s k) result end old new
 
--- memory ran out for the trace: a prefix of the lines of the first j of k steps was put
-abbrev pub TellsPart : State → Option (List ℕ) → Option (List ℕ) → Answers → ℕ → RunEnd → Type 0
-TellsPart s old new said k end = (j : ℕ) × (j ≤ k) × AppendedPrefix old new (lines_text (lines_of said s j))
+-- memory ran out for the trace: a prefix of the chosen lines of the first j of k steps was put
+abbrev pub TellsPart : ChoiceState → State → Option (List ℕ) → Option (List ℕ) → Answers → ℕ → RunEnd → Type 0
+TellsPart c s old new said k end = (j : ℕ) × (j ≤ k) × AppendedPrefix old new (lines_text (chosen_lines c said s j))
 
 -- ---- a run under way
 -- the sink gained a text, and that text with the page's is the text of these lines
@@ -53,13 +54,13 @@ pub record HoldsLines (old new : Option (List ℕ)) (page : PageState) (lines : 
   pub gained : Appended old new given
   pub ends : Ends given page lines
 
--- the same of the lines of the first k steps
-abbrev pub HoldsSteps : Option (List ℕ) → Option (List ℕ) → PageState → Answers → State → ℕ → Type 0
-HoldsSteps old new page said s k = HoldsLines old new page (lines_of said s k)
+-- the same of the lines of the first k steps that are chosen
+abbrev pub HoldsSteps : ChoiceState → Option (List ℕ) → Option (List ℕ) → PageState → Answers → State → ℕ → Type 0
+HoldsSteps c old new page said s k = HoldsLines old new page (chosen_lines c said s k)
 
 -- the sink gained a prefix of the text of these lines
-abbrev pub HoldsPart : Option (List ℕ) → Option (List ℕ) → Answers → State → ℕ → Type 0
-HoldsPart old new said s k = AppendedPrefix old new (lines_text (lines_of said s k))
+abbrev pub HoldsPart : ChoiceState → Option (List ℕ) → Option (List ℕ) → Answers → State → ℕ → Type 0
+HoldsPart c old new said s k = AppendedPrefix old new (lines_text (chosen_lines c said s k))
 
 -- the snapshot is that of this state, and no more instructions wait than steps were made
 abbrev pub IsReady : SnapshotState → PageState → State → Type 0

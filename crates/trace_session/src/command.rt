@@ -8,7 +8,9 @@ ghost use Rattle.trace_session.specs.Words.{trace_state};
 ghost use Rattle.wind_base.specs.Limits.{most_steps};
 ghost use Rattle.wind_session.specs.declared.command.CommandErr.TheVariants as errors;
 
-use crate::Form;
+use crate::choice::Choice;
+use crate::choosing::{choice_for, with_choice_options};
+use crate::forms::Form;
 use std::alloc::{AllocError, Global};
 use wind_session::{
     Command, CommandErr, command_line, command_of_matches, matches_of, option, valid, value_of,
@@ -16,10 +18,12 @@ use wind_session::{
 };
 
 /// What the arguments ask for.
-#[derive(Clone, Copy)]
+#[derive(Drop)]
 pub struct TraceCommand<'a> {
     /// The form.
     pub form: Form,
+    /// What of the run is told.
+    pub choice: Choice,
     /// The session.
     pub session: Command<'a>,
 }
@@ -56,6 +60,7 @@ fn app<'a>(alloc: Global) -> Result<clap::Command<'a>, AllocError>
         "What is told: events, timeline or state",
     );
     let command = command_line(alloc, PROGRAM, about).arg(form)?;
+    let command = with_choice_options(alloc, command)?;
     with_session_options(alloc, command)
 }
 
@@ -73,6 +78,11 @@ pub fn trace_command_of<'a>(
     let matches = matches_of(alloc, &mut app, words)?;
     let named = form_named(value_of(&matches, "as"));
     let form = valid(alloc, &mut app, named, BAD_FORM)?;
+    let choice = choice_for(alloc, &mut app, form, &matches)?;
     let session = command_of_matches(alloc, &mut app, &matches)?;
-    Ok(TraceCommand { form, session })
+    Ok(TraceCommand {
+        form,
+        choice,
+        session,
+    })
 }

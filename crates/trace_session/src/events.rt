@@ -6,11 +6,13 @@ ghost use Rattle.wind_outside.specs.{Appending.{Appended, AppendedPrefix}, Count
 ghost use Rattle.wind_outside.specs.declared.sink.Put.TheVariants as puts;
 ghost use Rattle.wind_machine.specs.{State.State, Run.{Answers, after}, Silent.SilentSteps};
 ghost use Rattle.wind_session.specs.BoardPlayerSeen.{seen};
-ghost use Rattle.board_trace.specs.{Runs.{Line, lines_of}, Snapshots.snapshot_of, Views.snapshot_state};
+ghost use Rattle.board_trace.specs.{Runs.Line, Snapshots.snapshot_of, Views.snapshot_state};
 ghost use Rattle.trace_text.specs.{Lines.lines_text, Pages.{Ends, count_in}};
 ghost use Rattle.wind_session.specs.declared.run.RunEnd.TheVariants as ends;
+ghost use Rattle.trace_session.specs.Choice.{choice_state, chosen_lines};
 ghost use Rattle.trace_session.specs.Traced.{HoldsLines, IsPutOf, last_line_of};
 
+use crate::choice::Choice;
 use crate::laws::silent_lines_law;
 use crate::tracer::Tracer;
 use board_trace::BeforeStep;
@@ -68,7 +70,9 @@ fn burst(board: &mut Board, tracer: &mut Tracer, most: u64) -> Result<u64, NoMem
         × SilentSteps k (seen ⟦<dyn Device as Device>⟧ board.old) (seen ⟦<dyn Device as Device>⟧ board.new)) }
     ensures lines { IfOk result (λ k. (said : Answers) (s : State) (i : ℕ) (given : List ℕ)
         → seen ⟦<dyn Device as Device>⟧ board.old ≡ after said s i
-        → Ends given tracer.old.page (lines_of said s i) → Ends given tracer.new.page (lines_of said s (i + k))) }
+        → Ends given tracer.old.page (chosen_lines (choice_state tracer.old.choice.now) said s i)
+        → Ends given tracer.new.page (chosen_lines (choice_state tracer.old.choice.now) said s (i + k))) }
+    ensures choice { OnOk result (tracer.new.choice ≡ tracer.old.choice) }
     ensures waits { IfOk result (λ k. count_in tracer.new.page.growing ≤ count_in tracer.old.page.growing + k) }
     ensures before { OnOk result (snapshot_state tracer.new.reader.before
         ≡ snapshot_of (seen ⟦<dyn Device as Device>⟧ board.new).world) }
@@ -77,7 +81,7 @@ fn burst(board: &mut Board, tracer: &mut Tracer, most: u64) -> Result<u64, NoMem
     board.facts();
     let who = last_actor(board.world());
     let (time, step) = (board.time(), board.steps() + 1);
-    let count = board.burst(most);
+    let count = board.burst(tracer.choice.most_alike(board.steps(), most));
     // somebody made a step before, or no instruction is made at once
     let Some(who) = who else {
         return Ok(count);
@@ -89,22 +93,27 @@ fn burst(board: &mut Board, tracer: &mut Tracer, most: u64) -> Result<u64, NoMem
     Ok(count)
 }
 
-impl Teller for Tracer {
+impl<'a> Teller for Tracer<'a> {
     ghost use Rattle.std.specs.Prelude.{◌≡◌};
     ghost use Rattle.board_trace.specs.{Before.before_step, Views.snapshot_state};
+    ghost use Rattle.trace_session.specs.Choice.{choice_state};
     ghost use Rattle.trace_session.specs.Traced.{HoldsPart, HoldsSteps, IsReady};
 
     type Before = BeforeStep;
 
     type Error = NoMemory;
 
+    type Scope = &'a Choice;
+
+    ghost scope = { λ t. t.choice };
+
     ghost reads = { λ before s. before ≡ before_step s };
 
-    ghost tells = { λ t first now. HoldsSteps first.bytes now.bytes t.page };
+    ghost tells = { λ t first now. HoldsSteps (choice_state t.choice.now) first.bytes now.bytes t.page };
 
-    ghost lost = { λ first now. HoldsPart first.bytes now.bytes };
+    ghost lost = { λ scope first now. HoldsPart (choice_state scope.now) first.bytes now.bytes };
 
-    ghost part = { λ first now. HoldsPart first.bytes now.bytes };
+    ghost part = { λ scope first now. HoldsPart (choice_state scope.now) first.bytes now.bytes };
 
     ghost ready = { λ t. IsReady (snapshot_state t.reader.before) t.page };
 

@@ -6,8 +6,10 @@ ghost use Rattle.wind_outside.specs.Counts.{Rose};
 ghost use Rattle.wind_session.specs.{Keeping.KeepsFiles, Telling.Told};
 ghost use Rattle.wind_session.specs.BoardPlayerSeen.{seen};
 ghost use Rattle.wind_session.specs.declared.run.RunEnd.TheVariants as ends;
+ghost use Rattle.trace_session.specs.Choice.{choice_state};
 ghost use Rattle.trace_session.specs.Forms.{TellsForm, TellsLess};
 
+use crate::choice::Choice;
 use crate::events::tell_end;
 use crate::observer::Observer;
 use crate::timeline::put_text;
@@ -39,7 +41,8 @@ pub struct TracedRun {
     pub areas: Option<Areas>,
 }
 
-/// Makes steps, at most `limit`, and puts what happened in them in this form. The modules that the
+/// Makes steps, at most `limit`, and puts what happened in them in this form. Events are told of the choice
+/// alone. The modules that the
 /// steps need are fetched from the folder.
 ///
 /// # Errors
@@ -48,6 +51,7 @@ pub struct TracedRun {
 pub fn trace_board<F: Folder, O: Sink>(
     alloc: Global,
     form: Form,
+    choice: &Choice,
     board: &mut Board,
     folder: &mut F,
     modules: &str,
@@ -57,11 +61,11 @@ pub fn trace_board<F: Folder, O: Sink>(
     requires fresh { (seen ⟦<dyn Device as Device>⟧ board.old).steps ≡ 0 }
     requires bound { limit ≤ most_steps }
     ensures told { IfOk result (λ t. Told
-        (TellsForm form t.areas t.end (seen ⟦<dyn Device as Device>⟧ board.old) (O.bytes out.old) (O.bytes out.new))
+        (TellsForm form (choice_state choice.now) t.areas t.end (seen ⟦<dyn Device as Device>⟧ board.old) (O.bytes out.old) (O.bytes out.new))
         (record { files = F.files folder.old; name = modules.now }) (seen ⟦<dyn Device as Device>⟧ board.old) limit
         (seen ⟦<dyn Device as Device>⟧ board.new) (F.requests folder.old) (F.requests folder.new)) }
     ensures given_up { OnErr result (Told
-        (TellsLess form (seen ⟦<dyn Device as Device>⟧ board.old) (O.bytes out.old) (O.bytes out.new))
+        (TellsLess form (choice_state choice.now) (seen ⟦<dyn Device as Device>⟧ board.old) (O.bytes out.old) (O.bytes out.new))
         (record { files = F.files folder.old; name = modules.now }) (seen ⟦<dyn Device as Device>⟧ board.old) limit
         (seen ⟦<dyn Device as Device>⟧ board.new) (F.requests folder.old) (F.requests folder.new)) }
     ensures read_fault { IfOk result (λ t. t.end ≡ ends.ReadFault → Rose (F.faults folder.old) (F.faults folder.new)) }
@@ -70,7 +74,7 @@ pub fn trace_board<F: Folder, O: Sink>(
 {
     match form {
         Form::Events => {
-            let mut tracer = Tracer::new(alloc, board)?;
+            let mut tracer = Tracer::new(alloc, choice, board)?;
             let end = tell_run(alloc, board, folder, modules, out, limit, &mut tracer)?;
             match end {
                 RunEnd::WriteFault => Ok(TracedRun { end, areas: None }),

@@ -1,6 +1,7 @@
 //! Laws of the lines of a run, each as the clause of a function.
 
 ghost use Rattle.trace_session.specs.Bursts.{SilentLinesLaw};
+ghost use Rattle.trace_session.specs.Choice.{EverythingLaw};
 ghost use Rattle.trace_session.specs.Laws.{LinesLaw};
 
 use trace_text::joining_law;
@@ -18,4 +19,9 @@ pub(crate) fn silent_lines_law()
 /// lines say is written is what the steps write.
 pub fn lines_law()
     ensures { LinesLaw }
+{}
+
+/// If everything is told, the lines are those of the run.
+pub fn everything_law()
+    ensures { EverythingLaw }
 {}

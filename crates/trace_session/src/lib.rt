@@ -2,6 +2,8 @@
 //! picture or as the board that it leaves, and how the run ended.
 #![tactic(auto)]
 
+mod choice;
+mod choosing;
 mod command;
 mod ending;
 mod events;
@@ -15,9 +17,10 @@ mod scene;
 mod timeline;
 mod tracer;
 
+pub use choice::{Choice, Kind};
 pub use command::{TraceCommand, trace_command_of};
 pub use ending::TraceEnding;
 pub use forms::{Form, TracedRun, trace_board};
-pub use laws::lines_law;
+pub use laws::{everything_law, lines_law};
 pub use playing::trace;
 pub use program::trace_program;

@@ -6,7 +6,7 @@ ghost use Rattle.wind_outside.specs.{Counts.Rose, Devices.slots_of};
 ghost use Rattle.wind_session.specs.{Command.HasFewRounds, Keeping.{KeepsFiles, around, messages}, BoardPlayerSeen.seen, Headline.{IsComplete, IsKept}, Outside.outside, Texts.Tells};
 ghost use Rattle.wind_session.specs.declared.ending.Stand.TheVariants as stands;
 ghost use Rattle.wind_session.specs.declared.ending.Status.TheVariants as status;
-ghost use Rattle.trace_session.specs.{Command.{command_of, session_of}, Headline.{IsLeft, Traces}, Words.{trace_state as trace_state_lem}};
+ghost use Rattle.trace_session.specs.{Choice.choice_state, Command.{command_of, session_of}, Headline.{IsLeft, Traces}, Words.{trace_state as trace_state_lem}};
 
 use crate::command::{PROGRAM, TraceCommand, trace_command_of};
 use crate::ending::TraceEnding;
@@ -48,7 +48,7 @@ fn play_board<F: Folder, O: Sink>(
 ) -> Outcome
     requires fresh { (seen ⟦<dyn Device as Device>⟧ board.old).steps ≡ 0 }
     requires limit { command.now.session.limit ≤ most_steps }
-    ensures left { IsLeft command.now.form result.areas result.status
+    ensures left { IsLeft command.now.form (choice_state command.now.choice) result.areas result.status
         (record { files = F.files folder.old; name = command.now.session.modules.now })
         (seen ⟦<dyn Device as Device>⟧ board.old) command.now.session.limit (seen ⟦<dyn Device as Device>⟧ board.new)
         (outside (F.requests folder.old) (O.bytes out.old) (O.pieces out.old))
@@ -58,7 +58,16 @@ fn play_board<F: Folder, O: Sink>(
     ensures keeps { KeepsFiles ⟦<F as Folder>⟧ ⟦<O as Sink>⟧ folder.old out.old folder.new out.new }
 {
     let (form, modules, limit) = (command.form, command.session.modules, command.session.limit);
-    match trace_board(alloc, form, board, folder, modules, out, limit) {
+    match trace_board(
+        alloc,
+        form,
+        &command.choice,
+        board,
+        folder,
+        modules,
+        out,
+        limit,
+    ) {
         Ok(tracing) => Outcome {
             status: Status::from(tracing.end),
             areas: tracing.areas,

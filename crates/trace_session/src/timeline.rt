@@ -22,13 +22,17 @@ impl Teller for Observer {
 
     type Error = NoMemory;
 
+    type Scope = ();
+
+    ghost scope = { λ o. tt };
+
     ghost reads = { λ before s. before ≡ before_step s };
 
     ghost tells = { λ o first now. SeesSteps o.spans };
 
-    ghost lost = { λ first now said s k. ⊥ };
+    ghost lost = { λ scope first now said s k. ⊥ };
 
-    ghost part = { λ first now said s k. Unit {0} };
+    ghost part = { λ scope first now said s k. Unit {0} };
 
     ghost ready = { λ o s. Unit {0} };
 

@@ -1,7 +1,7 @@
 //! The lines that a trace makes of steps.
 
-ghost use Rattle.std.specs.Prelude.{◌≡◌, ◌≤◌, ◌<◌, ◌+◌, ◌++◌, ◌^◌, ℕ, List, [], None, OnOk, IfOk, map};
-ghost use Rattle.std.specs.List.{sum_by};
+ghost use Rattle.std.specs.Prelude.{◌≡◌, ◌≤◌, ◌<◌, ◌+◌, ◌++◌, ◌^◌, ℕ, List, [], None, OnOk, IfOk, length, map};
+ghost use Rattle.std.specs.List.{filter, sum_by};
 ghost use Rattle.wind_machine.specs.LiveLoadingSaid.{FileSaid};
 ghost use Rattle.wind_machine.specs.State.{State};
 ghost use Rattle.wind_machine.specs.Good.{Good};
@@ -9,15 +9,17 @@ ghost use Rattle.wind_machine.specs.Replies.{step_reply};
 ghost use Rattle.wind_session.specs.BoardPlayerBursts.{MovesOnly};
 ghost use Rattle.wind_session.specs.BoardPlayerSeen.{last_reply, seen};
 ghost use Rattle.board_trace.specs.Before.{before_step as before_step_lem};
-ghost use Rattle.board_trace.specs.Runs.{Line, step_lines, with_line, with_lines};
+ghost use Rattle.board_trace.specs.Runs.{Line, with_lines};
 ghost use Rattle.board_trace.specs.Snapshots.{snapshot_of};
 ghost use Rattle.board_trace.specs.Subjects.{name_of, subject_actor};
 ghost use Rattle.board_trace.specs.Views.{snapshot_state};
 ghost use Rattle.trace_text.specs.Lines.{lines_text};
 ghost use Rattle.trace_text.specs.Pages.{Ends, count_in, count_of};
+ghost use Rattle.trace_session.specs.Choice.{choice_state, chosen, chosen_in, is_chosen, with_if};
 ghost use Rattle.trace_session.specs.Steps.{line_of};
 ghost use Rattle.trace_session.specs.Traced.{how_text, last_line_of};
 
+use crate::choice::Choice;
 use crate::reader::StepReader;
 use board_trace::{BeforeStep, Happening, Snapshot, actor_name, subject_name};
 use kernel_world::Actor;
@@ -29,16 +31,44 @@ use wind_session::{Board, RunEnd};
 
 /// What a trace keeps between steps.
 #[derive(Drop)]
-pub(crate) struct Tracer {
+pub(crate) struct Tracer<'a> {
+    /// What of the run is told.
+    pub(crate) choice: &'a Choice,
     /// The lines that were not put yet.
     pub(crate) page: Page,
     /// What reads the next step.
     pub(crate) reader: StepReader,
 }
 
-// Adds the lines of what happened in a step.
+// Adds the line of a happening, if it is chosen.
+fn add_chosen(
+    page: &mut Page,
+    choice: &Choice,
+    before_step: &BeforeStep,
+    name: &[u8],
+    happening: &Happening,
+) -> Result<(), NoMemory>
+    requires fits { count_in page.old.growing + count_of happening.now < 2 ^ 64 }
+    requires short { length name.now ≤ 31 }
+    ensures lines { OnOk result ((given : List ℕ) (made : List Line) → Ends given page.old made → Ends given page.new
+        (with_if (chosen (choice_state choice.now) before_step.now.step happening.now) (record {
+          time = before_step.now.time;
+          step = before_step.now.step;
+          name = name.now;
+          what = happening.now;
+        }) made)) }
+    ensures waits { OnOk result (count_in page.new.growing ≤ count_in page.old.growing + count_of happening.now) }
+{
+    if !choice.has(before_step.step, happening) {
+        return Ok(());
+    }
+    page.add(before_step.time, before_step.step, name, happening)
+}
+
+// Adds the lines of what happened in a step that are chosen.
 fn add_lines(
     page: &mut Page,
+    choice: &Choice,
     list: &[Happening],
     before_step: &BeforeStep,
     before: &Snapshot,
@@ -46,13 +76,13 @@ fn add_lines(
 ) -> Result<(), NoMemory>
     requires { count_in page.old.growing + sum_by count_of list.now < 2 ^ 64 }
     ensures lines { OnOk result ((given : List ℕ) (made : List Line) → Ends given page.old made → Ends given page.new
-        (with_lines
-        (map (line_of before_step.now (snapshot_state before.now) (snapshot_state after.now)) list.now) made)) }
+        (with_lines (filter (is_chosen (choice_state choice.now))
+        (map (line_of before_step.now (snapshot_state before.now) (snapshot_state after.now)) list.now)) made)) }
     ensures waits { OnOk result (count_in page.new.growing ≤ count_in page.old.growing + sum_by count_of list.now) }
 {
     for happening in list {
         let name = subject_name(before, after, happening);
-        page.add(before_step.time, before_step.step, name, happening)?;
+        add_chosen(page, choice, before_step, name, happening)?;
     }
     Ok(())
 }
@@ -70,16 +100,25 @@ fn how(end: RunEnd) -> &'static [u8]
     }
 }
 
-impl Tracer {
+impl<'a> Tracer<'a> {
     /// A trace of a board before its first step.
-    pub(crate) fn new(alloc: Global, board: &Board) -> Result<Tracer, NoMemory>
+    pub(crate) fn new(
+        alloc: Global,
+        choice: &'a Choice,
+        board: &Board,
+    ) -> Result<Tracer<'a>, NoMemory>
+        ensures choice { IfOk result (λ t. t.choice ≡ choice.entry) }
         ensures page { IfOk result (λ t. t.page ≡ record { text = []; growing = None }) }
         ensures before { IfOk result (λ t. snapshot_state t.reader.before
             ≡ snapshot_of (seen ⟦<dyn Device as Device>⟧ board.now).world) }
     {
         let page = Page::new(alloc)?;
         let reader = StepReader::new(alloc, board)?;
-        Ok(Tracer { page, reader })
+        Ok(Tracer {
+            choice,
+            page,
+            reader,
+        })
     }
 
     /// Instructions of a task or routine were made at once: the first in the step with this number,
@@ -94,20 +133,23 @@ impl Tracer {
     ) -> Result<(), NoMemory>
         requires { count_in self.old.page.growing + count < 2 ^ 64 }
         ensures lines { OnOk result ((given : List ℕ) (made : List Line) → Ends given self.old.page made
-            → Ends given self.new.page (with_line (record {
+            → Ends given self.new.page (with_if (chosen (choice_state self.old.choice.now) step (Happening.Instructions who.now 1)) (record {
               time = time;
               step = step;
               name = name_of (snapshot_state self.old.reader.before) (subject_actor who.now);
               what = Happening.Instructions who.now count;
             }) made)) }
+        ensures choice { OnOk result (self.new.choice ≡ self.old.choice) }
         ensures waits { OnOk result (count_in self.new.page.growing ≤ count_in self.old.page.growing + count) }
         ensures before { OnOk result ((s : State) → Good s
             → MovesOnly who.now s.world (seen ⟦<dyn Device as Device>⟧ board.now).world
             → snapshot_state self.old.reader.before ≡ snapshot_of s.world
             → snapshot_state self.new.reader.before ≡ snapshot_of (seen ⟦<dyn Device as Device>⟧ board.now).world) }
     {
-        let name = actor_name(&self.reader.before, *who);
-        self.page.add_instructions(*who, count, time, step, name)?;
+        if self.choice.has_instructions(step, *who) {
+            let name = actor_name(&self.reader.before, *who);
+            self.page.add_instructions(*who, count, time, step, name)?;
+        }
         self.reader.skip(board, who);
         Ok(())
     }
@@ -123,7 +165,8 @@ impl Tracer {
             → before_step.now ≡ before_step_lem s → snapshot_state self.old.reader.before ≡ snapshot_of s.world
             → last_reply board.now ≡ step_reply said s
             → Ends given self.old.page made → Ends given self.new.page
-            (with_lines (step_lines said s (seen ⟦<dyn Device as Device>⟧ board.now)) made)) }
+            (with_lines (chosen_in (choice_state self.old.choice.now) said s (seen ⟦<dyn Device as Device>⟧ board.now)) made)) }
+        ensures choice { OnOk result (self.new.choice ≡ self.old.choice) }
         ensures waits { OnOk result (count_in self.new.page.growing ≤ count_in self.old.page.growing + 1) }
         ensures before { OnOk result (snapshot_state self.new.reader.before
             ≡ snapshot_of (seen ⟦<dyn Device as Device>⟧ board.now).world) }
@@ -132,6 +175,7 @@ impl Tracer {
         reader.read(board, before_step)?;
         add_lines(
             &mut self.page,
+            self.choice,
             &reader.list,
             before_step,
             &reader.before,

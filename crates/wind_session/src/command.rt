@@ -96,8 +96,8 @@ const BOARDS: u64 = 2;
 
 const BAD_BOARD: &str = "'--board <N>' takes 1 or 2";
 
-// The value of decimal digits, at most `most`.
-fn number(text: &str, most: u64) -> Option<u64>
+/// The value of 1 to 13 decimal digits, at most `most`.
+pub fn number(text: &str, most: u64) -> Option<u64>
     ensures value { result ≡ number_value most text.now }
     ensures within { IfSome result (λ n. n ≤ most) }
 {

@@ -29,13 +29,17 @@ impl Teller for ByteCount {
 
     type Error = Infallible;
 
+    type Scope = ();
+
+    ghost scope = { λ teller. tt };
+
     ghost reads = { λ before s. Unit {0} };
 
     ghost tells = { λ teller. CountsBytes teller.bytes };
 
-    ghost lost = { λ first now said s k. ⊥ };
+    ghost lost = { λ scope first now said s k. ⊥ };
 
-    ghost part = { λ first now said s k. Unit {0} };
+    ghost part = { λ scope first now said s k. Unit {0} };
 
     ghost ready = { λ teller s. teller.bytes ≤ s.steps * 2 ^ 64 };
 

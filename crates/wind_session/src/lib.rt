@@ -19,7 +19,7 @@ mod telling;
 pub use board_player::{Board, instant_law};
 pub use command::{
     BoardOptions, Command, CommandErr, PROGRAM, Source, board_options_of, command_line, command_of,
-    command_of_matches, matches_of, number_of, option, valid, value_of, with_board_options,
+    command_of_matches, matches_of, number, number_of, option, valid, value_of, with_board_options,
     with_session_options,
 };
 pub use count::{Tally, count_board};

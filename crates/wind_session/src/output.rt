@@ -36,13 +36,17 @@ impl Teller for Output {
 
     type Error = Infallible;
 
+    type Scope = ();
+
+    ghost scope = { λ teller. tt };
+
     ghost reads = { λ before s. Unit {0} };
 
     ghost tells = { λ teller. IsPut };
 
-    ghost lost = { IsCutOff };
+    ghost lost = { λ scope. IsCutOff };
 
-    ghost part = { λ first now said s k. Unit {0} };
+    ghost part = { λ scope first now said s k. Unit {0} };
 
     ghost ready = { λ teller s. Unit {0} };
 

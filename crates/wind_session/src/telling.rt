@@ -28,6 +28,12 @@ pub trait Teller {
     /// Why it gives up.
     type Error: Drop;
 
+    /// What of a run it tells.
+    type Scope;
+
+    /// The scope that it has; this stays the same.
+    ghost scope: { Self → Self.Scope };
+
     /// This was read of this state.
     ghost reads: { Self.Before → State → Type 0 };
 
@@ -35,10 +41,10 @@ pub trait Teller {
     ghost tells: { Self → SinkLog → SinkLog → Answers → State → ℕ → Type 0 };
 
     /// They were told, but the last put failed.
-    ghost lost: { SinkLog → SinkLog → Answers → State → ℕ → Type 0 };
+    ghost lost: { Self.Scope → SinkLog → SinkLog → Answers → State → ℕ → Type 0 };
 
     /// What is left of it in the sink if the run is given up.
-    ghost part: { SinkLog → SinkLog → Answers → State → ℕ → Type 0 };
+    ghost part: { Self.Scope → SinkLog → SinkLog → Answers → State → ℕ → Type 0 };
 
     /// The step that follows this state can be told.
     ghost ready: { Self → State → Type 0 };
@@ -46,7 +52,7 @@ pub trait Teller {
     /// What was told leaves its part, whatever the folder answers later.
     fn part_law(&self)
         ensures { (first now : SinkLog) (said next : Answers) (s : State) (i : ℕ)
-            → ((j : ℕ) → j < i → said j ≡ next j) → tells self.now first now said s i → part first now next s i };
+            → ((j : ℕ) → j < i → said j ≡ next j) → tells self.now first now said s i → part (scope self.now) first now next s i };
 
     /// Makes instructions at once, at most `most`, and tells of them. Returns how many it made, which
     /// may be 0.
@@ -61,6 +67,7 @@ pub trait Teller {
         ensures tells { IfOk result (λ k. (first now : SinkLog) (said : Answers) (s : State) (i : ℕ)
             → seen ⟦<dyn Device as Device>⟧ board.old ≡ after said s i
             → tells self.old first now said s i → tells self.new first now said s (i + k)) }
+        ensures scope { OnOk result (scope self.new ≡ scope self.old) }
         ensures ready { OnOk result (ready self.new (seen ⟦<dyn Device as Device>⟧ board.new)) };
 
     /// Reads what it needs of a board before the next step.
@@ -88,8 +95,9 @@ pub trait Teller {
             → reads before.now u → ready self.old u
             → GoesOn said next s u (seen ⟦<dyn Device as Device>⟧ board.now) (last_reply board.now) i
             → tells self.old first (sink_log ⟦<O as Sink>⟧ out.old) said s i
-            → lost first (sink_log ⟦<O as Sink>⟧ out.new) next s (i + 1)) }
+            → lost (scope self.old) first (sink_log ⟦<O as Sink>⟧ out.new) next s (i + 1)) }
         ensures given_up { OnErr result (sink_log ⟦<O as Sink>⟧ out.new ≡ sink_log ⟦<O as Sink>⟧ out.old) }
+        ensures scope { OnOk result (scope self.new ≡ scope self.old) }
         ensures ready { OnOk result (ready self.new (seen ⟦<dyn Device as Device>⟧ board.now)) }
         ensures fault { IfOk result (λ put. put ≡ puts.Failed → Rose (O.faults out.old) (O.faults out.new)) }
         ensures faults { O.faults out.old ≤ O.faults out.new };
@@ -118,16 +126,17 @@ pub fn tell_steps<F: Folder, O: Sink, T: Teller>(
         (seen ⟦<dyn Device as Device>⟧ board.old) first
         (outside (F.requests folder.old) (O.bytes out.old) (O.pieces out.old))
         → Told (IsTold (T.tells teller.new (sink_of first) (sink_log ⟦<O as Sink>⟧ out.new))
-        (T.lost (sink_of first) (sink_log ⟦<O as Sink>⟧ out.new)) end start)
+        (T.lost (T.scope teller.old) (sink_of first) (sink_log ⟦<O as Sink>⟧ out.new)) end start)
         (record { files = F.files folder.old; name = modules.now }) start n
         (seen ⟦<dyn Device as Device>⟧ board.new) first.requests (F.requests folder.new)) }
     ensures given_up { OnErr result ((said : Answers) (start : State) (n i : ℕ) (first : Outside) → i + most ≡ n
         → Underway (T.tells teller.old) (record { files = F.files folder.old; name = modules.now }) said start n i
         (seen ⟦<dyn Device as Device>⟧ board.old) first
         (outside (F.requests folder.old) (O.bytes out.old) (O.pieces out.old))
-        → Told (IsToldInPart (T.part (sink_of first) (sink_log ⟦<O as Sink>⟧ out.new)) start)
+        → Told (IsToldInPart (T.part (T.scope teller.old) (sink_of first) (sink_log ⟦<O as Sink>⟧ out.new)) start)
         (record { files = F.files folder.old; name = modules.now }) start n
         (seen ⟦<dyn Device as Device>⟧ board.new) first.requests (F.requests folder.new)) }
+    ensures scope { OnOk result (T.scope teller.new ≡ T.scope teller.old) }
     ensures ready { OnOk result (T.ready teller.new (seen ⟦<dyn Device as Device>⟧ board.new)) }
     ensures quiet { IfOk result (λ end. end ≡ ends.Quiet → IsOver (seen ⟦<dyn Device as Device>⟧ board.new)) }
     ensures steps { (seen ⟦<dyn Device as Device>⟧ board.new).steps
@@ -184,15 +193,16 @@ pub fn tell_run<F: Folder, O: Sink, T: Teller>(
     requires ready { T.ready teller.old (seen ⟦<dyn Device as Device>⟧ board.old) }
     ensures told { IfOk result (λ end. Told
         (IsTold (T.tells teller.new (sink_log ⟦<O as Sink>⟧ out.old) (sink_log ⟦<O as Sink>⟧ out.new))
-        (T.lost (sink_log ⟦<O as Sink>⟧ out.old) (sink_log ⟦<O as Sink>⟧ out.new))
+        (T.lost (T.scope teller.old) (sink_log ⟦<O as Sink>⟧ out.old) (sink_log ⟦<O as Sink>⟧ out.new))
         end (seen ⟦<dyn Device as Device>⟧ board.old))
         (record { files = F.files folder.old; name = modules.now }) (seen ⟦<dyn Device as Device>⟧ board.old) limit
         (seen ⟦<dyn Device as Device>⟧ board.new) (F.requests folder.old) (F.requests folder.new)) }
     ensures given_up { OnErr result (Told
-        (IsToldInPart (T.part (sink_log ⟦<O as Sink>⟧ out.old) (sink_log ⟦<O as Sink>⟧ out.new))
+        (IsToldInPart (T.part (T.scope teller.old) (sink_log ⟦<O as Sink>⟧ out.old) (sink_log ⟦<O as Sink>⟧ out.new))
         (seen ⟦<dyn Device as Device>⟧ board.old))
         (record { files = F.files folder.old; name = modules.now }) (seen ⟦<dyn Device as Device>⟧ board.old) limit
         (seen ⟦<dyn Device as Device>⟧ board.new) (F.requests folder.old) (F.requests folder.new)) }
+    ensures scope { OnOk result (T.scope teller.new ≡ T.scope teller.old) }
     ensures ready { OnOk result (T.ready teller.new (seen ⟦<dyn Device as Device>⟧ board.new)) }
     ensures read_fault { IfOk result (λ end. end ≡ ends.ReadFault → Rose (F.faults folder.old) (F.faults folder.new)) }
     ensures fault { IfOk result (λ end. end ≡ ends.WriteFault → Rose (O.faults out.old) (O.faults out.new)) }

@@ -8,6 +8,7 @@ use Rattle.wind_session.specs.Words.{command_state}
 use Rattle.wind_session.proofs.ProgramLemmas.{unbooted}
 use Rattle.wind_session.proofs.PlanLemmas.{complete_refused}
 use Rattle.wind_session.proofs.AppendingLemmas.{rose_earlier}
+use Rattle.trace_session.specs.Choice.{choice_state}
 use Rattle.trace_session.proofs.LeftLemmas.{complete_left, known_left, left_after}
 use Rattle.trace_session.proofs.playing.session.Goals as goal
 
@@ -25,7 +26,7 @@ returns-clause-machine g c =
         planned = refl;
         left =
             left_after (source_requests session.source (command_state session)) outside_now (g.F.Folder.requests c.inputs_of.new.folder) c.in-Ok.ensures.found
-            c.args.command.now.form c.play_board-outcome.result.areas c.play_board-outcome.result.status _ _ session.modules.now _ _ _ _
+            c.args.command.now.form (choice_state c.args.command.now.choice) c.play_board-outcome.result.areas c.play_board-outcome.result.status _ _ session.modules.now _ _ _ _
             (outside (g.F.Folder.requests c.play_board-outcome.new.folder) (g.O.Sink.bytes c.play_board-outcome.new.out) (g.O.Sink.pieces c.play_board-outcome.new.out))
             c.inputs_of.ensures.keeps.0 c.in-Ok-boot.ensures.ok c.play_board-outcome.ensures.left;
       };
@@ -47,7 +48,7 @@ returns-in-Err-clause-complete g c =
 
 pub returns-clause-complete : goal.returns-clause-complete
 returns-clause-complete g c =
-    complete_left _ _ c.play_board-outcome.result.status _ _ _ _
+    complete_left _ _ _ c.play_board-outcome.result.status _ _ _ _
     (outside (g.F.Folder.requests c.inputs_of.new.folder) (g.O.Sink.bytes c.args.out.now) (g.O.Sink.pieces c.args.out.now))
     (outside (g.F.Folder.requests c.play_board-outcome.new.folder) (g.O.Sink.bytes c.play_board-outcome.new.out) (g.O.Sink.pieces c.play_board-outcome.new.out))
     (command_state c.args.command.now.session)
@@ -58,7 +59,7 @@ returns-clause-complete g c =
 -- the arguments were a command
 pub returns-clause-known : goal.returns-clause-known
 returns-clause-known g c =
-    known_left _ _ c.play_board-outcome.result.status _ _ _ _
+    known_left _ _ _ c.play_board-outcome.result.status _ _ _ _
     (outside (g.F.Folder.requests c.inputs_of.new.folder) (g.O.Sink.bytes c.args.out.now) (g.O.Sink.pieces c.args.out.now))
     (outside (g.F.Folder.requests c.play_board-outcome.new.folder) (g.O.Sink.bytes c.play_board-outcome.new.out) (g.O.Sink.pieces c.play_board-outcome.new.out))
     c.play_board-outcome.ensures.left

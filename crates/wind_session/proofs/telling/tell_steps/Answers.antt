@@ -1,4 +1,4 @@
-use Rattle.std.proofs.Common.{◌+◌, ◌≤◌, subst, sym, ap, arith, refl}
+use Rattle.std.proofs.Common.{◌+◌, ◌≤◌, ◌∙◌, subst, sym, ap, arith, refl}
 use Rattle.std.proofs.lemmas.Result.{err_from_is_err_and}
 use Rattle.generated_session.specs.Puts.{SinkLog, sink_log}
 use Rattle.board_player.specs.WindMachineState.{State}
@@ -18,6 +18,7 @@ use Rattle.wind_session.proofs.telling.tell_steps.Goals as goal
 pub loop-made-init : goal.loop-made-init
 loop-made-init g c = record {
   run = λ said start n i first there on. (said, at_count _ _ said start n i _ first _ on (i + 0) (omega arith));
+  scope = refl;
   ready = c.requires.ready;
   counted = omega arith;
   within = omega arith;
@@ -40,6 +41,7 @@ loop-made-preserved g c =
                 (g.T.Teller.tells c.tell.new.self) _ (i + (c.loop-made.made + c.in_ok-count.count + 1)) (omega arith)
                 (λ on told. c.in_ok-put.ensures.tells c.in-Done.is _ _ _ _ _ _ c.in_ok-before.ensures c.in_ok-count.ensures.ready on told),
           );
+      scope = c.in_ok-put.ensures.scope ∙ c.in_ok-count.ensures.scope ∙ c.loop-made.invariant.scope;
       ready = c.in_ok-put.ensures.ready;
       counted = omega (arith, c.in-Ok.ensures.counted, burst_counted c.silent_law.ensures _ _ c.in_ok-count.count c.in_ok-count.ensures.made, c.loop-made.invariant.counted);
       within = omega (arith, few, c.if-made-most.false);
@@ -101,7 +103,10 @@ returns-in-Failed-clause-told g c = λ said start n i first there on.
     let head = c.loop-made.invariant.run said start n i first there on in
     let burst = burst_on _ shelf head.0 start n (i + c.loop-made.made) _ first _ head.1 (g.T.Teller.tells c.burst.new.self) c.silent_law.ensures c.in_ok-count.count (i + (c.loop-made.made + c.in_ok-count.count)) (omega arith) (omega (arith, there, few)) _ c.in_ok-count.ensures.made (λ here told. c.in_ok-count.ensures.tells _ _ _ _ _ here told) in
     lost_on _ shelf head.0 start n _ _ first _ burst _ c.loop-made.invariant.keeps.0.0 _ _ (made.0, made.1, made.2, made.3) _ made.4 (omega (arith, there, few, c.if-made-most.false)) c.in-Ok.ensures.counted
-    _ _ (λ on told. c.in_ok-put.ensures.lost c.in-Failed.is _ _ _ _ _ _ c.in_ok-before.ensures c.in_ok-count.ensures.ready on told)
+    _ (g.T.Teller.lost (g.T.Teller.scope c.args.teller.now) (sink_of first) (sink_log g.O.Sink c.tell.new.out))
+    (λ on told. subst (λ scope. g.T.Teller.lost scope (sink_of first) (sink_log g.O.Sink c.tell.new.out) (saying head.0 (i + (c.loop-made.made + c.in_ok-count.count)) made.0) start (i + (c.loop-made.made + c.in_ok-count.count) + 1))
+    (c.in_ok-count.ensures.scope ∙ c.loop-made.invariant.scope)
+    (c.in_ok-put.ensures.lost c.in-Failed.is _ _ _ _ _ _ c.in_ok-before.ensures c.in_ok-count.ensures.ready on told))
 
 pub returns-in-Failed-clause-steps : goal.returns-in-Failed-clause-steps
 returns-in-Failed-clause-steps g c = omega (arith, c.in-Ok.ensures.counted, burst_counted c.silent_law.ensures _ _ c.in_ok-count.count c.in_ok-count.ensures.made, c.loop-made.invariant.counted, c.in_ok-count.ensures.within, c.if-made-most.false)
@@ -132,7 +137,7 @@ returns-in_err-count-clause-given_up g c =
     let p = err_from_is_err_and c.from_residual.result c.from_residual.ensures.1 in
     rw p.1 (λ said start n i first there on.
     let head = c.loop-made.invariant.run said start n i first there on in
-    given_up (g.T.Teller.part (sink_of first) (sink_log g.O.Sink c.loop-made.out)) shelf head.0 start _ n (i + c.loop-made.made) (i + c.loop-made.made + made.0) _ _ (c.part_law.ensures _ _ _ _ _ _ (λ j below. refl) head.1.told) (omega arith)
+    given_up (g.T.Teller.part (g.T.Teller.scope c.args.teller.now) (sink_of first) (sink_log g.O.Sink c.loop-made.out)) shelf head.0 start _ n (i + c.loop-made.made) (i + c.loop-made.made + made.0) _ _ (subst (λ scope. g.T.Teller.part scope (sink_of first) (sink_log g.O.Sink c.loop-made.out) head.0 start (i + c.loop-made.made)) c.loop-made.invariant.scope (c.part_law.ensures _ _ _ _ _ _ (λ j below. refl) head.1.told)) (omega arith)
     (runs_on c.silent_law.ensures shelf _ start n _ _ _ _ head.1.run made.0 (omega (arith, there, made.1)) _ made.2))
 
 pub returns-in_err-count-clause-steps : goal.returns-in_err-count-clause-steps
@@ -150,7 +155,7 @@ returns-in_err-before-clause-given_up g c =
     rw p.1 (λ said start n i first there on.
     let head = c.loop-made.invariant.run said start n i first there on in
     let burst = burst_on _ shelf head.0 start n (i + c.loop-made.made) _ first _ head.1 (g.T.Teller.tells c.burst.new.self) c.silent_law.ensures c.in_ok-count.count (i + (c.loop-made.made + c.in_ok-count.count)) (omega arith) (omega (arith, there, few)) _ c.in_ok-count.ensures.made (λ here told. c.in_ok-count.ensures.tells _ _ _ _ _ here told) in
-    given_up (g.T.Teller.part (sink_of first) (sink_log g.O.Sink c.loop-made.out)) shelf head.0 start _ n (i + c.loop-made.made) _ _ _ (c.part_law.ensures _ _ _ _ _ _ (λ j below. refl) head.1.told) (omega arith) burst.run)
+    given_up (g.T.Teller.part (g.T.Teller.scope c.args.teller.now) (sink_of first) (sink_log g.O.Sink c.loop-made.out)) shelf head.0 start _ n (i + c.loop-made.made) _ _ _ (subst (λ scope. g.T.Teller.part scope (sink_of first) (sink_log g.O.Sink c.loop-made.out) head.0 start (i + c.loop-made.made)) c.loop-made.invariant.scope (c.part_law.ensures _ _ _ _ _ _ (λ j below. refl) head.1.told)) (omega arith) burst.run)
 
 pub returns-in_err-before-clause-steps : goal.returns-in_err-before-clause-steps
 returns-in_err-before-clause-steps g c = omega (arith, burst_counted c.silent_law.ensures _ _ c.in_ok-count.count c.in_ok-count.ensures.made, c.loop-made.invariant.counted, c.in_ok-count.ensures.within)
@@ -169,9 +174,10 @@ returns-in_err-put-clause-given_up g c =
     let head = c.loop-made.invariant.run said start n i first there on in
     let burst = burst_on _ shelf head.0 start n (i + c.loop-made.made) _ first _ head.1 (g.T.Teller.tells c.burst.new.self) c.silent_law.ensures c.in_ok-count.count (i + (c.loop-made.made + c.in_ok-count.count)) (omega arith) (omega (arith, there, few)) _ c.in_ok-count.ensures.made (λ here told. c.in_ok-count.ensures.tells _ _ _ _ _ here told) in
     untold_on _ shelf head.0 start n _ _ first _ burst _ c.loop-made.invariant.keeps.0.0 _ _ (made.0, made.1, made.2, made.3) _ made.4 (omega (arith, there, few, c.if-made-most.false)) c.in-Ok.ensures.counted
-    (g.T.Teller.part (sink_of first) (sink_log g.O.Sink c.tell.new.out)) (i + c.loop-made.made) (omega arith)
-    (λ same. subst (λ (now : SinkLog). g.T.Teller.part (sink_of first) now (saying head.0 (i + (c.loop-made.made + c.in_ok-count.count)) made.0) start (i + c.loop-made.made)) (sym c.in_err-put.ensures.given_up)
-    (c.part_law.ensures _ _ head.0 _ start (i + c.loop-made.made) same head.1.told)))
+    (g.T.Teller.part (g.T.Teller.scope c.args.teller.now) (sink_of first) (sink_log g.O.Sink c.tell.new.out)) (i + c.loop-made.made) (omega arith)
+    (λ same. subst (λ (now : SinkLog). g.T.Teller.part (g.T.Teller.scope c.args.teller.now) (sink_of first) now (saying head.0 (i + (c.loop-made.made + c.in_ok-count.count)) made.0) start (i + c.loop-made.made)) (sym c.in_err-put.ensures.given_up)
+    (subst (λ scope. g.T.Teller.part scope (sink_of first) (sink_log g.O.Sink c.loop-made.out) (saying head.0 (i + (c.loop-made.made + c.in_ok-count.count)) made.0) start (i + c.loop-made.made)) c.loop-made.invariant.scope
+    (c.part_law.ensures _ _ head.0 _ start (i + c.loop-made.made) same head.1.told))))
 
 pub returns-in_err-put-clause-steps : goal.returns-in_err-put-clause-steps
 returns-in_err-put-clause-steps g c = omega (arith, c.in-Ok.ensures.counted, burst_counted c.silent_law.ensures _ _ c.in_ok-count.count c.in_ok-count.ensures.made, c.loop-made.invariant.counted, c.in_ok-count.ensures.within, c.if-made-most.false)

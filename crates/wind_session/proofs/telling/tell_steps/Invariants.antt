@@ -18,6 +18,7 @@ invariant-loop-made g l =
     let now : Outside = outside (g.F.Folder.requests l.folder) (g.O.Sink.bytes l.out) (g.O.Sink.pieces l.out) in
     record {
       run : (said : Answers) (start : State) (n i : ℕ) (first : Outside) → i + l.most ≡ n → Underway (g.T.Teller.tells l.fn.teller) shelf said start n i (state l.fn.board) first before → (next : Answers) × Underway (g.T.Teller.tells l.teller) shelf next start n (i + l.made) (state l.board) first now;
+      scope : g.T.Teller.scope l.teller ≡ g.T.Teller.scope l.fn.teller;
       ready : g.T.Teller.ready l.teller (state l.board);
       counted : (state l.board).steps ≡ (state l.fn.board).steps + l.made;
       within : l.made ≤ l.most;

@@ -1,5 +1,5 @@
 use Rattle.std.proofs.Common.{◌≡◌, ◌≤◌, Option, List, ap, sym, subst, ◌∙◌, arith}
-use Rattle.std.specs.List.{sum_by}
+use Rattle.std.specs.List.{filter, sum_by}
 use Rattle.kernel_world.specs.declared.reply.Reply.{Reply}
 use Rattle.wind_machine.specs.State.{State}
 use Rattle.wind_session.specs.BoardPlayerSeen.{board_by}
@@ -9,6 +9,7 @@ use Rattle.board_trace.specs.Views.{SnapshotState, snapshot_state}
 use Rattle.board_trace.specs.declared.moment.BeforeStep.{BeforeStep}
 use Rattle.board_trace.specs.declared.happening.Happening.{Happening}
 use Rattle.trace_text.specs.Pages.{Ends, count_of}
+use Rattle.trace_session.specs.Choice.{choice_state, is_chosen}
 use Rattle.trace_session.specs.Steps.{happenings_read}
 use Rattle.trace_session.proofs.Counts.{at_most_one}
 use Rattle.trace_session.proofs.Lines.{lines_read}
@@ -31,7 +32,7 @@ pub returns-clause-lines : goal.returns-clause-lines
 returns-clause-lines g c =
     let state = board_by (λ d. (goal.Device-dyn g (d.vtable, d.value)).kind_of d.value) (λ d. (goal.Device-dyn g (d.vtable, d.value)).words_of d.value) in
     λ said s given made is from replied ends.
-    let P : List Line → Type 0 = λ ls. Ends given c.add_lines.new.page (with_lines ls made) in
+    let P : List Line → Type 0 = λ ls. Ends given c.add_lines.new.page (with_lines (filter (is_chosen (choice_state c.args.self.now.choice.now)) ls) made) in
     subst P
     (lines_read said s (state c.args.board.now) _ _ _ _ _ _ (c.deref.ensures.value ∙ c.in_ok-read.ensures.list) is (ap snapshot_state c.in_ok-read.ensures.before) from c.in_ok-read.ensures.after replied)
     (c.in_ok-add_lines.ensures.lines given made ends)
