@@ -3,10 +3,10 @@
 Each random session has semaphores, mutexes, queues and a watchdog, tasks that make calls in a loop, and a shell that
 spawns, delays, suspends, deletes and takes among them. WINDTRACE writes its lines by `--as events` once, and its board
 by `--as state` at 20 limits. From the tasks and the owners of mutexes of one board, the lines up to the next limit give
-those of the next board. A line also has to fit: a wait ends only if it began, and a mutex is given only by its owner.
+those of the next board. A line also has to fit: a wait ends only if it began, and only its owner gives a mutex.
 
-It prints a line for each difference, how many lines of each kind it replayed, and a line that counts all. It ends with 1
-if there is a difference, or if 300 sessions or more lack a kind of line. Session K of SEED is session 0 of SEED + K.
+It prints a line for each difference, how many lines of each kind it replayed, and a line that counts all. It ends with
+1 if there is a difference, or if 300 sessions or more lack a kind of line. Session K of SEED is session 0 of SEED + K.
 """
 
 import argparse
@@ -24,6 +24,8 @@ LIMIT = 3_000
 STATES = 20
 PROGRAMS = (0x1000, 0x1100, 0x1200)
 BUFFER = 0x7000
+# No instruction has this word.
+ILLEGAL = 0
 # The gate at which a task ends.
 END = 0x0100_0000
 NAMES = ('"worker"', r'"a \"name\" \\ \n"', '"a name that is longer than its column"', "0")
@@ -132,6 +134,8 @@ class Session:
         for name, values in [*self.piece(), *self.piece(), ("taskDelay", (self.dice.randrange(1, 4),))]:
             code += [0x3800_0000 | 3 + at << 21 | value & 0xFFFF for at, value in enumerate(values)]
             code.append(0x4800_0003 | gate(name))
+        if self.dice.random() < 0.05:
+            code.append(ILLEGAL)
         ends = self.dice.random() < 0.2
         return [*code, 0x4800_0002 | END if ends else 0x4800_0000 | -4 * len(code) & 0x03FF_FFFC]
 
@@ -150,8 +154,10 @@ class Session:
         return f"taskSpawn {name}, {self.priority()}, 0, 512, 0x{self.dice.choice(PROGRAMS):x}"
 
     def shell_line(self):
-        """A line of the shell: a delay, a spawn, or a call, mostly with a timeout."""
+        """A line of the shell: an abort, an exception, a delay, a spawn, or a call, mostly with a timeout."""
         kind = self.dice.random()
+        if kind < 0.04:
+            return self.dice.choice(("abc\x03", "\x03", f"(0x{BUFFER:x})()"))
         if kind < 0.3:
             return line_of("taskDelay", (self.dice.randrange(1, 5),))
         if kind < 0.35:
@@ -178,9 +184,13 @@ def fits(holds, why):
 def awaited(text):
     """What a line says that a task waits for, as the state says it."""
     patterns = {
-        "semaphore": r"semaphore (\d+)", "mutex": r"mutex (\d+)", "message": r"a message of queue (\d+)", "room": r"room in queue (\d+)",
-        "deletion": r"the deletion of task (\d+)", "console": "the console",
-    }  # fmt: skip
+        "semaphore": r"semaphore (\d+)",
+        "mutex": r"mutex (\d+)",
+        "message": r"a message of queue (\d+)",
+        "room": r"room in queue (\d+)",
+        "deletion": r"the deletion of task (\d+)",
+        "console": r"the console",
+    }
     for kind, pattern in patterns.items():
         found = re.fullmatch(pattern, text)
         if found:
@@ -191,10 +201,8 @@ def awaited(text):
 def lives(state):
     """The life of each task of a board."""
     keys = ("wake", "suspended", "pri", "normal")
-    return {
-        it["id"]: {key: it[key] for key in keys} | {"wait": it["wait"] and (it["wait"]["for"], it["wait"]["id"])}
-        for it in state["tasks"]
-    }
+    wait = lambda it: it["wait"] and (it["wait"]["for"], it["wait"]["id"])
+    return {it["id"]: {key: it[key] for key in keys} | {"wait": wait(it)} for it in state["tasks"]}
 
 
 def owners(state):
@@ -341,9 +349,8 @@ def between(first, changes, last):
     yield from compared("the owner of mutex", replay.owners, owners(last))
 
 
-def differences(windtrace, seed):
-    """The differences of a session, how often it has each kind of line, and how many boards it compares."""
-    session = Session(seed)
+def traced(windtrace, session):
+    """The changes of a session by its lines, the limits, and the board at each."""
     with tempfile.TemporaryDirectory() as name:
         folder = pathlib.Path(name)
         (folder / "console.txt").write_text(session.console)
@@ -352,8 +359,15 @@ def differences(windtrace, seed):
         changes = list(changes_in(lines))
         steps = int(LINE.fullmatch(lines[-1])[2])
         at = limits(session.dice, steps, sorted({step for step, *_ in changes}))
-        boards = [json.loads(play(windtrace, folder, session.profile, "--as", "state", "--limit", str(it))) for it in at]
-    found = [f"the board at limit {limit} is after step {board['steps']}" for limit, board in zip(at, boards) if board["steps"] != limit]
+        boards = [play(windtrace, folder, session.profile, "--as", "state", "--limit", str(limit)) for limit in at]
+        return changes, at, [json.loads(board) for board in boards]
+
+
+def differences(windtrace, seed):
+    """The differences of a session, how often it has each kind of line, and how many boards it compares."""
+    changes, at, boards = traced(windtrace, Session(seed))
+    steps = [board["steps"] for board in boards]
+    found = [] if steps == at else [f"the boards at the limits {at} are after the steps {steps}"]
     for first, last in zip(boards, boards[1:]):
         some = [it for it in changes if first["steps"] < it[0] <= last["steps"]]
         found += [f"steps {first['steps']} to {last['steps']}: {text}" for text in between(first, some, last)]
