@@ -109,13 +109,24 @@ def refusals(cases):
         status, _, _ = live(cases.live, folder, b'2\n', '--force')
         cases.check('a record that is replaced', status == 0 and held(folder, 'console.txt') == b'2\n')
     with tempfile.TemporaryDirectory() as folder:
-        status, out, err = live(cases.live, folder, b'1\n.save\n2\n')
-        cases.check('no folder for the record', status == 9 and b'value = 2' in out and b'not written' in err)
+        status, out, _ = live(cases.live, folder, b'1\n.save\n2\n')
+        cases.check('a new folder for the record', status == 0 and b'value = 2' in out and held(folder, 'console.txt') == b'1\n2\n')
+    with tempfile.TemporaryDirectory() as folder:
+        with open(os.path.join(folder, 'r'), 'wb') as file:
+            file.write(b'a file')
+        status, out, err = live(cases.live, folder, b'1\n')
+        cases.check('a file where the folder would be', status == 9 and out == b'' and b'r: the record was not written' in err)
+    with tempfile.TemporaryDirectory() as folder:
+        os.mkdir(os.path.join(folder, 'r'))
+        with open(os.path.join(folder, 'r', 'command.txt.new'), 'wb') as file:
+            file.write(b'somebody else')
+        status, out, err = live(cases.live, folder, b'1\n')
+        cases.check('a file beside its place', status == 9 and out == b'' and held(folder, 'command.txt.new') == b'somebody else')
     with tempfile.TemporaryDirectory() as folder:
         os.mkdir(os.path.join(folder, 'r'))
         small = lambda: resource.setrlimit(resource.RLIMIT_FSIZE, (0, 0))
         status, out, err = live(cases.live, folder, b'1\n.save\n2\n', preexec_fn=small, restore_signals=False)
-        cases.check('a full disk', status == 9 and b'value = 2' in out and err.count(b'r: the record was not written') == 2)
+        cases.check('a full disk', status == 9 and out == b'' and err.count(b'r: the record was not written') == 1)
     with tempfile.TemporaryDirectory() as folder:
         os.mkdir(os.path.join(folder, 'r'))
         reader, writer = os.pipe()
@@ -132,6 +143,19 @@ def refusals(cases):
     cases.check('words of another program', done.returncode == 1 and done.stdout == b'')
 
 
+def filling(cases):
+    """A disk that fills at each byte: no file may be longer than a limit."""
+    typed = b''.join(b'%d+%d\n' % (n, n) for n in range(40)) + b'.ticks 3\n'
+    for limit in range(500):
+        with tempfile.TemporaryDirectory() as folder:
+            small = lambda: resource.setrlimit(resource.RLIMIT_FSIZE, (limit, limit))
+            status, out, err = live(cases.live, folder, typed, preexec_fn=small, restore_signals=False)
+            written = os.path.exists(os.path.join(folder, 'r', 'command.txt'))
+            again = replay(cases.play, folder)[1] if written else b''
+            told = b'r: the record was not written' in err
+            cases.check(f'files of at most {limit} bytes', again == out and told == (status == 9) and status in (0, 9))
+
+
 def main():
     """Plays all cases."""
     if len(sys.argv) != 3:
@@ -140,6 +164,7 @@ def main():
     cases = Cases(os.path.abspath(sys.argv[1]), os.path.abspath(sys.argv[2]))
     by_hand(cases)
     refusals(cases)
+    filling(cases)
     for seed in range(200):
         cases.session(f'random session {seed}', random_session(random.Random(seed)), '--quiet-after=2000')
     print(f'live sessions: {cases.count}, differing: {cases.differing}')

@@ -49,6 +49,17 @@ runs_none end modules l now going sound over = record {
 pub stays_same : (l : LiveState) → IsSound l → StaysLive l l
 stays_same l sound = record { sound = sound; live = λ shelf setup old now live. live }
 
+-- something was sent, and the board has not run since
+pub runs_sent : (modules : List ℕ) (l m : LiveState) (now : Around) → StaysLive l m → Runs ends.Limit modules l now m now
+runs_sent modules l m now stays = record {
+  sound = stays.sound;
+  goes = record { goes = λ setup old live. stays.live (record { files = now.files; name = modules }) setup old now.logged live };
+  quiet = λ e. cc;
+  read_fault = λ e. cc;
+  write_fault = λ e. cc;
+  keeps = keeps_same now;
+}
+
 -- the board runs, something is sent, and the board runs again, while the folder keeps its files
 module _ (end next : RunEnd) (modules : List ℕ) (k l m n : LiveState) (a b c : Around) (going : IsGoing end) (first : Runs end modules k a l b) (sent : StaysLive l m) (second : Runs next modules m b n c) where
   here : GoesOn next (record { files = a.files; name = modules }) m b.logged n c.logged

@@ -1,5 +1,5 @@
 -- The files that are none of a record's stay as they are.
-use Rattle.std.proofs.Common.{◌≡◌, ◌≢◌, ℕ, Bool, true, false, List, [], ◌∷◌, Option, None, Some, eqb, length, refl, ◌∙◌, subst}
+use Rattle.std.proofs.Common.{◌≡◌, ◌≢◌, ℕ, Bool, true, false, List, [], ◌∷◌, Option, None, Some, eqb, length, refl, ◌∙◌, subst, sym}
 use Rattle.wind_outside.specs.Files.{Files}
 use Rattle.live_session.specs.Saving.{KeepsOthers, WritesOnly}
 
@@ -20,6 +20,9 @@ false_of false h = refl
 -- ---- and nothing is written without a folder for the record
 pub writes_none : (folder : List ℕ) (files : Option Files) → WritesOnly folder files files
 writes_none folder files = record { nothing = λ e. refl; others = keeps_none folder files }
+
+pub writes_kept : (folder : List ℕ) (old new : Option Files) → new ≡ old → WritesOnly folder old new
+writes_kept folder old new same = subst (λ (files : Option Files). WritesOnly folder old files) (sym same) (writes_none folder old)
 
 pub writes_both : (folder : List ℕ) (a b c : Option Files) → WritesOnly folder a b → WritesOnly folder b c → WritesOnly folder a c
 writes_both folder a b c first second = record { nothing = λ e. second.nothing e ∙ first.nothing e; others = keeps_both folder a b c first.others second.others }

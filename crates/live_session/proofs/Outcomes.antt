@@ -1,9 +1,12 @@
 -- The status of a session after its record was written, or not.
-use Rattle.std.proofs.Common.{◌≡◌, ◌≢◌, ℕ, List, Option, Result, Ok, Err, true, refl, sym, ap, ◌∙◌, subst, inr}
+use Rattle.std.proofs.Common.{◌≡◌, ◌≢◌, ℕ, List, [], true, false, Option, Result, Ok, Err, refl, sym, ap, ◌∙◌, subst, inr}
 use Rattle.std.specs.Prelude.{IfErr, OnOk, is_ok}
 use Rattle.wind_session.specs.declared.run.RunEnd.{RunEnd}
+use Rattle.wind_outside.specs.Files.{Files}
+use Rattle.live_session.specs.Command.{CommandState}
 use Rattle.live_session.specs.Ending.{IsGoing}
-use Rattle.live_session.specs.Session.{IsStatusOf, IsStop, IsTyped, Parts, status_unless}
+use Rattle.live_session.specs.Saving.{IsSaved, replay_limit}
+use Rattle.live_session.specs.Session.{IsRefusal, IsStatusOf, IsStop, IsTyped, Parts, status_unless}
 use Rattle.live_session.specs.declared.saving.Unsaved.{Unsaved}
 use Rattle.live_session.specs.declared.saving.Unsaved.TheVariants as unsaved
 use Rattle.live_session.specs.declared.status.Status.{Status}
@@ -21,7 +24,7 @@ unless_status unsaved.NoMemory end status.Ended h = inr h
 unless_status failure end s h = h
 
 unless_stop : (failure : Unsaved) (s : Status) (left : Option (List ℕ)) (parts : Parts) → IsStop s left parts → IsStop (status_unless failure s) left parts
-unless_stop unsaved.Failed status.Ended left parts h = h
+unless_stop unsaved.Failed status.Ended left parts h = tt
 unless_stop unsaved.NoMemory status.Ended left parts h = tt
 unless_stop failure s left parts h = h
 
@@ -86,3 +89,20 @@ never_usage end s h e = subst (λ (t : Status). IsStatusOf end t) e h
 -- a session that ended has a board that can go on
 pub ended_going : (end : RunEnd) (s : Status) → IsStatusOf end s → s ≡ status.Ended → IsGoing end
 ended_going end s h e = subst (λ (t : Status). IsStatusOf end t) e h
+
+-- ---- a record that was not opened
+pub unopened_refusal : (failure : Unsaved) (c : CommandState) (files : Option Files) (rose : Type 0) → c.record_folder ≢ [] → (failure ≡ unsaved.Failed → rose) → IsRefusal (status_unless failure status.Ended) c files rose
+unopened_refusal unsaved.Failed c files rose named failed = (named, inr (failed refl))
+unopened_refusal unsaved.NoMemory c files rose named failed = tt
+
+pub unopened_status : (failure : Unsaved) → (status_unless failure status.Ended ≢ status.Usage) × (status_unless failure status.Ended ≢ status.ReadFault) × (status_unless failure status.Ended ≢ status.WriteFault)
+unopened_status unsaved.Failed = (λ e. cc, λ e. cc, λ e. cc)
+unopened_status unsaved.NoMemory = (λ e. cc, λ e. cc, λ e. cc)
+
+-- ---- or was: it is empty
+pub opened_record : (c : CommandState) (console ticks : List ℕ) (steps : ℕ) (old new : Option Files) → console ≡ [] → ticks ≡ [] → steps ≡ 0
+    → IsSaved c console ticks (replay_limit steps false) old new → IsSaved c [] [] 0 old new
+opened_record c console ticks steps old new no_console no_ticks no_steps saved =
+    subst (λ n. IsSaved c [] [] n old new) no_steps
+    (subst (λ text. IsSaved c [] text steps old new) no_ticks
+    (subst (λ text. IsSaved c text ticks steps old new) no_console saved))

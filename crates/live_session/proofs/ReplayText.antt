@@ -1,5 +1,5 @@
 -- windplay's command for the words of a record.
-use Rattle.std.proofs.Common.{◌≡◌, ℕ, ◌+◌, ◌<◌, ◌≤◌, ◌^◌, Bool, true, false, cond, List, [], ◌∷◌, ◌++◌, length, Option, None, Some, refl, sym, ap, ◌∙◌, subst, arith, append_assoc}
+use Rattle.std.proofs.Common.{◌≡◌, ℕ, ◌<◌, ◌≤◌, ◌^◌, true, false, cond, List, [], ◌∷◌, ◌++◌, length, Option, None, Some, refl, ap, ◌∙◌, arith, append_assoc}
 use Rattle.std.specs.Prelude.{codes, nat_le, not, ◌==◌, ◌&&◌}
 use Rattle.std.specs.Char.{is_ascii_digit}
 use Rattle.std.specs.Fmt.{decimal}
@@ -18,7 +18,7 @@ use Rattle.wind_session.specs.Command.{BoardOptionsState, CommandState as Sessio
 use Rattle.wind_session.specs.declared.command.Source.TheVariants as sources
 use Rattle.wind_session.proofs.CommandLemmas.{command_on_literals}
 use Rattle.live_session.specs.Command.{CommandState}
-use Rattle.live_session.specs.Saving.{IsReplayText, board_digit, command_text, command_words, console_path, profile_digit, replay_of, ticks_path, word_lines}
+use Rattle.live_session.specs.Saving.{IsReplayText, board_digit, console_path, profile_digit, ticks_path}
 
 -- the limit is read back from its digits
 limit_value : (n : ℕ) → n ≤ most_steps → number_value most_steps (decimal n) ≡ Some n

@@ -1,6 +1,7 @@
 -- The run of a record up to a limit with which it ends as the session did.
-use Rattle.std.proofs.Common.{◌≡◌, ℕ, ◌+◌, Bool, true, false, cond, List, refl, subst, arith}
+use Rattle.std.proofs.Common.{◌≡◌, ℕ, ◌+◌, ◌≤◌, Bool, true, false, cond, List, refl, subst, arith}
 use Rattle.std.specs.Prelude.{nat_lt}
+use Rattle.std.proofs.lemmas.Bool.Decides.{nat_tests}
 use Rattle.wind_base.specs.Limits.{most_steps}
 use Rattle.tick_file.specs.Schedule.{timetable_of}
 use Rattle.wind_machine.specs.State.{State}
@@ -39,3 +40,12 @@ replayed ends.Limit shelf setup console ticks board old now going live over = (e
 replayed ends.ReadFault shelf setup console ticks board old now going live over = absurd going
 replayed ends.WriteFault shelf setup console ticks board old now going live over = absurd going
 replayed ends.NoMemory shelf setup console ticks board old now going live over = absurd going
+
+-- ---- the limit
+pub limit_within : (steps : ℕ) (over : Bool) → steps ≤ most_steps → replay_limit steps over ≤ most_steps
+limit_within steps true few = grind (arith, nat_tests)
+limit_within steps false few = few
+
+pub limit_reached : (steps : ℕ) (over : Bool) → steps ≤ replay_limit steps over
+limit_reached steps true = grind (arith, nat_tests)
+limit_reached steps false = omega arith

@@ -89,7 +89,7 @@ typing_begins left console holds none held = record {
 -- ---- how it stops
 pub stop_whole : (s : Status) (left : Option (List ℕ)) (parts : Parts) → IsWhole left parts → IsStop s left parts
 stop_whole status.Ended left parts whole = whole
-stop_whole status.Unrecorded left parts whole = whole
+stop_whole status.Unrecorded left parts whole = tt
 stop_whole status.Usage left parts whole = tt
 stop_whole status.ReadFault left parts whole = tt
 stop_whole status.WriteFault left parts whole = tt

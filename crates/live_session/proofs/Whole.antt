@@ -1,6 +1,5 @@
 -- A session that was played, from its parts.
-use Rattle.std.proofs.Common.{◌≡◌, ◌≢◌, ℕ, ◌≤◌, Bool, true, false, List, [], Option, refl, arith}
-use Rattle.std.proofs.lemmas.Bool.Decides.{nat_tests}
+use Rattle.std.proofs.Common.{◌≡◌, ◌≢◌, ℕ, ◌≤◌, List, [], Option, refl}
 use Rattle.wind_base.specs.Limits.{most_steps}
 use Rattle.wind_outside.specs.Devices.{DeviceState}
 use Rattle.wind_outside.specs.Files.{Files}
@@ -15,22 +14,21 @@ use Rattle.wind_session.specs.declared.run.RunEnd.{RunEnd}
 use Rattle.wind_session.specs.declared.run.RunEnd.TheVariants as ends
 use Rattle.live_session.specs.Command.{CommandState}
 use Rattle.live_session.specs.Ending.{IsAfterRun, IsGoing, is_quiet}
+use Rattle.live_session.specs.Journal.{IsAlwaysReplayed, IsCurrent, scene}
 use Rattle.live_session.specs.LiveAround.{LiveAround, RecordFailed, Store}
 use Rattle.live_session.specs.Moments.{Wherever, moment}
 use Rattle.live_session.specs.Saving.{IsSaved, WritesOnly, replay_limit}
 use Rattle.live_session.specs.Seen.{Begins, LiveState, IsLiveAt, Runs}
 use Rattle.live_session.specs.Session.{IsPermitted, IsRecorded, IsStatusOf, IsTalk, IsTyped, Parts, Played, setup_of, shelf_of}
+use Rattle.live_session.specs.declared.saving.Unsaved.{Unsaved}
 use Rattle.live_session.specs.declared.status.Status.{Status}
 use Rattle.live_session.specs.declared.status.Status.TheVariants as status
 use Rattle.live_session.proofs.ReplayText.{replay_text}
-use Rattle.live_session.proofs.Replays.{replayed}
+use Rattle.live_session.proofs.Replaying.{replayed_here}
+use Rattle.live_session.proofs.Replays.{limit_within, replayed}
 use Rattle.live_session.proofs.Starting.{planned}
 
 -- ---- the record that was written
-limit_within : (steps : ℕ) (over : Bool) → steps ≤ most_steps → replay_limit steps over ≤ most_steps
-limit_within steps true few = grind (arith, nat_tests)
-limit_within steps false few = few
-
 is_recorded : (end : RunEnd) (c : CommandState) (shelf : Shelf) (setup : Setup) (console ticks : List ℕ) (board : State) (old now : Outside) (files new : Option Files)
     → IsGoing end → IsAfterRun end shelf setup console ticks board old now → (end ≡ ends.Quiet → IsOver board) → replay_limit board.steps (is_quiet end) ≤ most_steps
     → IsSaved c console ticks (replay_limit board.steps (is_quiet end)) files new → IsRecorded end c shelf setup console ticks board old now files new
@@ -39,22 +37,25 @@ is_recorded end c shelf setup console ticks board old now files new going run ov
     record { replay_end = replay.0; going = replay.1; replay = replay.2; replay_text = replay_text c (replay_limit board.steps (is_quiet end)) few; saved = saved }
 
 -- what the conversation made of its parts
-abbrev pub Talks : CommandState → LiveState → LiveState → LiveAround → LiveAround → Messages → RunEnd → Store → Store → Parts → Type 0
-Talks c l m before after told end opened closed parts =
-    Wherever c.modules l before.session (λ shelf setup old. IsTalk c parts shelf setup old l before.session (moment m after.session told end) opened closed)
+abbrev pub Talks : CommandState → LiveState → LiveState → LiveAround → LiveAround → Messages → RunEnd → Option Unsaved → Store → Store → Parts → Type 0
+Talks c l m before after told end failure opened closed parts =
+    Wherever c.modules l before.session (λ shelf setup old. IsTalk c parts shelf setup old l before.session opened (moment m after.session told closed end failure))
 
 -- how the conversation ended, and what became of the record
-pub record Closed (s : Status) (c : CommandState) (end : RunEnd) (l m : LiveState) (before after : LiveAround) (told : Messages) (opened closed : Store) : Type 0 where
+pub record Closed (s : Status) (c : CommandState) (end : RunEnd) (l m : LiveState) (before after : LiveAround) (told : Messages) (failure : Option Unsaved) (opened closed : Store) : Type 0 where
   pub runs : Runs end c.modules l before.session m after.session
   pub status_is : IsStatusOf end s
-  pub typed : IsTyped s before.input after.input m.console.bytes (Talks c l m before after told end opened closed)
-  pub opened_is : opened.files ≡ before.records
+  pub typed : IsTyped s before.input after.input m.console.bytes (Talks c l m before after told end failure opened closed)
+  pub unopened : c.record_folder ≡ [] → opened.files ≡ before.records
+  pub opens : c.record_folder ≢ [] → IsSaved c [] [] 0 before.records opened.files
   pub writes : WritesOnly c.record_folder before.records after.records
   pub saved : s ≡ status.Ended → c.record_folder ≢ [] → IsGoing end × IsSaved c m.console.bytes m.ticks.bytes (replay_limit m.board.steps (is_quiet end)) closed.files after.records
   pub unrecorded : s ≡ status.Unrecorded → (c.record_folder ≢ []) × RecordFailed before after
+  pub safe : c.record_folder ≢ [] → IsCurrent c l opened.files
+      × Wherever c.modules l before.session (λ shelf setup old. IsAlwaysReplayed c shelf setup old.bytes (scene opened.files before.session.logged.bytes) (scene after.records after.session.logged.bytes))
 
--- the same parts, of which something else holds
-typed_as : (s : Status) (old new : Option (List ℕ)) (console : List ℕ) (holds more : Parts → Type 0) → ((parts : Parts) → holds parts → more parts)
+-- the same parts, with another property
+pub typed_as : (s : Status) (old new : Option (List ℕ)) (console : List ℕ) (holds more : Parts → Type 0) → ((parts : Parts) → holds parts → more parts)
     → IsTyped s old new console holds → IsTyped s old new console more
 typed_as s old new console holds more so t = record {
   parts = t.parts;
@@ -66,10 +67,10 @@ typed_as s old new console holds more so t = record {
   held = so t.parts t.held;
 }
 
-pub plays : WritingLaw → (s : Status) (c : CommandState) (end : RunEnd) (l m : LiveState) (before after : LiveAround) (told : Messages) (opened closed : Store)
-    → Closed s c end l m before after told opened closed → (devices : List (Option DeviceState)) → IsPermitted c before.records → Begins (setup_of c devices) l
+pub plays : WritingLaw → (s : Status) (c : CommandState) (end : RunEnd) (l m : LiveState) (before after : LiveAround) (told : Messages) (failure : Option Unsaved) (opened closed : Store)
+    → Closed s c end l m before after told failure opened closed → (devices : List (Option DeviceState)) → IsPermitted c before.records → Begins (setup_of c devices) l
     → Played s c devices before after
-plays law s c end l m before after told opened closed h devices permitted begins =
+plays law s c end l m before after told failure opened closed h devices permitted begins =
     let shelf = shelf_of before.session.files c in
     let old = before.session.logged in
     let now = after.session.logged in
@@ -82,14 +83,16 @@ plays law s c end l m before after told opened closed h devices permitted begins
       told = told;
       opened = opened;
       closed = closed;
+      unsaved = failure;
       planned = planned law m.console m.ticks m.lines m.last h.runs.sound.console h.runs.sound.kept;
       run = run;
       status_is = h.status_is;
       begins = begins;
-      opened_is = h.opened_is;
+      unopened = h.unopened;
+      opens = h.opens;
       typed =
-          typed_as s before.input after.input m.console.bytes (Talks c l m before after told end opened closed)
-          (λ parts. IsTalk c parts shelf (setup_of c devices) old l before.session (moment m after.session told end) opened closed)
+          typed_as s before.input after.input m.console.bytes (Talks c l m before after told end failure opened closed)
+          (λ parts. IsTalk c parts shelf (setup_of c devices) old l before.session opened (moment m after.session told closed end failure))
           (λ parts talks. talks shelf (setup_of c devices) old (record { shelf_is = refl; live = live }))
           h.typed;
       permitted = permitted;
@@ -97,4 +100,9 @@ plays law s c end l m before after told opened closed h devices permitted begins
       recorded = λ e named.
           is_recorded end c shelf (setup_of c devices) m.console.bytes m.ticks.bytes m.board old now closed.files after.records (h.saved e named).0 run h.runs.quiet (limit_within m.board.steps (is_quiet end) h.runs.sound.few) (h.saved e named).1;
       unrecorded = h.unrecorded;
+      safe = λ named.
+          record {
+            opening = replayed_here law c shelf (setup_of c devices) l ends.Limit old old opened.files begins.sound live (h.safe named).0;
+            always = (h.safe named).1 shelf (setup_of c devices) old (record { shelf_is = refl; live = live });
+          };
     }

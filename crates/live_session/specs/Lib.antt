@@ -3,6 +3,7 @@ pub mod DotLines
 pub mod Ending
 pub mod Folder
 pub mod Input
+pub mod Journal
 pub mod LiveAround
 pub mod MemFolder
 pub mod Moments

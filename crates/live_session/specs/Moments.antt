@@ -1,5 +1,5 @@
 -- The moments of a live session, what a run of the board and an event lead to, and what is told.
-use Rattle.std.specs.Prelude.{◌≡◌, ℕ, ◌+◌, ◌-◌, ◌<◌, List, [], ◌∷◌, ◌++◌, Option, Some, None, length, min, max, codes}
+use Rattle.std.specs.Prelude.{◌≡◌, ℕ, ◌+◌, ◌-◌, ◌<◌, List, [], ◌∷◌, ◌++◌, Option, Some, None, length, min, max}
 use Rattle.wind_base.specs.Limits.{greatest_word, longest_text_file, most_steps}
 use Rattle.wind_outside.specs.Counts.{Rose}
 use Rattle.tick_file.specs.declared.event.Event.{Event}
@@ -13,21 +13,31 @@ use Rattle.wind_session.specs.Outside.{Outside}
 use Rattle.wind_session.specs.Texts.{IsPrinted}
 use Rattle.wind_session.specs.declared.run.RunEnd.{RunEnd}
 use Rattle.wind_session.specs.declared.run.RunEnd.TheVariants as ends
+use Rattle.live_session.specs.Ending.{IsGoing}
+use Rattle.live_session.specs.LiveAround.{Store}
 use Rattle.live_session.specs.Seen.{LiveState, IsLiveAt, IsRun}
 use Rattle.live_session.specs.Telling.{refusal_text}
 use Rattle.live_session.specs.declared.record.Refusal.{Refusal}
 use Rattle.live_session.specs.declared.record.Refusal.TheVariants as refusals
+use Rattle.live_session.specs.declared.saving.Unsaved.{Unsaved}
+use Rattle.live_session.specs.declared.saving.Unsaved.TheVariants as failures
 
--- a moment: the record with the board, the folder of modules with the output, how the board's last run ended, and the sink
--- of the messages
+-- a moment: the record with the board, the folder of modules with the output, the sink of the messages, the folder of the
+-- record's files, how the board's last run ended, and why a file of the record was not written, if one wasn't
 pub record Moment : Type 0 where
   pub live : LiveState
   pub around : Around
-  pub end : RunEnd
   pub told : Messages
+  pub store : Store
+  pub end : RunEnd
+  pub unsaved : Option Unsaved
 
-abbrev pub moment : LiveState → Around → Messages → RunEnd → Moment
-moment live around told end = record { live = live; around = around; end = end; told = told }
+abbrev pub moment : LiveState → Around → Messages → Store → RunEnd → Option Unsaved → Moment
+moment live around told store end unsaved = record { live = live; around = around; told = told; store = store; end = end; unsaved = unsaved }
+
+-- a session can go on from it
+abbrev pub CanGoOn : Moment → Type 0
+CanGoOn now = IsGoing now.end × (now.unsaved ≡ None)
 
 -- a text was added to the messages, or a prefix of it and a put failed
 abbrev pub IsTold : List ℕ → Messages → Messages → Type 0
@@ -63,11 +73,17 @@ HasRun ends.ReadFault most old new before after = FolderFailed before after
 HasRun ends.WriteFault most old new before after = SinkFailed before after
 HasRun ends.NoMemory most old new before after = Unit {0}
 
+-- the same, unless a file of the record was not written, because writing failed or memory ran out
+abbrev pub HasGone : Option Unsaved → RunEnd → ℕ → State → State → Around → Around → Store → Store → Type 0
+HasGone None end most old new before after files now = HasRun end most old new before after
+HasGone (Some failures.Failed) end most old new before after files now = Rose files.faults now.faults
+HasGone (Some failures.NoMemory) end most old new before after files now = Unit {0}
+
 -- the board ran for at most this many steps, and the record stayed; what was shown is what a run of the record shows so far
-pub record RunsFor (most : ℕ) (shelf : Shelf) (setup : Setup) (old : Outside) (l : LiveState) (before : Around) (later : Moment) : Type 0 where
+pub record RunsFor (most : ℕ) (shelf : Shelf) (setup : Setup) (old : Outside) (l : LiveState) (before : Around) (files : Store) (later : Moment) : Type 0 where
   pub record_is : IsSameRecord l later.live
   pub at : IsRun later.end shelf setup later.live old later.around.logged
-  pub made : HasRun later.end most l.board later.live.board before later.around
+  pub made : HasGone later.unsaved later.end most l.board later.live.board before later.around files later.store
 
 -- ---- what is sent
 -- the time of an event that is sent now: later than board time, and not before the last event
@@ -93,7 +109,7 @@ pub record IsSentAndRuns (event : Event) (bytes : List ℕ) (most : ℕ) (shelf 
   pub mid : LiveState
   pub sent : IsSent event bytes now.live mid
   pub live : IsLiveAt shelf setup mid old now.around.logged
-  pub runs : RunsFor most shelf setup old mid now.around later
+  pub runs : RunsFor most shelf setup old mid now.around now.store later
 
 -- an event was refused for this cause, which was told; nothing else has changed
 pub record IsRefused (cause : Refusal) (event : Event) (bytes : List ℕ) (now later : Moment) : Type 0 where

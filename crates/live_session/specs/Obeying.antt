@@ -1,5 +1,5 @@
 -- What a part of the input does.
-use Rattle.std.specs.Prelude.{◌≡◌, ◌≢◌, ◌⊎◌, ℕ, suc, zero, List, [], ◌∷◌, length, Option, Some, None}
+use Rattle.std.specs.Prelude.{◌≡◌, ◌≢◌, ◌⊎◌, ℕ, suc, zero, List, [], ◌∷◌, length, Option, None}
 use Rattle.wind_outside.specs.Counts.{Rose}
 use Rattle.tick_file.specs.declared.event.Event.TheVariants.{Tick, Rx}
 use Rattle.wind_machine.specs.Extending.{Setup}
@@ -22,21 +22,17 @@ use Rattle.live_session.specs.declared.serving.Request.{Request}
 use Rattle.live_session.specs.declared.serving.Request.TheVariants as requests
 
 -- up to n ticks come, each when nothing else is left to do, and after each the board runs for at most `most` steps. Fewer
--- come only if something is left to do, or one was refused
+-- come only if something is left to do, one was refused, or a file of the record was not written
 abbrev pub TicksCome : ℕ → ℕ → Shelf → Setup → Outside → Moment → Moment → Type 0
 TicksCome zero most shelf setup old now later = later ≡ now
 TicksCome (suc n) most shelf setup old now later =
-    ((now.end ≢ ends.Quiet) × (later ≡ now))
+    (((now.end ≢ ends.Quiet) ⊎ (now.unsaved ≢ None)) × (later ≡ now))
     ⊎ (((cause : Refusal) × IsRefused cause Tick [] now later)
     ⊎ ((next : Moment) × (now.end ≡ ends.Quiet) × IsSentAndRuns Tick [] most shelf setup old now next × TicksCome n most shelf setup old next later))
 
 -- the board runs, and then ticks come
 abbrev pub RunsAndTicks : ℕ → ℕ → Shelf → Setup → Outside → Moment → Moment → Type 0
-RunsAndTicks n most shelf setup old now later = (first : Moment) × RunsFor most shelf setup old now.live now.around first × TicksCome n most shelf setup old first later
-
--- nothing was sent or written
-abbrev pub IsUnsent : Option Refusal → Store → Store → Type 0
-IsUnsent refusal before after = (refusal ≡ None) × (after ≡ before)
+RunsAndTicks n most shelf setup old now later = (first : Moment) × RunsFor most shelf setup old now.live now.around now.store first × TicksCome n most shelf setup old first later
 
 -- only this text was told; or that memory ran out for it
 abbrev pub Tells : List ℕ → Moment → Moment → Type 0
@@ -57,19 +53,19 @@ pub record Saves (c : CommandState) (l : LiveState) (end : RunEnd) (told later :
   pub unnamed : c.record_folder ≡ [] → (after ≡ before) × IsTold unsaved_text told later
   pub named : c.record_folder ≢ [] → Writes c l end told later before after
 
--- what a line for the program does; only `.break` sends something, and only `.save` writes
-abbrev pub Obeys : CommandState → DotLine → Option Refusal → Shelf → Setup → Outside → Moment → Moment → Store → Store → Type 0
-Obeys c (lines.Ticks n) refusal shelf setup old now later before after = RunsAndTicks n c.quiet_after shelf setup old now later × IsUnsent refusal before after
-Obeys c (lines.Run n) refusal shelf setup old now later before after = RunsFor n shelf setup old now.live now.around later × IsUnsent refusal before after
-Obeys c lines.Break refusal shelf setup old now later before after = Sends (Rx 1) (3 ∷ []) c.quiet_after refusal shelf setup old now later × (after ≡ before)
-Obeys c lines.State refusal shelf setup old now later before after = Shows (state_text now.live.board) now later × IsUnsent refusal before after
-Obeys c lines.Save refusal shelf setup old now later before after = (refusal ≡ None) × (later ≡ record now { told = later.told }) × Saves c now.live now.end now.told later.told before after
-Obeys c lines.Quit refusal shelf setup old now later before after = (later ≡ now) × IsUnsent refusal before after
-Obeys c lines.Help refusal shelf setup old now later before after = Tells help_text now later × IsUnsent refusal before after
-Obeys c lines.Unknown refusal shelf setup old now later before after = Tells unknown_text now later × IsUnsent refusal before after
+-- what a line for the program does; only `.break` sends something, and only `.save` writes the record without a need
+abbrev pub Obeys : CommandState → DotLine → Option Refusal → Shelf → Setup → Outside → Moment → Moment → Type 0
+Obeys c (lines.Ticks n) refusal shelf setup old now later = RunsAndTicks n c.quiet_after shelf setup old now later × (refusal ≡ None)
+Obeys c (lines.Run n) refusal shelf setup old now later = RunsFor n shelf setup old now.live now.around now.store later × (refusal ≡ None)
+Obeys c lines.Break refusal shelf setup old now later = Sends (Rx 1) (3 ∷ []) c.quiet_after refusal shelf setup old now later
+Obeys c lines.State refusal shelf setup old now later = Shows (state_text now.live.board) now later × (refusal ≡ None)
+Obeys c lines.Save refusal shelf setup old now later = (refusal ≡ None) × (later ≡ record now { told = later.told; store = later.store }) × Saves c now.live now.end now.told later.told now.store later.store
+Obeys c lines.Quit refusal shelf setup old now later = (later ≡ now) × (refusal ≡ None)
+Obeys c lines.Help refusal shelf setup old now later = Tells help_text now later × (refusal ≡ None)
+Obeys c lines.Unknown refusal shelf setup old now later = Tells unknown_text now later × (refusal ≡ None)
 
 -- what a part of the input does: its bytes are sent, or a line for the program is obeyed, or nothing follows it
-abbrev pub Serves : CommandState → Request → List ℕ → Option Refusal → Shelf → Setup → Outside → Moment → Moment → Store → Store → Type 0
-Serves c requests.Send part refusal shelf setup old now later before after = Sends (Rx (length part)) part c.quiet_after refusal shelf setup old now later × (after ≡ before)
-Serves c requests.Skip part refusal shelf setup old now later before after = (later ≡ now) × IsUnsent refusal before after
-Serves c (requests.Obey line) part refusal shelf setup old now later before after = Obeys c line refusal shelf setup old now later before after
+abbrev pub Serves : CommandState → Request → List ℕ → Option Refusal → Shelf → Setup → Outside → Moment → Moment → Type 0
+Serves c requests.Send part refusal shelf setup old now later = Sends (Rx (length part)) part c.quiet_after refusal shelf setup old now later
+Serves c requests.Skip part refusal shelf setup old now later = (later ≡ now) × (refusal ≡ None)
+Serves c (requests.Obey line) part refusal shelf setup old now later = Obeys c line refusal shelf setup old now later

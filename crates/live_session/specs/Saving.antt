@@ -11,7 +11,7 @@ use Rattle.wind_session.specs.Command.{CommandState as SessionCommand, command_o
 use Rattle.wind_session.specs.Paths.{path_in}
 use Rattle.wind_session.specs.declared.command.Source.TheVariants as sources
 use Rattle.live_session.specs.Command.{CommandState}
-use Rattle.live_session.specs.Folder.{Replaced}
+use Rattle.live_session.specs.Folder.{Lengthened, Replaced}
 
 -- the paths of the three files of a record in a folder
 abbrev pub console_path : List ℕ → List ℕ
@@ -121,3 +121,19 @@ pub record IsSaved (c : CommandState) (console ticks : List ℕ) (limit : ℕ) (
   pub first : Replaced old with_console (console_path c.record_folder) console
   pub second : Replaced with_console with_ticks (ticks_path c.record_folder) ticks
   pub last : Replaced with_ticks new (command_path c.record_folder) (command_text c limit)
+
+-- or the writing stopped after some of them
+abbrev pub IsSavedInPart : CommandState → List ℕ → List ℕ → ℕ → Option Files → Option Files → Type 0
+IsSavedInPart c console ticks limit old new =
+    (new ≡ old)
+    ⊎ ((with_console : Option Files) × Replaced old with_console (console_path c.record_folder) console
+    × ((new ≡ with_console)
+    ⊎ ((with_ticks : Option Files) × Replaced with_console with_ticks (ticks_path c.record_folder) ticks
+    × ((new ≡ with_ticks)
+    ⊎ Replaced with_ticks new (command_path c.record_folder) (command_text c limit)))))
+
+-- the line of an event was added to the tick file, and then its bytes to the console file
+pub record IsAdded (folder line bytes : List ℕ) (old new : Option Files) : Type 0 where
+  pub with_line : Option Files
+  pub first : Lengthened old with_line (ticks_path folder) line
+  pub last : Lengthened with_line new (console_path folder) bytes

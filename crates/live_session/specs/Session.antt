@@ -17,7 +17,8 @@ use Rattle.live_session.specs.Command.{CommandState}
 use Rattle.live_session.specs.Ending.{IsAfterRun, IsGoing, is_quiet}
 use Rattle.live_session.specs.Input.{IsLongest, IsPart, Takes}
 use Rattle.live_session.specs.LiveAround.{LiveAround, ReadFailed, RecordFailed, Store, WriteFailed}
-use Rattle.live_session.specs.Moments.{Moment, RunsFor, moment}
+use Rattle.live_session.specs.Journal.{IsAlwaysReplayed, IsReplayed, scene}
+use Rattle.live_session.specs.Moments.{CanGoOn, Moment, RunsFor, moment}
 use Rattle.live_session.specs.Obeying.{Serves}
 use Rattle.live_session.specs.Positions.{position_after, request_of, sent_of}
 use Rattle.live_session.specs.Saving.{IsFree, IsReplayText, IsSaved, IsTaken, WritesOnly, replay_limit}
@@ -25,7 +26,7 @@ use Rattle.live_session.specs.Seen.{Begins, LiveState}
 use Rattle.live_session.specs.declared.dot_line.DotLine.TheVariants as lines
 use Rattle.live_session.specs.declared.record.Refusal.{Refusal}
 use Rattle.live_session.specs.declared.saving.Unsaved.{Unsaved}
-use Rattle.live_session.specs.declared.saving.Unsaved.TheVariants as unsaved
+use Rattle.live_session.specs.declared.saving.Unsaved.TheVariants as failures
 use Rattle.live_session.specs.declared.serving.Position.{Position}
 use Rattle.live_session.specs.declared.serving.Position.TheVariants.{Start as LineStart}
 use Rattle.live_session.specs.declared.serving.Request.TheVariants as requests
@@ -89,7 +90,6 @@ IsWhole left parts = IfSome left (λ bytes. bytes ≡ []) ⊎ (EndsByQuit parts 
 -- only after the whole input does a session end by itself
 abbrev pub IsStop : Status → Option (List ℕ) → Parts → Type 0
 IsStop status.Ended left parts = IsWhole left parts
-IsStop status.Unrecorded left parts = IsWhole left parts
 IsStop s left parts = Unit {0}
 
 -- these bytes were sent, and they are those of the parts that were taken from the input; and this holds of the parts
@@ -103,18 +103,18 @@ pub record IsTyped (s : Status) (old new : Option (List ℕ)) (console : List �
   pub held : holds parts
 
 -- ---- what the parts did
--- the board could go on before each part, and each did what it asks for
-abbrev pub AreServed : CommandState → Shelf → Setup → Outside → Position → Parts → Moment → Moment → Store → Store → Type 0
-AreServed c shelf setup old position [] now later before after = (later ≡ now) × (after ≡ before)
-AreServed c shelf setup old position (x ∷ xs) now later before after =
-    (next : Moment) × (mid : Store) × IsGoing now.end × Serves c (request_of position x.0) x.0 x.1 shelf setup old now next before mid
-    × AreServed c shelf setup old (position_after position x.0) xs next later mid after
+-- the session could go on before each part, and each did what it asks for
+abbrev pub AreServed : CommandState → Shelf → Setup → Outside → Position → Parts → Moment → Moment → Type 0
+AreServed c shelf setup old position [] now later = later ≡ now
+AreServed c shelf setup old position (x ∷ xs) now later =
+    (next : Moment) × CanGoOn now × Serves c (request_of position x.0) x.0 x.1 shelf setup old now next
+    × AreServed c shelf setup old (position_after position x.0) xs next later
 
 -- the board ran, and then the parts were served
-pub record IsTalk (c : CommandState) (parts : Parts) (shelf : Shelf) (setup : Setup) (old : Outside) (begin : LiveState) (around : Around) (later : Moment) (before after : Store) : Type 0 where
+pub record IsTalk (c : CommandState) (parts : Parts) (shelf : Shelf) (setup : Setup) (old : Outside) (begin : LiveState) (around : Around) (opened : Store) (later : Moment) : Type 0 where
   pub first : Moment
-  pub opening : RunsFor c.quiet_after shelf setup old begin around first
-  pub served : AreServed c shelf setup old LineStart parts first later before after
+  pub opening : RunsFor c.quiet_after shelf setup old begin around opened first
+  pub served : AreServed c shelf setup old LineStart parts first later
 
 -- ---- how it ended
 -- the status, given how the board's last run ended: reading may also fail, and memory may also run out, outside the board
@@ -135,9 +135,14 @@ status_of end = status.Ended
 
 -- the status if the record of a session that ended was not written
 abbrev pub status_unless : Unsaved → Status → Status
-status_unless unsaved.Failed status.Ended = status.Unrecorded
-status_unless unsaved.NoMemory status.Ended = status.NoMemory
+status_unless failures.Failed status.Ended = status.Unrecorded
+status_unless failures.NoMemory status.Ended = status.NoMemory
 status_unless failure s = s
+
+-- the status if neither the input nor the writing at the end decides it
+abbrev pub status_at : Option Unsaved → RunEnd → Status
+status_at None end = status_of end
+status_at (Some failure) end = status_unless failure status.Ended
 
 -- what the board has besides its inputs
 abbrev pub setup_of : CommandState → List (Option DeviceState) → Setup
@@ -158,13 +163,19 @@ pub record IsRecorded (end : RunEnd) (c : CommandState) (shelf : Shelf) (setup :
   pub saved : IsSaved c console ticks (replay_limit board.steps (is_quiet end)) before new
 
 -- ---- a session that was played
+-- at every moment from the opening of the record to the end nothing that was shown is lost
+pub record IsSafe (c : CommandState) (shelf : Shelf) (setup : Setup) (opened new : Option Files) (old now : Outside) : Type 0 where
+  pub opening : IsReplayed c shelf setup old.bytes opened old.bytes
+  pub always : IsAlwaysReplayed c shelf setup old.bytes (scene opened old.bytes) (scene new now.bytes)
+
 -- a record that is there may be replaced, or there is none, or none is asked for
 abbrev pub IsPermitted : CommandState → Option Files → Type 0
 IsPermitted c files = c.record_folder ≢ [] → c.force ≡ false → IsFree c.record_folder files
 
 -- a session was played with these arguments: its console file and its tick file, for which windplay starts a run; the
--- board of the first steps of that run; and what was shown is the text of these steps. It began with an empty record, and
--- each part of the input did what it asks for, until the record was written at the end
+-- board of the first steps of that run; and what was shown is the text of these steps. It began with an empty record,
+-- which was written, and each part of the input did what it asks for, until the record was written at the end. At every
+-- moment since the beginning, what was shown is a prefix of what a replay of the record's files writes
 pub record Played (s : Status) (c : CommandState) (devices : List (Option DeviceState)) (before after : LiveAround) : Type 0 where
   pub begin : LiveState
   pub live : LiveState
@@ -172,37 +183,44 @@ pub record Played (s : Status) (c : CommandState) (devices : List (Option Device
   pub told : Messages
   pub opened : Store
   pub closed : Store
+  pub unsaved : Option Unsaved
   pub planned : plan_of (Some live.console.bytes) (Some live.ticks.bytes) ≡ Start live.console.bytes (timetable_of live.ticks.bytes)
   pub run : IsAfterRun end (shelf_of before.session.files c) (setup_of c devices) live.console.bytes live.ticks.bytes live.board before.session.logged after.session.logged
   pub status_is : IsStatusOf end s
   pub begins : Begins (setup_of c devices) begin
-  pub opened_is : opened.files ≡ before.records
+  pub unopened : c.record_folder ≡ [] → opened.files ≡ before.records
+  pub opens : c.record_folder ≢ [] → IsSaved c [] [] 0 before.records opened.files
   pub typed : IsTyped s before.input after.input live.console.bytes
-      (λ parts. IsTalk c parts (shelf_of before.session.files c) (setup_of c devices) before.session.logged begin before.session (moment live after.session told end) opened closed)
+      (λ parts. IsTalk c parts (shelf_of before.session.files c) (setup_of c devices) before.session.logged begin before.session opened (moment live after.session told closed end unsaved))
   pub permitted : IsPermitted c before.records
   pub writes : WritesOnly c.record_folder before.records after.records
   pub recorded : s ≡ status.Ended → c.record_folder ≢ []
       → IsRecorded end c (shelf_of before.session.files c) (setup_of c devices) live.console.bytes live.ticks.bytes live.board before.session.logged after.session.logged closed.files after.records
   pub unrecorded : s ≡ status.Unrecorded → (c.record_folder ≢ []) × RecordFailed before after
+  pub safe : c.record_folder ≢ [] → IsSafe c (shelf_of before.session.files c) (setup_of c devices) opened.files after.records before.session.logged after.session.logged
 
 -- ---- a session that was not played
--- its status: memory may run out at any time; otherwise there is a record that is not to be replaced, or asking for it
--- failed, so that the count of faults of its folder rose
+-- its status: memory may run out at any time; otherwise there is a record that is not to be replaced, or asking for it,
+-- making its folder or writing its files failed, so that the count of faults of its folder rose
 abbrev pub IsRefusal : Status → CommandState → Option Files → Type 0 → Type 0
 IsRefusal status.NoMemory c files rose = Unit {0}
-IsRefusal status.Unrecorded c files rose = (c.record_folder ≢ []) × (c.force ≡ false) × (IsTaken c.record_folder files ⊎ rose)
+IsRefusal status.Unrecorded c files rose = (c.record_folder ≢ []) × (((c.force ≡ false) × IsTaken c.record_folder files) ⊎ rose)
 IsRefusal s c files rose = ⊥
 
--- nothing was read, fetched, shown or written
+-- nothing was read, fetched or shown
 pub record IsUntouched (before after : LiveAround) : Type 0 where
   pub outside : after.session.logged ≡ before.session.logged
   pub input : after.input ≡ before.input
-  pub record_files : after.records ≡ before.records
+
+-- only files of a record that may be written were written
+pub record IsUnopened (c : CommandState) (before after : Option Files) : Type 0 where
+  pub writes : WritesOnly c.record_folder before after
+  pub permitted : IsPermitted c before ⊎ (after ≡ before)
 
 -- what these arguments leave
 abbrev pub Leaves : Status → Option CommandState → List (Option DeviceState) → LiveAround → LiveAround → Type 0
-Leaves s None devices before after = ((s ≡ status.Usage) ⊎ (s ≡ status.NoMemory)) × IsUntouched before after
-Leaves s (Some c) devices before after = (IsRefusal s c before.records (RecordFailed before after) × IsUntouched before after) ⊎ Played s c devices before after
+Leaves s None devices before after = ((s ≡ status.Usage) ⊎ (s ≡ status.NoMemory)) × IsUntouched before after × (after.records ≡ before.records)
+Leaves s (Some c) devices before after = (IsRefusal s c before.records (RecordFailed before after) × IsUntouched before after × IsUnopened c before.records after.records) ⊎ Played s c devices before after
 
 -- ---- the program
 -- a session of these arguments on a board with these devices

@@ -43,7 +43,7 @@ const BAD_NAME: &str = "'--modules <DIR>' and '--record <DIR>' take no name with
 
 // Where the record goes.
 const RECORD_HELP: &str = "\
-    The folder for the record of the session, which must exist; without it nothing is saved";
+    The folder for the record of the session, made if it isn't there; without it nothing is saved";
 
 // How long the board runs after a line.
 const QUIET_HELP: &str = "The most steps after a line before the next is read, up to 1000000000000";

@@ -1,32 +1,33 @@
 //! A conversation: one part of the input after another, and what follows each.
 
-ghost use Rattle.std.specs.Prelude.{◌≡◌, ◌≢◌, ◌⊎◌, ◌≤◌, ◌↔◌, ◌++◌, [], IsTrue, None, Err, IfOk, IfErr, OnErr, IfSome};
+ghost use Rattle.std.specs.Prelude.{◌≡◌, ◌≢◌, ◌⊎◌, ◌≤◌, ◌↔◌, ◌++◌, [], IsTrue, None, Some, Err, IfOk, IfErr, OnErr, IfSome};
 ghost use Rattle.wind_outside.specs.Counts.{Rose};
 ghost use Rattle.wind_machine.specs.Machine.{IsOver};
 ghost use Rattle.wind_session.specs.Keeping.{around, messages};
 ghost use Rattle.wind_session.specs.declared.run.RunEnd.TheVariants as ends;
 ghost use Rattle.live_session.specs.Ending.{IsGoing};
 ghost use Rattle.live_session.specs.Input.{Takes, IsPart, IsLongest};
+ghost use Rattle.live_session.specs.Journal.{Journaled};
 ghost use Rattle.live_session.specs.LiveAround.{store};
 ghost use Rattle.live_session.specs.Moments.{Wherever, moment};
 ghost use Rattle.live_session.specs.Obeying.{Obeys, Serves};
 ghost use Rattle.live_session.specs.Positions.{dot_sent, sent_of};
-ghost use Rattle.live_session.specs.Saving.{WritesOnly};
 ghost use Rattle.live_session.specs.Seen.{live_seen, IsSound, Runs};
-ghost use Rattle.live_session.specs.Session.{IsStatusOf, IsTalk, IsTyped, sent_unless, status_of};
+ghost use Rattle.live_session.specs.Session.{IsStatusOf, IsTalk, IsTyped, sent_unless, status_at};
 ghost use Rattle.live_session.specs.Words.{command_state, IsTarget};
 ghost use Rattle.live_session.specs.declared.dot_line.DotLine.TheVariants as lines;
+ghost use Rattle.live_session.specs.declared.saving.Unsaved.TheVariants as unsaved;
 ghost use Rattle.live_session.specs.declared.serving.Request.TheVariants as requests;
 ghost use Rattle.live_session.specs.declared.status.Status.TheVariants as status;
 
 use crate::dot_line::DotLine;
 use crate::input::{Input, InputPart};
 use crate::keeping::save_now;
-use crate::live::Live;
+use crate::live::{Live, Went, can_run};
 use crate::messages::{tell, tell_help, tell_state};
 use crate::record_folder::RecordFolder;
 use crate::running::{Served, run, run_ticks, send_and_run};
-use crate::saving::Target;
+use crate::saving::{Target, Unsaved};
 use crate::serving::{Position, Request, position_after, request_of};
 use crate::status::Status;
 use std::alloc::Global;
@@ -34,11 +35,26 @@ use tick_file::Event;
 use wind_outside::{Device, Folder, Sink};
 use wind_session::RunEnd;
 
-// Nothing was sent or refused since a run that ended like this.
+// Nothing was sent, refused or written since a run that ended like this.
 fn unsent(end: RunEnd) -> Served
-    ensures { result ≡ record { end = end; refusal = None } }
+    ensures { result ≡ record { end = end; refusal = None; unsaved = None } }
 {
-    Served { end, refusal: None }
+    Served {
+        end,
+        refusal: None,
+        unsaved: None,
+    }
+}
+
+// The board ran, and nothing was refused.
+fn ran(went: Went) -> Served
+    ensures { result ≡ record { end = went.end; refusal = None; unsaved = went.unsaved } }
+{
+    Served {
+        end: went.end,
+        refusal: None,
+        unsaved: went.unsaved,
+    }
 }
 
 // Does what a line for the program asks for.
@@ -66,20 +82,25 @@ fn obey<F: Folder, O: Sink, E: Sink, D: RecordFolder>(
         (live_seen ⟦<dyn Device as Device>⟧ live.old) (around ⟦<F as Folder>⟧ ⟦<O as Sink>⟧ folder.old out.old)
         (λ shelf setup old. Obeys (command_state target.entry.command.now) line result.refusal shelf setup old
         (moment (live_seen ⟦<dyn Device as Device>⟧ live.old) (around ⟦<F as Folder>⟧ ⟦<O as Sink>⟧ folder.old out.old)
-        (messages ⟦<E as Sink>⟧ err.old) end)
+        (messages ⟦<E as Sink>⟧ err.old) (store ⟦<D as RecordFolder>⟧ records.old) end None)
         (moment (live_seen ⟦<dyn Device as Device>⟧ live.new) (around ⟦<F as Folder>⟧ ⟦<O as Sink>⟧ folder.new out.new)
-        (messages ⟦<E as Sink>⟧ err.new) result.end)
-        (store ⟦<D as RecordFolder>⟧ records.old) (store ⟦<D as RecordFolder>⟧ records.new)) }
-    ensures writes { WritesOnly target.entry.command.now.record.now (D.files records.old) (D.files records.new) }
-    ensures record_faults { D.faults records.old ≤ D.faults records.new }
+        (messages ⟦<E as Sink>⟧ err.new) (store ⟦<D as RecordFolder>⟧ records.new) result.end result.unsaved)) }
+    ensures journal { Journaled (command_state target.entry.command.now) result.unsaved result.end
+        (live_seen ⟦<dyn Device as Device>⟧ live.old) (around ⟦<F as Folder>⟧ ⟦<O as Sink>⟧ folder.old out.old)
+        (store ⟦<D as RecordFolder>⟧ records.old)
+        (live_seen ⟦<dyn Device as Device>⟧ live.new) (around ⟦<F as Folder>⟧ ⟦<O as Sink>⟧ folder.new out.new)
+        (store ⟦<D as RecordFolder>⟧ records.new) }
 {
-    let command = target.command;
     match line {
-        DotLine::Ticks(ticks) => unsent(run_ticks(alloc, command, live, folder, out, err, ticks)),
-        DotLine::Run(most) => unsent(run(alloc, command, live, folder, out, err, most)),
+        DotLine::Ticks(ticks) => {
+            ran(run_ticks(alloc, target, live, folder, out, err, records, ticks))
+        }
+        DotLine::Run(most) => ran(run(alloc, target, live, folder, out, err, records, most)),
         DotLine::Break => {
             let abort = Event::Rx(1);
-            send_and_run(alloc, command, live, folder, out, err, abort, b"\x03", end)
+            send_and_run(
+                alloc, target, live, folder, out, err, records, abort, b"\x03", end,
+            )
         }
         DotLine::State => {
             tell_state(alloc, err, live);
@@ -128,26 +149,20 @@ fn serve<F: Folder, O: Sink, E: Sink, D: RecordFolder>(
         (live_seen ⟦<dyn Device as Device>⟧ live.old) (around ⟦<F as Folder>⟧ ⟦<O as Sink>⟧ folder.old out.old)
         (λ shelf setup old. Serves (command_state target.entry.command.now) request part.now result.refusal shelf setup old
         (moment (live_seen ⟦<dyn Device as Device>⟧ live.old) (around ⟦<F as Folder>⟧ ⟦<O as Sink>⟧ folder.old out.old)
-        (messages ⟦<E as Sink>⟧ err.old) end)
+        (messages ⟦<E as Sink>⟧ err.old) (store ⟦<D as RecordFolder>⟧ records.old) end None)
         (moment (live_seen ⟦<dyn Device as Device>⟧ live.new) (around ⟦<F as Folder>⟧ ⟦<O as Sink>⟧ folder.new out.new)
-        (messages ⟦<E as Sink>⟧ err.new) result.end)
-        (store ⟦<D as RecordFolder>⟧ records.old) (store ⟦<D as RecordFolder>⟧ records.new)) }
-    ensures writes { WritesOnly target.entry.command.now.record.now (D.files records.old) (D.files records.new) }
-    ensures record_faults { D.faults records.old ≤ D.faults records.new }
+        (messages ⟦<E as Sink>⟧ err.new) (store ⟦<D as RecordFolder>⟧ records.new) result.end result.unsaved)) }
+    ensures journal { Journaled (command_state target.entry.command.now) result.unsaved result.end
+        (live_seen ⟦<dyn Device as Device>⟧ live.old) (around ⟦<F as Folder>⟧ ⟦<O as Sink>⟧ folder.old out.old)
+        (store ⟦<D as RecordFolder>⟧ records.old)
+        (live_seen ⟦<dyn Device as Device>⟧ live.new) (around ⟦<F as Folder>⟧ ⟦<O as Sink>⟧ folder.new out.new)
+        (store ⟦<D as RecordFolder>⟧ records.new) }
 {
     match request {
         Request::Send => {
             let bytes = Event::Rx(part.len() as u32);
             send_and_run(
-                alloc,
-                target.command,
-                live,
-                folder,
-                out,
-                err,
-                bytes,
-                part,
-                end,
+                alloc, target, live, folder, out, err, records, bytes, part, end,
             )
         }
         Request::Skip => unsent(end),
@@ -155,19 +170,20 @@ fn serve<F: Folder, O: Sink, E: Sink, D: RecordFolder>(
     }
 }
 
-/// How a conversation ended: how the board's last run ended, and the status if the record is
-/// written.
+/// How a conversation ended: how the board's last run ended, the status if the record is written,
+/// and why a file of the record was not written, if one wasn't.
 #[derive(Clone, Copy)]
 pub(crate) struct Closing {
     pub(crate) end: RunEnd,
     pub(crate) status: Status,
+    pub(crate) unsaved: Option<Unsaved>,
 }
 
-// Whether the board can go on after a run that ended like this.
-fn is_going(end: RunEnd) -> bool
-    ensures { IsTrue result ↔ IsGoing end }
+// Whether the session can go on.
+fn is_going(went: Went) -> bool
+    ensures { IsTrue result ↔ IsGoing went.end × (went.unsaved ≡ None) }
 {
-    matches!(end, RunEnd::Quiet | RunEnd::Limit)
+    can_run(went.end) && went.unsaved.is_none()
 }
 
 // Whether a part is the line `.quit`.
@@ -177,17 +193,30 @@ fn is_quit(request: Request) -> bool
     matches!(request, Request::Obey(DotLine::Quit))
 }
 
-// A conversation that the board's last run decides.
-fn closing_of(end: RunEnd) -> Closing
-    ensures { result ≡ record { end = end; status = status_of end } }
+// The status of a session whose input doesn't decide it.
+fn status_of(went: Went) -> Status
+    ensures { result ≡ status_at went.unsaved went.end }
 {
-    let status = match end {
-        RunEnd::Quiet | RunEnd::Limit => Status::Ended,
-        RunEnd::ReadFault => Status::ReadFault,
-        RunEnd::WriteFault => Status::WriteFault,
-        RunEnd::NoMemory => Status::NoMemory,
-    };
-    Closing { end, status }
+    match (went.unsaved, went.end) {
+        (Some(Unsaved::Failed), _) => Status::Unrecorded,
+        (Some(Unsaved::NoMemory), _) | (None, RunEnd::NoMemory) => Status::NoMemory,
+        (None, RunEnd::Quiet | RunEnd::Limit) => Status::Ended,
+        (None, RunEnd::ReadFault) => Status::ReadFault,
+        (None, RunEnd::WriteFault) => Status::WriteFault,
+    }
+}
+
+// A conversation that the input doesn't decide.
+fn closing_of(went: Went) -> Closing
+    ensures { result ≡ record { end = went.end; status = status_at went.unsaved went.end; unsaved = went.unsaved } }
+{
+    let status = status_of(went);
+    let Went { end, unsaved } = went;
+    Closing {
+        end,
+        status,
+        unsaved,
+    }
 }
 
 // Takes the next part of the input. The error is the status with which a session ends then.
@@ -226,44 +255,59 @@ pub(crate) fn converse<I: Input, F: Folder, O: Sink, E: Sink, D: RecordFolder>(
     ensures runs { Runs result.end target.entry.command.now.modules.now
         (live_seen ⟦<dyn Device as Device>⟧ live.old) (around ⟦<F as Folder>⟧ ⟦<O as Sink>⟧ folder.old out.old)
         (live_seen ⟦<dyn Device as Device>⟧ live.new) (around ⟦<F as Folder>⟧ ⟦<O as Sink>⟧ folder.new out.new) }
-    ensures status_is { IsStatusOf result.end result.status × (result.status ≢ status.Unrecorded) }
+    ensures status_is { IsStatusOf result.end result.status }
+    ensures unended { result.unsaved ≢ None → result.status ≢ status.Ended }
+    ensures unrecorded { result.status ≡ status.Unrecorded → result.unsaved ≡ Some unsaved.Failed }
     ensures typed { IsTyped result.status (I.left input.old) (I.left input.new)
         (live_seen ⟦<dyn Device as Device>⟧ live.new).console.bytes
         (λ parts. Wherever target.entry.command.now.modules.now
         (live_seen ⟦<dyn Device as Device>⟧ live.old) (around ⟦<F as Folder>⟧ ⟦<O as Sink>⟧ folder.old out.old)
         (λ shelf setup old. IsTalk (command_state target.entry.command.now) parts shelf setup old
         (live_seen ⟦<dyn Device as Device>⟧ live.old) (around ⟦<F as Folder>⟧ ⟦<O as Sink>⟧ folder.old out.old)
+        (store ⟦<D as RecordFolder>⟧ records.old)
         (moment (live_seen ⟦<dyn Device as Device>⟧ live.new) (around ⟦<F as Folder>⟧ ⟦<O as Sink>⟧ folder.new out.new)
-        (messages ⟦<E as Sink>⟧ err.new) result.end)
-        (store ⟦<D as RecordFolder>⟧ records.old) (store ⟦<D as RecordFolder>⟧ records.new))) }
+        (messages ⟦<E as Sink>⟧ err.new) (store ⟦<D as RecordFolder>⟧ records.new) result.end result.unsaved))) }
     ensures read_fault { result.status ≡ status.ReadFault
         → Rose (I.faults input.old) (I.faults input.new) ⊎ Rose (F.faults folder.old) (F.faults folder.new) }
     ensures fault { result.status ≡ status.WriteFault → Rose (O.faults out.old) (O.faults out.new) }
-    ensures writes { WritesOnly target.entry.command.now.record.now (D.files records.old) (D.files records.new) }
-    ensures record_faults { D.faults records.old ≤ D.faults records.new }
+    ensures journal { Journaled (command_state target.entry.command.now) result.unsaved result.end
+        (live_seen ⟦<dyn Device as Device>⟧ live.old) (around ⟦<F as Folder>⟧ ⟦<O as Sink>⟧ folder.old out.old)
+        (store ⟦<D as RecordFolder>⟧ records.old)
+        (live_seen ⟦<dyn Device as Device>⟧ live.new) (around ⟦<F as Folder>⟧ ⟦<O as Sink>⟧ folder.new out.new)
+        (store ⟦<D as RecordFolder>⟧ records.new) }
     ensures input_faults { I.faults input.old ≤ I.faults input.new }
 {
     let mut position = Position::Start;
     let steps = target.command.quiet_after;
-    let mut end = run(alloc, target.command, live, folder, out, err, steps);
+    let mut went = run(alloc, target, live, folder, out, err, records, steps);
     for _ in 0..u64::MAX {
-        if !is_going(end) {
-            return closing_of(end);
+        if !is_going(went) {
+            return closing_of(went);
         }
+        let end = went.end;
         let part = match hear(alloc, input) {
             Ok(part) => part,
-            Err(status) => return Closing { end, status },
+            Err(status) => {
+                return Closing {
+                    end,
+                    status,
+                    unsaved: None,
+                };
+            }
         };
         let bytes = part.as_slice();
         let request = request_of(position, bytes);
         let served = serve(
             alloc, target, live, folder, out, err, records, request, bytes, end,
         );
-        end = served.end;
+        went = Went {
+            end: served.end,
+            unsaved: served.unsaved,
+        };
         if is_quit(request) {
-            return closing_of(end);
+            return closing_of(went);
         }
         position = position_after(position, bytes);
     }
-    closing_of(end)
+    closing_of(went)
 }

@@ -8,7 +8,8 @@ ghost use Rattle.wind_base.specs.Limits.{longest_chunk};
 use crate::input::{Input, InputPart};
 use crate::record_folder::{Presence, RecordFolder};
 use std::alloc::Global;
-use std::io::{BufRead, ErrorKind, Read};
+use std::fs::{OpenFile, OpenOptions};
+use std::io::{BufRead, ErrorKind, Read, Write};
 use std::rt::Files;
 use std::{fs, io};
 use wind_base::limits::CHUNK_BYTES;
@@ -67,11 +68,28 @@ fn beside(alloc: Global, name: &str) -> io::Result<String> {
     Ok(path)
 }
 
-// Writes a file beside its place, and puts it there.
+// Writes a file beside its place, and puts it there. A file that is beside the place already isn't
+// touched, and then nothing is written. If writing fails, the new file is removed.
 fn write_whole<R: Files>(alloc: Global, rt: &R, name: &str, bytes: &[u8]) -> io::Result<()> {
     let path = beside(alloc, name)?;
-    fs::write(rt, path.as_str(), bytes)?;
-    fs::rename(rt, path.as_str(), name)
+    let mut file = fs::File::create_new(rt, path.as_str())?;
+    let written = file.write_all(bytes);
+    let placed = written.and_then(|()| fs::rename(rt, path.as_str(), name));
+    if placed.is_err() {
+        let _ = fs::remove_file(rt, path.as_str());
+    }
+    placed
+}
+
+// Adds bytes at the end of a file. If that fails, the file is cut back to its length.
+fn write_more<R: Files>(rt: &R, name: &str, bytes: &[u8]) -> io::Result<()> {
+    let mut file = OpenOptions::new().append(true).open(rt, name)?;
+    let len = file.metadata()?.len();
+    let written = file.write_all(bytes);
+    if written.is_err() {
+        let _ = file.set_len(len);
+    }
+    written
 }
 
 impl<R: Files + Drop> RecordFolder for Counted<R> {
@@ -80,6 +98,17 @@ impl<R: Files + Drop> RecordFolder for Counted<R> {
     ghost files = { λ _. None };
 
     ghost faults = { λ f. f.faults };
+
+    fn make(&mut self, name: &str) -> Put {
+        match fs::create_dir(&self.handle, name) {
+            Ok(()) => Put::Done,
+            Err(error) if error.kind() == ErrorKind::AlreadyExists => Put::Done,
+            Err(_) => {
+                self.count_fault();
+                Put::Failed
+            }
+        }
+    }
 
     fn has(&mut self, name: &str) -> Presence {
         match fs::exists(&self.handle, name) {
@@ -95,6 +124,17 @@ impl<R: Files + Drop> RecordFolder for Counted<R> {
 
     fn replace(&mut self, alloc: Global, name: &str, bytes: &[u8]) -> Put {
         if write_whole(alloc, &self.handle, name, bytes).is_err() {
+            self.count_fault();
+            return Put::Failed;
+        }
+        Put::Done
+    }
+
+    fn append(&mut self, _alloc: Global, name: &str, bytes: &[u8]) -> Put {
+        if bytes.is_empty() {
+            return Put::Done;
+        }
+        if write_more(&self.handle, name, bytes).is_err() {
             self.count_fault();
             return Put::Failed;
         }

@@ -1,15 +1,16 @@
 //! Whether the record may be written, and the writing of it.
 
-ghost use Rattle.std.specs.Prelude.{◌≡◌, ◌≤◌, IsTrue, false, Err, IfErr, OnOk};
+ghost use Rattle.std.specs.Prelude.{◌≡◌, ◌≢◌, ◌≤◌, [], IsTrue, None, false, Err, IfErr, OnOk, OnErr};
 ghost use Rattle.wind_base.specs.Limits.{most_steps};
 ghost use Rattle.wind_outside.specs.Counts.{Rose};
-ghost use Rattle.wind_session.specs.Keeping.{messages};
+ghost use Rattle.wind_session.specs.Keeping.{Around, messages};
 ghost use Rattle.live_session.specs.Ending.{is_quiet};
+ghost use Rattle.live_session.specs.Journal.{Journaled};
 ghost use Rattle.live_session.specs.LiveAround.{store};
 ghost use Rattle.live_session.specs.Moments.{IsTold};
 ghost use Rattle.live_session.specs.Obeying.{Saves};
-ghost use Rattle.live_session.specs.Saving.{IsSaved, KeepsOthers, WritesOnly, replay_limit as replay_limit_lem};
-ghost use Rattle.live_session.specs.Seen.{live_seen};
+ghost use Rattle.live_session.specs.Saving.{IsSaved, IsSavedInPart, KeepsOthers, WritesOnly, replay_limit as replay_limit_lem};
+ghost use Rattle.live_session.specs.Seen.{live_seen, IsSound};
 ghost use Rattle.live_session.specs.Session.{IsPermitted, IsRefusal};
 ghost use Rattle.live_session.specs.Telling.{failure_text};
 ghost use Rattle.live_session.specs.Words.{command_state, IsTarget};
@@ -21,7 +22,8 @@ use crate::messages::{tell, tell_no_memory, tell_of};
 use crate::record_folder::RecordFolder;
 use crate::saving::{Claim, Target, Unsaved, find_claim, replay_limit, save};
 use std::alloc::Global;
-use wind_outside::{Device, Sink};
+use tick_file::writing_law;
+use wind_outside::{Device, Put, Sink};
 use wind_session::RunEnd;
 
 /// Whether the record may be written; says why not.
@@ -70,6 +72,11 @@ pub(crate) fn write_record<E: Sink, D: RecordFolder>(
         (live_seen ⟦<dyn Device as Device>⟧ live.now).ticks.bytes
         (replay_limit_lem (live_seen ⟦<dyn Device as Device>⟧ live.now).board.steps (is_quiet end))
         (D.files records.old) (D.files records.new)) }
+    ensures parts { IsSavedInPart (command_state target.entry.command.now)
+        (live_seen ⟦<dyn Device as Device>⟧ live.now).console.bytes
+        (live_seen ⟦<dyn Device as Device>⟧ live.now).ticks.bytes
+        (replay_limit_lem (live_seen ⟦<dyn Device as Device>⟧ live.now).board.steps (is_quiet end))
+        (D.files records.old) (D.files records.new) }
     ensures others { KeepsOthers target.entry.command.now.record.now (D.files records.old) (D.files records.new) }
     ensures failed { result ≡ Err unsaved.Failed → Rose (D.faults records.old) (D.faults records.new) }
     ensures never_falls { D.faults records.old ≤ D.faults records.new }
@@ -90,6 +97,39 @@ pub(crate) fn write_record<E: Sink, D: RecordFolder>(
     saved
 }
 
+/// Makes the folder of the record, and writes the record of a session that begins. Says why not. Does
+/// nothing if no record is asked for.
+pub(crate) fn open_record<E: Sink, D: RecordFolder>(
+    alloc: Global,
+    target: Target,
+    live: &Live,
+    err: &mut E,
+    records: &mut D,
+) -> Result<(), Unsaved>
+    requires target { IsTarget target }
+    requires few { (live_seen ⟦<dyn Device as Device>⟧ live.now).board.steps ≤ most_steps }
+    ensures unnamed { target.entry.command.now.record.now ≡ [] → OnErr result ⊥
+        × (D.files records.new ≡ D.files records.old) }
+    ensures ok { OnOk result (target.entry.command.now.record.now ≢ [] → IsSaved (command_state target.entry.command.now)
+        (live_seen ⟦<dyn Device as Device>⟧ live.now).console.bytes
+        (live_seen ⟦<dyn Device as Device>⟧ live.now).ticks.bytes
+        (replay_limit_lem (live_seen ⟦<dyn Device as Device>⟧ live.now).board.steps false)
+        (D.files records.old) (D.files records.new)) }
+    ensures writes { WritesOnly target.entry.command.now.record.now (D.files records.old) (D.files records.new) }
+    ensures failed { result ≡ Err unsaved.Failed → Rose (D.faults records.old) (D.faults records.new) }
+    ensures never_falls { D.faults records.old ≤ D.faults records.new }
+{
+    if target.command.record.is_empty() {
+        return Ok(());
+    }
+    if records.make(target.command.record) == Put::Failed {
+        let name = target.command.record.as_bytes();
+        tell_of(err, name, b": the folder can't be made\n");
+        return Err(Unsaved::Failed);
+    }
+    write_record(alloc, target, live, err, records, RunEnd::Limit)
+}
+
 /// Writes the record now, if the command names a folder for it. Says what became of it.
 pub(crate) fn save_now<E: Sink, D: RecordFolder>(
     alloc: Global,
@@ -100,13 +140,15 @@ pub(crate) fn save_now<E: Sink, D: RecordFolder>(
     end: RunEnd,
 )
     requires target { IsTarget target }
-    requires few { (live_seen ⟦<dyn Device as Device>⟧ live.now).board.steps ≤ most_steps }
+    requires sound { IsSound (live_seen ⟦<dyn Device as Device>⟧ live.now) }
     ensures saves { Saves (command_state target.entry.command.now) (live_seen ⟦<dyn Device as Device>⟧ live.now) end
         (messages ⟦<E as Sink>⟧ err.old) (messages ⟦<E as Sink>⟧ err.new)
         (store ⟦<D as RecordFolder>⟧ records.old) (store ⟦<D as RecordFolder>⟧ records.new) }
-    ensures writes { WritesOnly target.entry.command.now.record.now (D.files records.old) (D.files records.new) }
-    ensures never_falls { D.faults records.old ≤ D.faults records.new }
+    ensures journal { (now : Around) → Journaled (command_state target.entry.command.now) None end
+        (live_seen ⟦<dyn Device as Device>⟧ live.now) now (store ⟦<D as RecordFolder>⟧ records.old)
+        (live_seen ⟦<dyn Device as Device>⟧ live.now) now (store ⟦<D as RecordFolder>⟧ records.new) }
 {
+    writing_law();
     if target.command.record.is_empty() {
         tell(err, b"nothing is saved without --record");
         return;

@@ -7,6 +7,7 @@ mod conversation;
 mod dot_line;
 mod host;
 mod input;
+mod journal;
 mod keeping;
 mod live;
 mod memory;

@@ -1,6 +1,6 @@
 //! An input and a folder in memory.
 
-ghost use Rattle.std.specs.Prelude.{◌≡◌, ◌≢◌, ◌≤◌, ◌<◌, ◌-◌, ℕ, List, IsTrue, OnOk, OnErr, length, take, slice_index};
+ghost use Rattle.std.specs.Prelude.{◌≡◌, ◌≢◌, ◌≤◌, ◌<◌, ◌-◌, ◌++◌, ℕ, List, IsTrue, IfSome, IsSomeAnd, OnOk, OnErr, length, take, slice_index};
 ghost use Rattle.std.specs.List.{All};
 ghost use Rattle.wind_base.specs.Limits.{longest_chunk};
 ghost use Rattle.wind_outside.specs.Counts.{Rose};
@@ -150,6 +150,20 @@ impl MemRecordFolder {
         Ok(())
     }
 
+    // The bytes of a file with more at its end; none if there is no such file, or if memory ran out.
+    fn longer(&self, alloc: Global, name: &str, bytes: &[u8]) -> Option<Vec<u8>>
+        ensures { IfSome result (λ text. IsSomeAnd (files_of self.now name.now) (λ own. text.items ≡ own ++ bytes.now)) }
+    {
+        let own = self.files.get(name)?;
+        let Ok(mut text) = Vec::from_slice(alloc, own) else {
+            return None;
+        };
+        match text.extend_from_slice(bytes) {
+            Ok(()) => Some(text),
+            Err(AllocError) => None,
+        }
+    }
+
     /// The bytes of the file with this name.
     pub fn file(&self, name: &str) -> Option<&[u8]> {
         self.files.get(name).map(|bytes| bytes.as_slice())
@@ -163,6 +177,13 @@ impl RecordFolder for MemRecordFolder {
     ghost files = { λ f. Some (files_of f) };
 
     ghost faults = { λ f. f.calls.faults };
+
+    fn make(&mut self, _name: &str) -> Put {
+        if self.calls.count() {
+            return Put::Failed;
+        }
+        Put::Done
+    }
 
     fn has(&mut self, name: &str) -> Presence {
         if self.calls.count() {
@@ -179,6 +200,23 @@ impl RecordFolder for MemRecordFolder {
             return Put::Failed;
         }
         match self.put_file(alloc, name, bytes) {
+            Ok(()) => Put::Done,
+            Err(AllocError) => {
+                self.calls.note_fault();
+                Put::Failed
+            }
+        }
+    }
+
+    fn append(&mut self, alloc: Global, name: &str, bytes: &[u8]) -> Put {
+        if self.calls.count() {
+            return Put::Failed;
+        }
+        let Some(text) = self.longer(alloc, name, bytes) else {
+            self.calls.note_fault();
+            return Put::Failed;
+        };
+        match self.put_file(alloc, name, &text) {
             Ok(()) => Put::Done,
             Err(AllocError) => {
                 self.calls.note_fault();

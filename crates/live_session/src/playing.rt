@@ -1,13 +1,13 @@
 //! Plays a live session.
 
-ghost use Rattle.std.specs.Prelude.{◌≡◌, ◌≢◌, ◌⊎◌, ◌≤◌, Some, IfOk, IfErr, OnOk, length, map};
+ghost use Rattle.std.specs.Prelude.{◌≡◌, ◌≢◌, ◌⊎◌, ◌≤◌, List, [], Option, Some, IfOk, IfErr, OnOk, length, map};
 ghost use Rattle.wind_base.specs.Limits.{most_slots};
 ghost use Rattle.wind_outside.specs.Counts.{Rose};
-ghost use Rattle.wind_outside.specs.Devices.{slots_of};
+ghost use Rattle.wind_outside.specs.Devices.{DeviceState, slots_of};
 ghost use Rattle.wind_session.specs.Keeping.{KeepsFiles};
 ghost use Rattle.live_session.specs.Command.{command_of as command_of_lem};
 ghost use Rattle.live_session.specs.LiveAround.{KeepsLive, live_around};
-ghost use Rattle.live_session.specs.Seen.{live_seen, Begins};
+ghost use Rattle.live_session.specs.Seen.{live_seen, Begins, IsSound};
 ghost use Rattle.live_session.specs.Session.{IsSession, Leaves, setup_of, status_unless};
 ghost use Rattle.live_session.specs.Words.{command_state, IsTarget};
 ghost use Rattle.live_session.specs.declared.status.Status.TheVariants as status;
@@ -15,9 +15,9 @@ ghost use Rattle.live_session.specs.declared.status.Status.TheVariants as status
 use crate::command::{Command, command_of};
 use crate::conversation::converse;
 use crate::input::Input;
-use crate::keeping::{may_record, write_record};
+use crate::keeping::{may_record, open_record, write_record};
 use crate::live::Live;
-use crate::messages::{tell, tell_no_memory};
+use crate::messages::{tell, tell_no_memory, tell_of};
 use crate::record::Record;
 use crate::record_folder::RecordFolder;
 use crate::saving::{Target, Unsaved, paths_of};
@@ -28,10 +28,12 @@ use wind_base::NoMemory;
 use wind_outside::{Device, Folder, Sink, Slots};
 use wind_session::{Board, CommandErr, tell_usage};
 
-// Says why a session ended.
-fn tell_status<E: Sink>(err: &mut E, status: Status) {
+// Says why a session ended before its record was written at its end.
+fn tell_status<E: Sink>(err: &mut E, target: Target, status: Status) {
+    let name = target.command.record.as_bytes();
     match status {
-        Status::Ended | Status::Usage | Status::Unrecorded => {}
+        Status::Ended | Status::Usage => {}
+        Status::Unrecorded => tell_of(err, name, b": the record was not written\n"),
         Status::ReadFault => tell(err, b"reading failed"),
         Status::WriteFault => tell(err, b"writing failed"),
         Status::NoMemory => tell_no_memory(err),
@@ -70,7 +72,55 @@ fn boot(alloc: Global, command: &Command, devices: Slots) -> Result<Live, NoMemo
     }
 }
 
-// Plays the session of a command, and writes its record at its end.
+// Plays a session that begins, and writes its record at its end.
+fn play_begun<I: Input, F: Folder, O: Sink, E: Sink, D: RecordFolder>(
+    alloc: Global,
+    target: Target,
+    live: &mut Live,
+    input: &mut I,
+    folder: &mut F,
+    out: &mut O,
+    err: &mut E,
+    records: &mut D,
+) -> Status
+    requires target { IsTarget target }
+    requires empty { (live_seen ⟦<dyn Device as Device>⟧ live.old).console.bytes ≡ [] }
+    requires sound { IsSound (live_seen ⟦<dyn Device as Device>⟧ live.old) }
+    ensures leaves { (devices : List (Option DeviceState))
+        → Begins (setup_of (command_state target.entry.command.now) devices) (live_seen ⟦<dyn Device as Device>⟧ live.old)
+        → Leaves result (Some (command_state target.entry.command.now)) devices
+        (live_around ⟦<I as Input>⟧ ⟦<F as Folder>⟧ ⟦<O as Sink>⟧ ⟦<D as RecordFolder>⟧
+        input.old folder.old out.old records.old)
+        (live_around ⟦<I as Input>⟧ ⟦<F as Folder>⟧ ⟦<O as Sink>⟧ ⟦<D as RecordFolder>⟧
+        input.new folder.new out.new records.new) }
+    ensures read_fault { result ≡ status.ReadFault
+        → Rose (I.faults input.old) (I.faults input.new) ⊎ Rose (F.faults folder.old) (F.faults folder.new) }
+    ensures fault { result ≡ status.WriteFault → Rose (O.faults out.old) (O.faults out.new) }
+    ensures known { result ≢ status.Usage }
+    ensures keeps { KeepsFiles ⟦<F as Folder>⟧ ⟦<O as Sink>⟧ folder.old out.old folder.new out.new }
+    ensures input_faults { I.faults input.old ≤ I.faults input.new }
+    ensures record_faults { D.faults records.old ≤ D.faults records.new }
+{
+    if !may_record(err, records, target) {
+        return Status::Unrecorded;
+    }
+    if let Err(failure) = open_record(alloc, target, live, err, records) {
+        return status_after(Status::Ended, Err(failure));
+    }
+    writing_law();
+    let closing = converse(alloc, target, live, input, folder, out, err, records);
+    tell_status(err, target, closing.status);
+    if target.command.record.is_empty() {
+        return closing.status;
+    }
+    if closing.unsaved.is_some() {
+        return closing.status;
+    }
+    let written = write_record(alloc, target, live, err, records, closing.end);
+    status_after(closing.status, written)
+}
+
+// Plays the session of a command on a board with these devices.
 fn session<I: Input, F: Folder, O: Sink, E: Sink, D: RecordFolder>(
     alloc: Global,
     target: Target,
@@ -97,26 +147,17 @@ fn session<I: Input, F: Folder, O: Sink, E: Sink, D: RecordFolder>(
     ensures input_faults { I.faults input.old ≤ I.faults input.new }
     ensures record_faults { D.faults records.old ≤ D.faults records.new }
 {
-    if !may_record(err, records, target) {
-        return Status::Unrecorded;
-    }
     let Ok(mut live) = boot(alloc, target.command, devices) else {
         tell_no_memory(err);
         return Status::NoMemory;
     };
-    writing_law();
-    let closing = converse(alloc, target, &mut live, input, folder, out, err, records);
-    tell_status(err, closing.status);
-    if target.command.record.is_empty() {
-        return closing.status;
-    }
-    let written = write_record(alloc, target, &live, err, records, closing.end);
-    status_after(closing.status, written)
+    play_begun(alloc, target, &mut live, input, folder, out, err, records)
 }
 
 /// Plays the session that the arguments ask for, with the lines of the input, on a board with these
 /// devices. If a record is asked for, one that is there stays unless the arguments say that it is
-/// replaced; then nothing is played. The record is written at the end.
+/// replaced; then nothing is played. Nothing is played either if its folder can't be made or its
+/// files can't be written. The record is written at the end.
 pub fn play_live<'a, I: Input, F: Folder, O: Sink, E: Sink, D: RecordFolder>(
     alloc: Global,
     words: &'a [&'a str],

@@ -4,7 +4,7 @@ ghost use Rattle.std.specs.Prelude.{◌≡◌, ℕ, ◌≤◌, Option, IfSome};
 ghost use Rattle.wind_outside.specs.Counts.{Rose};
 ghost use Rattle.wind_outside.specs.Files.{Files};
 ghost use Rattle.wind_outside.specs.declared.sink.Put.TheVariants as puts;
-ghost use Rattle.live_session.specs.Folder.{IsPresence, Replaced};
+ghost use Rattle.live_session.specs.Folder.{IsPresence, Lengthened, Replaced};
 ghost use Rattle.live_session.specs.declared.record_folder.Presence.TheVariants as presence;
 
 use std::alloc::Global;
@@ -30,6 +30,12 @@ pub trait RecordFolder {
 
     ghost faults: { Self → ℕ };
 
+    /// Makes the folder with this name, if it isn't there. That can fail, and counts as a fault.
+    fn make(&mut self, name: &str) -> Put
+        ensures kept { files self.new ≡ files self.old }
+        ensures failed { result ≡ puts.Failed → Rose (faults self.old) (faults self.new) }
+        ensures never_falls { faults self.old ≤ faults self.new };
+
     /// Returns whether there is a file with this name.
     fn has(&mut self, name: &str) -> Presence
         ensures kept { files self.new ≡ files self.old }
@@ -39,9 +45,19 @@ pub trait RecordFolder {
 
     /// Writes the file with this name beside its place, and then puts it there, instead of a file
     /// that may be there. Writing can fail, and counts as a fault; then the files that a contract
-    /// sees are as before. The real folder may keep a part of the new file beside its place.
+    /// sees are as before. The real folder fails if a file is beside the place already, and may keep
+    /// a part of a new one there if it can't remove it.
     fn replace(&mut self, alloc: Global, name: &str, bytes: &[u8]) -> Put
         ensures done { result ≡ puts.Done → Replaced (files self.old) (files self.new) name.now bytes.now }
+        ensures kept { result ≡ puts.Failed → files self.new ≡ files self.old }
+        ensures failed { result ≡ puts.Failed → Rose (faults self.old) (faults self.new) }
+        ensures never_falls { faults self.old ≤ faults self.new };
+
+    /// Adds bytes at the end of the file with this name, which must be there. Writing can fail, and
+    /// counts as a fault; then the file is cut back to its length, and the files that a contract sees
+    /// are as before. The real folder may leave a part of the bytes if it can't cut the file back.
+    fn append(&mut self, alloc: Global, name: &str, bytes: &[u8]) -> Put
+        ensures done { result ≡ puts.Done → Lengthened (files self.old) (files self.new) name.now bytes.now }
         ensures kept { result ≡ puts.Failed → files self.new ≡ files self.old }
         ensures failed { result ≡ puts.Failed → Rose (faults self.old) (faults self.new) }
         ensures never_falls { faults self.old ≤ faults self.new };

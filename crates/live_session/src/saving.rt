@@ -1,10 +1,10 @@
 //! The files of a record.
 
-ghost use Rattle.std.specs.Prelude.{◌≡◌, ◌≤◌, ◌++◌, Err, IfOk, OnOk, OnErr, string_bytes};
+ghost use Rattle.std.specs.Prelude.{◌≡◌, ◌⊎◌, ◌≤◌, ◌++◌, Err, IfOk, OnOk, OnErr, string_bytes};
 ghost use Rattle.wind_base.specs.Limits.{most_steps};
 ghost use Rattle.wind_outside.specs.Counts.{Rose};
-ghost use Rattle.live_session.specs.Folder.{Replaced};
-ghost use Rattle.live_session.specs.Saving.{command_text as command_text_lem, replay_limit as replay_limit_lem, profile_digit as profile_digit_lem, board_digit as board_digit_lem, word_line, ArePaths, IsFree, IsTaken, IsSaved, KeepsOthers};
+ghost use Rattle.live_session.specs.Folder.{Lengthened, Replaced};
+ghost use Rattle.live_session.specs.Saving.{command_text as command_text_lem, replay_limit as replay_limit_lem, profile_digit as profile_digit_lem, board_digit as board_digit_lem, command_path, ticks_path, word_line, ArePaths, IsAdded, IsFree, IsTaken, IsSaved, IsSavedInPart, KeepsOthers};
 ghost use Rattle.live_session.specs.Words.{command_state, IsTarget};
 ghost use Rattle.live_session.specs.declared.saving.Claim.TheVariants as claims;
 ghost use Rattle.live_session.specs.declared.saving.Unsaved.TheVariants as unsaved;
@@ -186,6 +186,67 @@ fn write<D: RecordFolder>(
     }
 }
 
+// Adds bytes at the end of one file.
+fn lengthen<D: RecordFolder>(
+    alloc: Global,
+    records: &mut D,
+    path: &str,
+    bytes: &[u8],
+) -> Result<(), Unsaved>
+    ensures ok { OnOk result (Lengthened (D.files records.old) (D.files records.new) path.now bytes.now) }
+    ensures err { OnErr result (D.files records.new ≡ D.files records.old) }
+    ensures failed { result ≡ Err unsaved.Failed → Rose (D.faults records.old) (D.faults records.new) }
+    ensures never_falls { D.faults records.old ≤ D.faults records.new }
+{
+    match records.append(alloc, path, bytes) {
+        Put::Done => Ok(()),
+        Put::Failed => Err(Unsaved::Failed),
+    }
+}
+
+/// Adds an event to the files of a record: its line to the tick file, and then its bytes to the
+/// console file. The line comes first: a tick file without a line that brings bytes would let a
+/// replay read the console file on demand.
+pub(crate) fn add_to_files<D: RecordFolder>(
+    alloc: Global,
+    records: &mut D,
+    target: Target,
+    line: &[u8],
+    bytes: &[u8],
+) -> Result<(), Unsaved>
+    requires { IsTarget target }
+    ensures ok { OnOk result (IsAdded target.entry.command.now.record.now line.now bytes.now
+        (D.files records.old) (D.files records.new)) }
+    ensures err { OnErr result ((D.files records.new ≡ D.files records.old)
+        ⊎ Lengthened (D.files records.old) (D.files records.new) (ticks_path target.entry.command.now.record.now) line.now) }
+    ensures others { KeepsOthers target.entry.command.now.record.now (D.files records.old) (D.files records.new) }
+    ensures failed { result ≡ Err unsaved.Failed → Rose (D.faults records.old) (D.faults records.new) }
+    ensures never_falls { D.faults records.old ≤ D.faults records.new }
+{
+    lengthen(alloc, records, &target.paths.ticks, line)?;
+    lengthen(alloc, records, &target.paths.console, bytes)
+}
+
+/// Writes the words with which windplay replays a record up to this limit.
+pub(crate) fn write_words<D: RecordFolder>(
+    alloc: Global,
+    records: &mut D,
+    target: Target,
+    limit: u64,
+) -> Result<(), Unsaved>
+    requires { IsTarget target }
+    ensures ok { OnOk result (Replaced (D.files records.old) (D.files records.new)
+        (command_path target.entry.command.now.record.now)
+        (command_text_lem (command_state target.entry.command.now) limit)) }
+    ensures err { OnErr result (D.files records.new ≡ D.files records.old) }
+    ensures others { KeepsOthers target.entry.command.now.record.now (D.files records.old) (D.files records.new) }
+    ensures failed { result ≡ Err unsaved.Failed → Rose (D.faults records.old) (D.faults records.new) }
+    ensures never_falls { D.faults records.old ≤ D.faults records.new }
+{
+    let words = command_text(alloc, target, limit)?;
+    write(alloc, records, &target.paths.command, &words)
+}
+
 /// Writes the files of a record: the console file, the tick file, and last the words with which
 /// windplay replays it.
 pub(crate) fn save<D: RecordFolder>(
@@ -198,6 +259,8 @@ pub(crate) fn save<D: RecordFolder>(
     requires { IsTarget target }
     ensures ok { OnOk result (IsSaved (command_state target.entry.command.now) record.now.console.bytes
         record.now.ticks.bytes limit (D.files records.old) (D.files records.new)) }
+    ensures parts { IsSavedInPart (command_state target.entry.command.now) record.now.console.bytes
+        record.now.ticks.bytes limit (D.files records.old) (D.files records.new) }
     ensures others { KeepsOthers target.entry.command.now.record.now (D.files records.old) (D.files records.new) }
     ensures failed { result ≡ Err unsaved.Failed → Rose (D.faults records.old) (D.faults records.new) }
     ensures never_falls { D.faults records.old ≤ D.faults records.new }

@@ -7,8 +7,9 @@ use Rattle.live_session.specs.Saving.{IsSaved, replay_limit}
 use Rattle.live_session.specs.Seen.{live_by}
 use Rattle.live_session.specs.Telling.{written_text}
 use Rattle.live_session.specs.Words.{command_state}
-use Rattle.live_session.proofs.OtherFiles.{named_by}
+use Rattle.live_session.proofs.OtherFiles.{named_by, writes_record}
 use Rattle.live_session.proofs.Outcomes.{ok_holds}
+use Rattle.live_session.proofs.SavedFiles.{journal_saved}
 use Rattle.live_session.proofs.keeping.save_now.Goals as goal
 
 -- the record was written, which was told
@@ -29,3 +30,16 @@ returns-then-is_ok-clause-saves g c =
     subst (λ (m : Messages). IsTold (written_text folder) m (messages g.E.Sink c.tell_of.new.err)) quiet
     (subst (λ (name : List ℕ). IsTold (written_text name) (messages g.E.Sink c.write_record.new.err) (messages g.E.Sink c.tell_of.new.err)) c.as_bytes-name.ensures.value c.tell_of.ensures.printed) in
     record { unnamed = λ e. absurd (named e); named = λ some. inl (saved, told) }
+
+pub returns-then-is_ok-clause-journal : goal.returns-then-is_ok-clause-journal
+returns-then-is_ok-clause-journal g c = λ now.
+    let folder = c.args.target.command.now.record.now in
+    let named : folder ≢ [] = named_by folder (sym c.is_empty.ensures ∙ c.if-is_empty.false) in
+    journal_saved c.writing_law.ensures.written _ _ _ _ _ _ (is_quiet c.args.end) c.requires.sound (writes_record _ _ _ named c.write_record.ensures.others) c.write_record.ensures.never_falls c.write_record.ensures.parts
+
+-- or wasn't
+pub returns-else-is_ok-clause-journal : goal.returns-else-is_ok-clause-journal
+returns-else-is_ok-clause-journal g c = λ now.
+    let folder = c.args.target.command.now.record.now in
+    let named : folder ≢ [] = named_by folder (sym c.is_empty.ensures ∙ c.if-is_empty.false) in
+    journal_saved c.writing_law.ensures.written _ _ _ _ _ _ (is_quiet c.args.end) c.requires.sound (writes_record _ _ _ named c.write_record.ensures.others) c.write_record.ensures.never_falls c.write_record.ensures.parts

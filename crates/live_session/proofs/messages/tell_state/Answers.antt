@@ -6,7 +6,7 @@ use Rattle.live_session.specs.Telling.{numbers_text}
 use Rattle.text_show.specs.Tasks.{task_table_of}
 use Rattle.live_session.proofs.messages.tell_state.Goals as goal
 
--- a text of three pieces, of which the first and the last are known
+-- a text of three pieces; the first and the last are known
 printed : (old new : Option (List ℕ)) (rose : Type 0) (first numbers last table : List ℕ) → first ≡ numbers → last ≡ table
     → IsPrinted old new (first ++ codes "\n" ++ last) rose → IsPrinted old new (numbers ++ codes "\n" ++ table) rose
 printed old new rose first numbers last table same like told =

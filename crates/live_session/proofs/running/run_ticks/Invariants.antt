@@ -1,19 +1,26 @@
 use Rattle.std.proofs.Common.{◌≡◌}
 use Rattle.wind_session.specs.Keeping.{around, messages}
+use Rattle.live_session.specs.Journal.{Journaled}
+use Rattle.live_session.specs.LiveAround.{store}
 use Rattle.live_session.specs.Moments.{Wherever, moment}
 use Rattle.live_session.specs.Seen.{live_by, Runs}
+use Rattle.live_session.specs.Words.{command_state}
 use Rattle.live_session.proofs.Ticking.{Ticking}
 use Rattle.live_session.proofs.running.run_ticks.Given as goal
 
--- so many ticks have come
+-- this many ticks have come
 abbrev pub invariant-loop : goal.invariant-loop
 invariant-loop g l =
     let live = live_by (λ d. (goal.Device-dyn g (d.vtable, d.value)).kind_of d.value) (λ d. (goal.Device-dyn g (d.vtable, d.value)).words_of d.value) in
     let before = around g.F.Folder g.O.Sink l.fn.folder l.fn.out in
     let now = around g.F.Folder g.O.Sink l.folder l.out in
+    let files = store g.D.RecordFolder l.fn.records in
+    let later = store g.D.RecordFolder l.records in
     record {
-      runs : Runs l.end l.command.modules.now (live l.fn.live) before (live l.live) now;
+      runs : Runs l.went.end l.target.command.now.modules.now (live l.fn.live) before (live l.live) now;
       console : (live l.live).console.bytes ≡ (live l.fn.live).console.bytes;
-      comes : Wherever l.command.modules.now (live l.fn.live) before
-          (λ shelf setup old. Ticking l.ticks l.command.quiet_after shelf setup old (live l.fn.live) before l.counter (moment (live l.live) now (messages g.E.Sink l.err) l.end));
+      comes : Wherever l.target.command.now.modules.now (live l.fn.live) before
+          (λ shelf setup old. Ticking l.ticks l.target.command.now.quiet_after shelf setup old (live l.fn.live) before files l.counter
+          (moment (live l.live) now (messages g.E.Sink l.err) later l.went.end l.went.unsaved));
+      journal : Journaled (command_state l.target.command.now) l.went.unsaved l.went.end (live l.fn.live) before files (live l.live) now later;
     }

@@ -1,0 +1,6 @@
+//! The files of a folder, each fetched once and kept.
+#![tactic(auto)]
+
+mod kept;
+
+pub use kept::{KeptFile, KeptFiles, Unkept};

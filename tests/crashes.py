@@ -1,0 +1,96 @@
+#!/usr/bin/env python3
+"""Kills live sessions between any two of their system calls, and replays what each leaves.
+
+What a session had shown has to be a prefix of what the replay of its record writes. A session is stopped at each
+of its system calls by ptrace, and killed there. Linux on x86-64 and AArch64 only. It prints a line for each session
+that differs, and one that counts them. It ends with 1 if one differs.
+
+usage: tests/crashes.py LIVE PLAY
+"""
+import ctypes
+import os
+import signal
+import subprocess
+import sys
+import tempfile
+
+TYPED = b'1+2\n.ticks 2\ns = semBCreate(0, 0)\nsemTake s, 2\n.ticks 3\nprintf("%d\\n", tickGet())\n'
+# Requests of ptrace, and an option of it: a child doesn't outlive its tracer.
+TRACE_ME, NEXT_CALL, SET_OPTIONS = 0, 24, 0x4200
+EXIT_KILL = 0x100000
+
+libc = ctypes.CDLL(None, use_errno=True)
+libc.ptrace.argtypes = [ctypes.c_long, ctypes.c_long, ctypes.c_void_p, ctypes.c_void_p]
+
+
+def start(program, folder, shown):
+    """A traced session, stopped before its first instruction."""
+    child = os.fork()
+    if child:
+        os.waitpid(child, 0)
+        libc.ptrace(SET_OPTIONS, child, None, EXIT_KILL)
+        return child
+    os.chdir(folder)
+    os.dup2(os.open('typed', os.O_RDONLY), 0)
+    os.dup2(shown, 1)
+    os.dup2(os.open('/dev/null', os.O_WRONLY), 2)
+    libc.ptrace(TRACE_ME, 0, None, None)
+    os.execv(program, [program, '--record=r', '--quiet-after=500'])
+    return None
+
+
+def killed_after(program, folder, count):
+    """What a session showed that was killed at its stop with this number, and whether it came so far."""
+    with open(os.path.join(folder, 'typed'), 'wb') as file:
+        file.write(TYPED)
+    path = os.path.join(folder, 'shown')
+    shown = os.open(path, os.O_WRONLY | os.O_CREAT, 0o600)
+    child = start(program, folder, shown)
+    os.close(shown)
+    came = True
+    for _ in range(count):
+        libc.ptrace(NEXT_CALL, child, None, None)
+        _, status = os.waitpid(child, 0)
+        if not os.WIFSTOPPED(status):
+            came = False
+            break
+    if came:
+        os.kill(child, signal.SIGKILL)
+        os.waitpid(child, 0)
+    with open(path, 'rb') as file:
+        return file.read(), came
+
+
+def replayed(program, folder):
+    """What the replay of the record wrote; nothing if there is no record yet."""
+    try:
+        with open(os.path.join(folder, 'r', 'command.txt'), encoding='utf-8') as file:
+            words = file.read().split('\n')[:-1]
+    except FileNotFoundError:
+        return b''
+    done = subprocess.run([program, *words], cwd=folder, capture_output=True, timeout=100)
+    return done.stdout
+
+
+def main():
+    """Kills a session at each of its stops."""
+    if len(sys.argv) != 3:
+        print(__doc__.strip().split('\n')[-1], file=sys.stderr)
+        return 2
+    live, play = (os.path.abspath(path) for path in sys.argv[1:])
+    count = differing = 0
+    came = True
+    while came:
+        with tempfile.TemporaryDirectory() as folder:
+            count += 1
+            shown, came = killed_after(live, folder, count)
+            again = replayed(play, folder)
+            if not again.startswith(shown) or (not came and again != shown):
+                differing += 1
+                print(f'killed at stop {count}: differs')
+    print(f'killed sessions: {count}, differing: {differing}')
+    return 1 if differing else 0
+
+
+if __name__ == '__main__':
+    sys.exit(main())
