@@ -4,3 +4,4 @@ mod Taking
 mod Reading
 mod InterruptKey
 mod Moving
+pub mod Targets

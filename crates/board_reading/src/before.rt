@@ -6,15 +6,21 @@ ghost use Rattle.wind_base.specs.Limits.{most_steps};
 ghost use Rattle.kernel_world.specs.Seen.{world_seen};
 ghost use Rattle.board_trace.specs.WindMachineMachine.{actor_of as actor_of_lem, may_exhaust_memory};
 ghost use Rattle.board_player.specs.Seen.{seen};
+ghost use Rattle.ppc_core.specs.Registers.{in_ra_or_0};
+ghost use Rattle.board_trace.specs.Causes.{target_of, effective_address as effective_address_lem, word_there};
 ghost use Rattle.board_trace.specs.Before.{before_step, call_there, counter_at, gate_there, has_interrupt_key as has_interrupt_key_lem, is_on_processor as is_on_processor_lem, owner_named as owner_named_lem};
 
 use board_player::{Board, Next, Phase, brought, chunk_len};
 use board_trace::{BeforeStep, mutex_of};
 use id_table::Ident;
 use kernel_world::{Actor, Call, World, caller_regs, gate_at, is_shell, read_call};
+use ppc_word::fields::{ra, rb, si};
 use tick_file::Event;
-use wind_base::{Gate, NoMemory};
+use wind_base::{Gate, NoMemory, Regs};
 use wind_outside::Device;
+
+// The primary opcode of loads and stores whose data address is that of two registers.
+const INDEXED: u32 = 31;
 
 /// Who makes a step, if a task or a routine does.
 pub fn actor_of(next: &Next) -> Option<Actor>
@@ -71,6 +77,51 @@ fn gate_there_at(world: &World, at: Option<u32>) -> Option<Gate>
     gate_at(world.board, at?)
 }
 
+// The word at an address that is no gate's, if it can be fetched.
+fn word_at(world: &World, at: Option<u32>, gate: Option<Gate>) -> Option<u32>
+    ensures { result ≡ word_there (world_seen ⟦<dyn Device as Device>⟧ world.now) at gate }
+{
+    match (at, gate) {
+        (Some(at), None) => world.bus.fetch(at),
+        (None, _) | (Some(_), Some(_)) => None,
+    }
+}
+
+// (RA|0) of a word: the content of a register, or 0 in place of that of register 0.
+#[tactic(auto, using(crate::proofs::Targets::base_is))]
+fn base_of(regs: &Regs, word: u32) -> u32
+    ensures { result ≡ in_ra_or_0 regs.now word }
+{
+    let register = ra(word);
+    if register == 0 {
+        0
+    } else {
+        regs.gpr[register as usize]
+    }
+}
+
+// The effective address of the load or store that a word is.
+#[tactic(auto, using(crate::proofs::Targets::indexed_is))]
+fn effective_address(regs: &Regs, word: u32) -> u32
+    ensures { result ≡ effective_address_lem regs.now word }
+{
+    let base = base_of(regs, word);
+    if word >> 26 == INDEXED {
+        base.wrapping_add(regs.gpr[rb(word) as usize])
+    } else {
+        base.wrapping_add(si(word))
+    }
+}
+
+// The effective address of the word that a task or routine executes.
+fn target_at(world: &World, next: &Next, word: Option<u32>) -> Option<u32>
+    ensures { result ≡ target_of (world_seen ⟦<dyn Device as Device>⟧ world.now) (actor_of_lem next.now) word }
+{
+    let who = actor_of(next)?;
+    let regs = caller_regs(&world.kern, &world.watch, &who);
+    Some(effective_address(&regs, word?))
+}
+
 // Whether one of these bytes is 0x03, the interrupt key's.
 fn has_interrupt(bytes: &[u8]) -> bool
     ensures { result ≡ list_any (λ b. b == 3) bytes.now }
@@ -111,6 +162,8 @@ pub fn look_before(board: &Board) -> Result<BeforeStep, NoMemory>
     let at = counter_of(world, board.phase(), &next);
     let gate = gate_there_at(world, at);
     let call = call_at(world, &next, gate);
+    let word = word_at(world, at, gate);
+    let target = target_at(world, &next, word);
     let owner = owner_named(world, &call);
     let left = board.left();
     let interrupt_key = has_interrupt_key(&next, left);
@@ -120,6 +173,8 @@ pub fn look_before(board: &Board) -> Result<BeforeStep, NoMemory>
         at,
         gate,
         call,
+        word,
+        target,
         owner,
         time: board.time(),
         step: board.steps() + 1,

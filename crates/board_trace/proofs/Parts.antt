@@ -10,6 +10,7 @@ use Rattle.kernel_world.specs.declared.reply.Reply.TheVariants.{Answer, Refusal,
 use Rattle.wind_machine.specs.declared.next.Next.{Next}
 use Rattle.wind_machine.specs.declared.next.Next.TheVariants.{Deliver, Come, Arrive, Routine, Act, Load, Jump, Over}
 use Rattle.board_changes.specs.declared.change.Change.{Change}
+use Rattle.board_trace.specs.Causes.{cause_of}
 use Rattle.board_trace.specs.Level.{is_exception, exception_told, is_abort, faults, routine_ends, may_begin, begins, routines}
 use Rattle.board_trace.specs.Messages.{served_in, sent_to, then_queued, messages_of, messages_by, messages}
 use Rattle.board_trace.specs.Outside.{from_outside, is_last, switches}
@@ -17,6 +18,7 @@ use Rattle.board_trace.specs.Owners.{freed, owned, owners_at, same_owner}
 use Rattle.board_trace.specs.Steps.{called, causes, has_written, instruction_of, writes}
 use Rattle.board_trace.specs.Views.{SnapshotState}
 use Rattle.board_trace.specs.declared.messages.QueueSide.TheVariants.{Receivers, Senders}
+use Rattle.board_trace.specs.declared.cause.Cause.{Cause}
 use Rattle.board_trace.specs.declared.moment.BeforeStep.{BeforeStep}
 use Rattle.board_trace.specs.declared.moment.Level.{Level}
 use Rattle.board_trace.specs.declared.moment.AfterStep.{AfterStep}
@@ -32,7 +34,7 @@ pub record HoldsElse (P : Happening → Type 0) : Type 0 where
   pub jump : (time : ℕ) → P (told.Jump time)
   pub file : (name : List ℕ) → P (told.File name)
   pub runs : (who : ℕ) (last : Option ℕ) → P (told.Runs who last)
-  pub exception : (who : Actor) (at : ℕ) → P (told.Exception who at)
+  pub exception : (who : Actor) (at : ℕ) (cause : Cause) → P (told.Exception who at cause)
   pub abort : P told.Abort
   pub queued : (queue : ℕ) (sender : Actor) → P (told.Queued queue sender)
   pub handed : (queue : ℕ) (sender : Actor) (receiver : ℕ) → P (told.HandedOver queue sender receiver)
@@ -103,14 +105,14 @@ module _ (P : Happening → Type 0) where
     each_switch last None = tt
     each_switch last (Some who) = elim (is_last last who) as (λ b. Each (cond b [] (told.Runs who last ∷ []))) [ true ↦ tt | false ↦ (is.runs who last, tt) ]
 
-    exceptions : (who : Option Actor) (at : Option ℕ) (b : Bool) → Each (cond b (exception_told who at) [])
-    exceptions (Some who) (Some at) true = (is.exception who at, tt)
-    exceptions (Some who) None true = tt
-    exceptions None at true = tt
-    exceptions who at false = tt
+    exceptions : (c : BeforeStep) (written : List ℕ) (who : Option Actor) (at : Option ℕ) (b : Bool) → Each (cond b (exception_told c written who at) [])
+    exceptions c written (Some who) (Some at) true = (is.exception who at (cause_of written at c.word c.target), tt)
+    exceptions c written (Some who) None true = tt
+    exceptions c written None at true = tt
+    exceptions c written who at false = tt
 
-    pub each_fault : (c : BeforeStep) (r : AfterStep) (e : Bool) → Each (faults c r e)
-    each_fault c r e = each_both (cond e (exception_told c.actor c.at) []) (cond (is_abort c r e) (told.Abort ∷ []) []) (exceptions c.actor c.at e) (each_if (is_abort c r e) told.Abort is.abort)
+    pub each_fault : (c : BeforeStep) (r : AfterStep) (written : List ℕ) (e : Bool) → Each (faults c r written e)
+    each_fault c r written e = each_both (cond e (exception_told c written c.actor c.at) []) (cond (is_abort c r e) (told.Abort ∷ []) []) (exceptions c written c.actor c.at e) (each_if (is_abort c r e) told.Abort is.abort)
 
     sent : (sender : Actor) (queue : ℕ) (o : Option ℕ) → Each (sent_to sender queue o)
     sent sender queue None = (is.queued queue sender, tt)
@@ -158,8 +160,8 @@ module _ (P : Happening → Type 0) where
     -- what makes a step and how it goes
     pub each_cause : ((who : Actor) (c : Call) (r : Reply) → P (told.Called who c r)) → (c : BeforeStep) (before after : SnapshotState) (r : AfterStep) (written : List ℕ) → Each (causes c before after r written)
     each_cause calls c before after r written =
-        let ends = faults c r (is_exception c (has_written written)) in
+        let ends = faults c r written (is_exception c (has_written written)) in
         let call = called c.actor c.call r.reply in
         each_both (from_outside c.next c r) (switches before.last after.last ++ (call ++ ends)) (each_outside c.next c r)
         (each_both (switches before.last after.last) (call ++ ends) (each_switch before.last after.last)
-        (each_both call ends (each_call calls c.actor c.call r.reply) (each_fault c r (is_exception c (has_written written)))))
+        (each_both call ends (each_call calls c.actor c.call r.reply) (each_fault c r written (is_exception c (has_written written)))))

@@ -15,6 +15,7 @@ use Rattle.kernel_world.specs.CallWords.{call_by}
 use Rattle.kernel_world.specs.declared.actor.Actor.{Actor}
 use Rattle.kernel_world.specs.declared.call.Call.{Call}
 use Rattle.wind_machine.specs.State.{State}
+use Rattle.board_trace.specs.Causes.{target_of, word_there}
 use Rattle.board_trace.specs.Mutexes.{mutex_named, owner_in}
 use Rattle.wind_machine.specs.Feed.{chunk, brought}
 use Rattle.wind_machine.specs.Next.{next}
@@ -92,6 +93,9 @@ gate_of s = gate_there s.world (at_of s)
 abbrev pub call_of : State → Option Call
 call_of s = call_there s.world (actor_of (next s)) (gate_of s)
 
+abbrev pub word_of : State → Option ℕ
+word_of s = word_there s.world (at_of s) (gate_of s)
+
 -- what is read of a state before the next step
 abbrev pub before_step : State → BeforeStep
 before_step s = record {
@@ -100,6 +104,8 @@ before_step s = record {
   at = at_of s;
   gate = gate_of s;
   call = call_of s;
+  word = word_of s;
+  target = target_of s.world (actor_of (next s)) (word_of s);
   owner = owner_named s.world (call_of s);
   time = s.time;
   step = s.steps + 1;

@@ -10,6 +10,7 @@ use Rattle.wind_machine.specs.declared.next.Next.{Next}
 use Rattle.wind_machine.specs.declared.next.Next.TheVariants.{Deliver, Come}
 use Rattle.wind_machine.specs.declared.phase.Phase.{Phase}
 use Rattle.wind_machine.specs.declared.phase.Phase.TheVariants as phases
+use Rattle.board_trace.specs.Causes.{cause_of}
 use Rattle.board_trace.specs.declared.moment.BeforeStep.{BeforeStep}
 use Rattle.board_trace.specs.declared.moment.Level.{Level}
 use Rattle.board_trace.specs.declared.moment.AfterStep.{AfterStep}
@@ -20,10 +21,10 @@ use Rattle.board_trace.specs.declared.happening.Happening.TheVariants as told
 abbrev pub is_exception : BeforeStep → Bool → Bool
 is_exception c wrote = wrote && is_some c.at && is_none c.call
 
-abbrev pub exception_told : Option Actor → Option ℕ → List Happening
-exception_told (Some who) (Some at) = told.Exception who at ∷ []
-exception_told None at = []
-exception_told (Some who) None = []
+abbrev pub exception_told : BeforeStep → List ℕ → Option Actor → Option ℕ → List Happening
+exception_told c written (Some who) (Some at) = told.Exception who at (cause_of written at c.word c.target) ∷ []
+exception_told c written None at = []
+exception_told c written (Some who) None = []
 
 -- the shell is at its prompt
 abbrev pub is_idle : Phase → Bool
@@ -40,8 +41,8 @@ is_of_shell (Some who) = is_shell who
 abbrev pub is_abort : BeforeStep → AfterStep → Bool → Bool
 is_abort c r exception = c.interrupt_key || (exception && (is_of_shell c.actor && is_idle r.phase))
 
-abbrev pub faults : BeforeStep → AfterStep → Bool → List Happening
-faults c r exception = (if exception then exception_told c.actor c.at else []) ++ (if is_abort c r exception then told.Abort ∷ [] else [])
+abbrev pub faults : BeforeStep → AfterStep → List ℕ → Bool → List Happening
+faults c r written exception = (if exception then exception_told c written c.actor c.at else []) ++ (if is_abort c r exception then told.Abort ∷ [] else [])
 
 -- ---- interrupt routines
 -- the step is one of the active routine

@@ -1,6 +1,7 @@
 pub mod Views
 pub mod Waited
 pub mod Mutexes
+pub mod Causes
 pub mod Before
 pub mod Snapshots
 pub mod Errors

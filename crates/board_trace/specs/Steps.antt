@@ -64,7 +64,7 @@ causes c before after r written =
     from_outside c.next c r
     ++ (switches before.last after.last
     ++ (called c.actor c.call r.reply
-    ++ faults c r (is_exception c (has_written written))))
+    ++ faults c r written (is_exception c (has_written written))))
 
 -- the same, of what is read for a step
 abbrev pub causes_in : StepViews → List Happening

@@ -1,5 +1,6 @@
 //! What happens in a step.
 
+use crate::cause::Cause;
 use board_changes::Change;
 use id_table::Ident;
 use kernel_world::{Actor, Call, Reply};
@@ -46,6 +47,7 @@ pub enum Happening {
     Exception {
         who: Actor,
         at: u32,
+        cause: Cause,
     },
     /// The shell's line is aborted.
     Abort,

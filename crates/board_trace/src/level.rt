@@ -4,6 +4,7 @@ ghost use Rattle.std.specs.Prelude.{◌≡◌, ◌++◌, ◌∷◌, [], OnOk, if
 ghost use Rattle.board_trace.specs.Level.{begins as begins_lem, exception_told, is_abort as is_abort_lem, is_exception as is_exception_lem, is_idle as is_idle_lem, is_of_level as is_of_level_lem, is_of_shell as is_of_shell_lem, is_return as is_return_lem, may_begin as may_begin_lem, routine_ends as routine_ends_lem, routines};
 ghost use Rattle.board_trace.specs.Outside.{is_hearing as is_hearing_lem};
 
+use crate::cause::cause_of;
 use crate::happening::Happening;
 use crate::list::add;
 use crate::moment::{AfterStep, BeforeStep, Level};
@@ -40,20 +41,24 @@ pub(crate) fn add_if(
     Ok(())
 }
 
-/// Adds the exception that a step is, if it is one.
+/// Adds the exception that a step is, if it is one. The step wrote this.
 pub(crate) fn add_exception(
     list: &mut Vec<Happening>,
     is: bool,
     before_step: &BeforeStep,
+    written: &[u8],
 ) -> Result<(), NoMemory>
-    ensures { OnOk result (list.new.items ≡ list.old.items
-        ++ (if is then exception_told before_step.now.actor before_step.now.at else [])) }
+    ensures { OnOk result (list.new.items ≡ list.old.items ++ (if is
+        then exception_told before_step.now written.now before_step.now.actor before_step.now.at else [])) }
 {
     if !is {
         return Ok(());
     }
     match (before_step.actor, before_step.at) {
-        (Some(who), Some(at)) => add(list, Happening::Exception { who, at }),
+        (Some(who), Some(at)) => {
+            let cause = cause_of(written, at, before_step.word, before_step.target);
+            add(list, Happening::Exception { who, at, cause })
+        }
         (None, _) | (Some(_), None) => Ok(()),
     }
 }

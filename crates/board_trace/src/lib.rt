@@ -3,6 +3,7 @@
 #![tactic(auto)]
 
 mod calls;
+mod cause;
 mod errors;
 mod happening;
 mod laws;
@@ -16,6 +17,7 @@ mod snapshot;
 mod step;
 mod who;
 
+pub use cause::Cause;
 pub use errors::errno_named;
 pub use happening::Happening;
 pub use laws::{error_law, reply_law, run_spans_law, step_replay_law, time_law, wait_end_law};

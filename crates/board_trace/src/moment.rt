@@ -20,6 +20,10 @@ pub struct BeforeStep {
     pub gate: Option<Gate>,
     /// The call at the gate.
     pub call: Option<Call>,
+    /// The word at the address, if no gate is there and it can be fetched.
+    pub word: Option<u32>,
+    /// The data address of that word, if it is a load or store.
+    pub target: Option<u32>,
     /// The owner of the mutex that the call names, if there is such a mutex and it has one.
     pub owner: Option<u32>,
     /// Board time.

@@ -185,7 +185,7 @@ fn add_causes(
     add_switch(list, views.before, views.after)?;
     add_call(list, before_step, after_step.reply)?;
     let exception = is_exception(before_step, has_written(views.written));
-    add_exception(list, exception, before_step)?;
+    add_exception(list, exception, before_step, views.written)?;
     let aborts = is_abort(before_step, after_step, exception);
     add_if(list, aborts, Happening::Abort)
 }

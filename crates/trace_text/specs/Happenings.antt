@@ -5,6 +5,8 @@ use Rattle.kernel_world.specs.CallWords.{gate_of}
 use Rattle.kernel_world.specs.declared.call.Call.{Call}
 use Rattle.kernel_world.specs.declared.reply.Reply.{Reply}
 use Rattle.call_text.specs.Texts.{call_text, reply_text}
+use Rattle.board_trace.specs.declared.cause.Cause.{Cause}
+use Rattle.board_trace.specs.declared.cause.Cause.TheVariants as causes
 use Rattle.board_trace.specs.declared.happening.Happening.{Happening}
 use Rattle.board_trace.specs.declared.happening.Happening.TheVariants as told
 use Rattle.trace_text.specs.Changes.{change_text}
@@ -38,6 +40,17 @@ handed_text queue receiver = codes "hands a message of queue " ++ (decimal queue
 abbrev pub routine_text : ℕ → ℕ → List ℕ
 routine_text entry param = codes "routine " ++ (word_hex entry ++ (codes " begins with " ++ signed param))
 
+-- which exception is caused, after the address of its instruction
+abbrev pub cause_text : Cause → List ℕ
+cause_text (causes.Access target) = codes ": access to " ++ word_hex target
+cause_text (causes.Alignment target) = codes ": alignment of " ++ word_hex target
+cause_text (causes.Illegal word) = codes ": illegal word " ++ word_hex word
+cause_text causes.Trap = codes ": trap"
+cause_text causes.SystemCall = codes ": system call"
+
+abbrev pub exception_text : ℕ → Cause → List ℕ
+exception_text at cause = codes "exception at " ++ (word_hex at ++ cause_text cause)
+
 -- the text of a happening
 abbrev pub happening_text : Happening → List ℕ
 happening_text (told.Tick tick) = codes "tick " ++ decimal tick
@@ -48,7 +61,7 @@ happening_text (told.Jump time) = codes "nobody is ready until " ++ decimal time
 happening_text (told.File name) = codes "asks for the file " ++ quoted name
 happening_text (told.Runs who last) = runs_text last
 happening_text (told.Called who call reply) = called_text call reply
-happening_text (told.Exception who at) = codes "exception at " ++ word_hex at
+happening_text (told.Exception who at cause) = exception_text at cause
 happening_text told.Abort = codes "aborts its line"
 happening_text (told.Owned mutex owner) = codes "owns mutex " ++ decimal mutex
 happening_text (told.Freed mutex owner) = codes "no longer owns mutex " ++ decimal mutex

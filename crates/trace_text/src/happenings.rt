@@ -2,12 +2,12 @@
 
 ghost use Rattle.std.specs.Prelude.{◌≡◌, ◌≤◌, ◌+◌, ◌++◌, OnOk, codes, length};
 ghost use Rattle.wind_base.specs.OutBuf.{KeepsSpace};
-ghost use Rattle.trace_text.specs.Happenings.{called_text, handed_text, happening_text, instructions_text, instructions_word as instructions_word_lem, quoted, routine_text, runs_text};
+ghost use Rattle.trace_text.specs.Happenings.{called_text, cause_text, exception_text, handed_text, happening_text, instructions_text, instructions_word as instructions_word_lem, quoted, routine_text, runs_text};
 ghost use Rattle.trace_text.specs.Pieces.{word_hex};
 
 use crate::changes::add_change;
 use crate::pieces::{add, add_decimal, add_escaped, add_hex, add_signed, add_with};
-use board_trace::Happening;
+use board_trace::{Cause, Happening};
 use call_text::{add_call, add_reply};
 use id_table::Ident;
 use kernel_world::{Call, Reply};
@@ -68,12 +68,35 @@ fn add_routine(text: &mut Vec<u8>, entry: u32, param: u32) -> Result<(), NoMemor
     add_signed(text, param)
 }
 
+// Adds which exception is caused.
+fn add_cause(text: &mut Vec<u8>, cause: Cause) -> Result<(), NoMemory>
+    ensures { OnOk result (text.new.items ≡ text.old.items ++ cause_text cause) }
+{
+    match cause {
+        Cause::Access(target) => {
+            add(text, b": access to ")?;
+            add_hex(text, target)
+        }
+        Cause::Alignment(target) => {
+            add(text, b": alignment of ")?;
+            add_hex(text, target)
+        }
+        Cause::Illegal(word) => {
+            add(text, b": illegal word ")?;
+            add_hex(text, word)
+        }
+        Cause::Trap => add(text, b": trap"),
+        Cause::SystemCall => add(text, b": system call"),
+    }
+}
+
 // Adds that an exception is caused.
-fn add_exception(text: &mut Vec<u8>, at: u32) -> Result<(), NoMemory>
-    ensures { OnOk result (text.new.items ≡ text.old.items ++ (codes "exception at " ++ word_hex at)) }
+fn add_exception(text: &mut Vec<u8>, at: u32, cause: Cause) -> Result<(), NoMemory>
+    ensures { OnOk result (text.new.items ≡ text.old.items ++ exception_text at cause) }
 {
     add(text, b"exception at ")?;
-    add_hex(text, at)
+    add_hex(text, at)?;
+    add_cause(text, cause)
 }
 
 // The word for a number of instructions, after a blank.
@@ -115,7 +138,7 @@ pub(crate) fn add_happening(
         Happening::File(name) => add_quoted(text, b"asks for the file ", name.bytes()),
         Happening::Runs { last, .. } => add_runs(text, *last),
         Happening::Called { call, reply, .. } => add_called(text, scratch, call, reply),
-        Happening::Exception { at, .. } => add_exception(text, *at),
+        Happening::Exception { at, cause, .. } => add_exception(text, *at, *cause),
         Happening::Abort => add(text, b"aborts its line"),
         Happening::Owned { mutex, .. } => add_with(text, b"owns mutex ", u64::from(*mutex)),
         Happening::Freed { mutex, .. } => {

@@ -104,7 +104,7 @@ module _ (id : ℕ) where
     jump = λ time o. refl;
     file = λ name o. refl;
     runs = λ who last o. refl;
-    exception = λ who at o. refl;
+    exception = λ who at cause o. refl;
     abort = λ o. refl;
     queued = λ queue sender o. refl;
     handed = λ queue sender receiver o. refl;
