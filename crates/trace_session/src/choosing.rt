@@ -27,7 +27,8 @@ const BAD_TASKS: &str = "'--tasks <ID,..>' takes ids of tasks, separated by comm
 
 const BAD_KINDS: &str = "\
     '--kinds <KIND,..>' takes kinds, separated by commas: outside, runs, calls, exceptions, \
-    owners, messages, waits, tasks, priorities, watchdogs, modules, routines, output or instructions";
+    owners, messages, waits, tasks, priorities, watchdogs, modules, routines, output or \
+    instructions";
 
 const ONLY_EVENTS: &str = "only '--as events' takes --from, --to, --tasks and --kinds";
 
