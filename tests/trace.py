@@ -54,6 +54,12 @@ def run(program, session, *words):
     return done.returncode, done.stdout
 
 
+def is_refused(session, windtrace, words):
+    """The program refuses these options, with the status of invalid arguments."""
+    done = subprocess.run([windtrace, *words], cwd=session, capture_output=True, check=False)
+    return done.returncode == 1 and not done.stdout
+
+
 def faults(session, windtrace, windplay):
     """What is wrong with the traces of a session."""
     status, console = run(windplay, session)
@@ -112,7 +118,7 @@ def main():
         wrong += bool(found)
         for fault in found:
             print(f"{session.name}: {fault}")
-    taken = [words for words in REFUSED if run(windtrace, sessions[0], *words)[0] != 1] if sessions else []
+    taken = [words for words in REFUSED if sessions and not is_refused(sessions[0], windtrace, words)]
     for words in taken:
         print(f"{' '.join(words)} is not refused")
     without = list(missing(windtrace))

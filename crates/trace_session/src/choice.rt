@@ -11,7 +11,7 @@ use kernel_world::Actor;
 /// The kinds of happenings.
 #[derive(Clone, Copy, Debug, PartialEq, Eq)]
 pub enum Kind {
-    /// What comes from outside: ticks, bytes, interrupts, files, and time that passes while nobody runs.
+    /// What comes from outside: ticks, bytes, interrupts, files, and time while nobody runs.
     Outside,
     /// A task runs in place of another, or goes after the others of its priority.
     Runs,

@@ -26,8 +26,9 @@ const BAD_TO: &str = "'--to <STEP>' takes a number from 1 to 1000000000000";
 const BAD_TASKS: &str = "'--tasks <ID,..>' takes ids of tasks, separated by commas";
 
 const BAD_KINDS: &str = "\
-    '--kinds <KIND,..>' takes kinds, separated by commas: outside, runs, calls, exceptions, owners, \
-    messages, waits, tasks, priorities, watchdogs, modules, routines, output or instructions";
+    '--kinds <KIND,..>' takes kinds, separated by commas: outside, runs, calls, exceptions, \
+    owners, messages, waits, tasks, priorities, watchdogs, modules, routines, output or \
+    instructions";
 
 const ONLY_EVENTS: &str = "only '--as events' takes --from, --to, --tasks and --kinds";
 

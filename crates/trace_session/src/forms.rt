@@ -41,9 +41,8 @@ pub struct TracedRun {
     pub areas: Option<Areas>,
 }
 
-/// Makes steps, at most `limit`, and puts what happened in them in this form. Events are told of the choice
-/// alone. The modules that the
-/// steps need are fetched from the folder.
+/// Makes steps, at most `limit`, and puts what happened in them in this form. Events are told of
+/// the choice alone. The modules that the steps need are fetched from the folder.
 ///
 /// # Errors
 ///
@@ -61,11 +60,13 @@ pub fn trace_board<F: Folder, O: Sink>(
     requires fresh { (seen ⟦<dyn Device as Device>⟧ board.old).steps ≡ 0 }
     requires bound { limit ≤ most_steps }
     ensures told { IfOk result (λ t. Told
-        (TellsForm form (choice_state choice.now) t.areas t.end (seen ⟦<dyn Device as Device>⟧ board.old) (O.bytes out.old) (O.bytes out.new))
+        (TellsForm form (choice_state choice.now) t.areas t.end
+        (seen ⟦<dyn Device as Device>⟧ board.old) (O.bytes out.old) (O.bytes out.new))
         (record { files = F.files folder.old; name = modules.now }) (seen ⟦<dyn Device as Device>⟧ board.old) limit
         (seen ⟦<dyn Device as Device>⟧ board.new) (F.requests folder.old) (F.requests folder.new)) }
     ensures given_up { OnErr result (Told
-        (TellsLess form (choice_state choice.now) (seen ⟦<dyn Device as Device>⟧ board.old) (O.bytes out.old) (O.bytes out.new))
+        (TellsLess form (choice_state choice.now) (seen ⟦<dyn Device as Device>⟧ board.old)
+        (O.bytes out.old) (O.bytes out.new))
         (record { files = F.files folder.old; name = modules.now }) (seen ⟦<dyn Device as Device>⟧ board.old) limit
         (seen ⟦<dyn Device as Device>⟧ board.new) (F.requests folder.old) (F.requests folder.new)) }
     ensures read_fault { IfOk result (λ t. t.end ≡ ends.ReadFault → Rose (F.faults folder.old) (F.faults folder.new)) }

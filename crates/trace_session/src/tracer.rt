@@ -133,7 +133,8 @@ impl<'a> Tracer<'a> {
     ) -> Result<(), NoMemory>
         requires { count_in self.old.page.growing + count < 2 ^ 64 }
         ensures lines { OnOk result ((given : List ℕ) (made : List Line) → Ends given self.old.page made
-            → Ends given self.new.page (with_if (chosen (choice_state self.old.choice.now) step (Happening.Instructions who.now 1)) (record {
+            → Ends given self.new.page (with_if
+            (chosen (choice_state self.old.choice.now) step (Happening.Instructions who.now 1)) (record {
               time = time;
               step = step;
               name = name_of (snapshot_state self.old.reader.before) (subject_actor who.now);
@@ -165,7 +166,8 @@ impl<'a> Tracer<'a> {
             → before_step.now ≡ before_step_lem s → snapshot_state self.old.reader.before ≡ snapshot_of s.world
             → last_reply board.now ≡ step_reply said s
             → Ends given self.old.page made → Ends given self.new.page
-            (with_lines (chosen_in (choice_state self.old.choice.now) said s (seen ⟦<dyn Device as Device>⟧ board.now)) made)) }
+            (with_lines (chosen_in (choice_state self.old.choice.now) said s
+            (seen ⟦<dyn Device as Device>⟧ board.now)) made)) }
         ensures choice { OnOk result (self.new.choice ≡ self.old.choice) }
         ensures waits { OnOk result (count_in self.new.page.growing ≤ count_in self.old.page.growing + 1) }
         ensures before { OnOk result (snapshot_state self.new.reader.before
