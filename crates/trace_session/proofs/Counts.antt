@@ -87,15 +87,15 @@ called_none : (who : Option Actor) (c : Option Call) (r : Option Reply) → Neit
 called_none (Some who) (Some c) (Some r) = (refl, refl)
 called_none who c r = (refl, refl)
 
-exception_none : (who : Option Actor) (at : Option ℕ) → Neither (exception_told who at)
-exception_none (Some who) (Some at) = (refl, refl)
-exception_none None at = (refl, refl)
-exception_none (Some who) None = (refl, refl)
+exception_none : (c : BeforeStep) (written : List ℕ) (who : Option Actor) (at : Option ℕ) → Neither (exception_told c written who at)
+exception_none c written (Some who) (Some at) = (refl, refl)
+exception_none c written None at = (refl, refl)
+exception_none c written (Some who) None = (refl, refl)
 
-faults_none : (c : BeforeStep) (r : AfterStep) (exception : Bool) → Neither (faults c r exception)
-faults_none c r exception =
-    both_none (if exception then exception_told c.actor c.at else []) (if is_abort c r exception then told.Abort ∷ [] else [])
-    (if_none exception (exception_told c.actor c.at) [] (exception_none c.actor c.at) (refl, refl)) (if_none (is_abort c r exception) (told.Abort ∷ []) [] (refl, refl) (refl, refl))
+faults_none : (c : BeforeStep) (r : AfterStep) (written : List ℕ) (exception : Bool) → Neither (faults c r written exception)
+faults_none c r written exception =
+    both_none (if exception then exception_told c written c.actor c.at else []) (if is_abort c r exception then told.Abort ∷ [] else [])
+    (if_none exception (exception_told c written c.actor c.at) [] (exception_none c written c.actor c.at) (refl, refl)) (if_none (is_abort c r exception) (told.Abort ∷ []) [] (refl, refl) (refl, refl))
 
 freed_none : (mutex : ℕ) (owner : Option ℕ) → Neither (freed mutex owner)
 freed_none mutex None = (refl, refl)
@@ -157,7 +157,7 @@ module _ (c : BeforeStep) (before after : SnapshotState) (r : AfterStep) (writte
   causes_none =
       both_none (from_outside c.next c r) _ (outside_none c.next c r)
       (both_none (switches before.last after.last) _ (switches_none before.last after.last)
-      (both_none (called c.actor c.call r.reply) _ (called_none c.actor c.call r.reply) (faults_none c r (is_exception c wrote))))
+      (both_none (called c.actor c.call r.reply) _ (called_none c.actor c.call r.reply) (faults_none c r written (is_exception c wrote))))
 
   effects_told : OnlyText written (effects c before after r written)
   effects_told =
