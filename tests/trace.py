@@ -18,6 +18,14 @@ LINES = [
     (b"taskDelay 0\n", b"", rb"goes after the others of its priority"),
     (b"*0x1000 = 0x48000000\nkernelTimeSlice 1\nsp 0x1000\ntaskDelay 3\ntaskDelete 2\n", b"every 100 6\n",
      rb"goes after the others of its priority"),
+    # lwz r3, -4(r3); lwzx r3, r3, r4; lwarx r3, 0, r3; a word of zeros; trap; sc
+    (b"*0x1000 = 0x8063fffc\nsp 0x1000, 0x20000004\n", b"", rb"exception at 0x1000: access to 0x20000000"),
+    (b"*0x1000 = 0x7c63202e\nsp 0x1000, 0x20000000, 8\n", b"", rb"exception at 0x1000: access to 0x20000008"),
+    (b"*0x1000 = 0x7c601828\nsp 0x1000, 0x2001\n", b"", rb"exception at 0x1000: alignment of 0x2001"),
+    (b"sp 0x1000\n", b"", rb"exception at 0x1000: illegal word 0x0"),
+    (b"*0x1000 = 0x7fe00008\nsp 0x1000\n", b"", rb"exception at 0x1000: trap"),
+    (b"*0x1000 = 0x44000002\nsp 0x1000\n", b"", rb"exception at 0x1000: system call"),
+    (b"sp 0x20000000\n", b"", rb"exception at 0x20000000: access to 0x20000000"),
 ]
 # Options that choose events of a session, and the lines of its whole trace that they leave: by step, WHO and text.
 CHOICES = [
