@@ -80,6 +80,6 @@ abbrev pub EndsAt : Option ℕ → Stretch → Stretch → Type 0
 EndsAt None s to = GoesOn s to s.pc s.made
 EndsAt (Some next) s to = GoesOn s to next (s.made + 1)
 
--- the next instruction of a burst may be executed, and leads to this burst, these registers and this bus; or it goes on before it
+-- the next instruction of a burst may be executed: then it leads to this burst, these registers and this bus
 abbrev pub MayEnd : Stretch → Regs → BusState → Regs → BusState → Stretch → Type 0
 MayEnd s r b after bus to = (next : Option ℕ) × MayRun s.pc r b after bus next × EndsAt next s to

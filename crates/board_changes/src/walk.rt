@@ -1,7 +1,7 @@
 //! Searches by id along a list: each goes on where the one before it stopped. Over a list by rising
 //! id, searches for rising ids read it once together.
 
-ghost use Rattle.std.specs.Prelude.{◌≡◌, ◌≤◌, ℕ, true, length, option_copied};
+ghost use Rattle.std.specs.Prelude.{◌≡◌, ◌≤◌, ℕ, true, option_copied};
 ghost use Rattle.id_table.specs.Records.{StandsAt, of_id};
 ghost use Rattle.board_changes.specs.Walks.{HasPassed};
 

@@ -1,6 +1,6 @@
 //! The decoded words of the pages that instructions were executed in.
 
-ghost use Rattle.std.specs.Prelude.{◌≡◌, ◌≢◌, ◌+◌, ◌-◌, ◌*◌, ◌%◌, ◌/◌, ◌<◌, ◌≤◌, ◌⊎◌, ℕ, List, IfOk, length, take, drop, slice_index, slice_index_or, slice_set, vec_capacity, replicate};
+ghost use Rattle.std.specs.Prelude.{◌≡◌, ◌≢◌, ◌+◌, ◌-◌, ◌*◌, ◌%◌, ◌/◌, ◌<◌, ◌≤◌, ◌⊎◌, ℕ, List, IfOk, length, take, drop, slice_index, slice_index_or, vec_capacity, replicate};
 ghost use Rattle.board_mem.specs.Code.{page_words, most_code_slots, Agrees, AreDecoded, AreSlots, IsFree, IsGiven, SameElsewhere};
 ghost use Rattle.board_mem.specs.Pages.{page_of, page_bytes};
 ghost use Rattle.ppc_word.specs.declared.decoded.Decoded.{Decoded};

@@ -1,5 +1,5 @@
 -- What a burst changes of the world.
-use Rattle.std.proofs.Common.{◌≡◌, ℕ, cond, Option, None, Some, sym, ap, ap₂, ◌∙◌, subst}
+use Rattle.std.proofs.Common.{◌≡◌, ℕ, cond, Some, sym, ap, ap₂, ◌∙◌, subst}
 use Rattle.std.specs.Option.{option_map}
 use Rattle.live_loading.specs.KernelWorldState.{WorldState}
 use Rattle.live_loading.specs.KernelWorldActor.{Actor}

@@ -287,7 +287,7 @@ pub(crate) fn is_early(parts: &Parts)
 }
 
 /// Who makes the next step, found now if it isn't known from the step before, without the reply of
-/// that step. Nothing is known if an interrupt routine is active of which nothing was known.
+/// that step. Nothing, if an interrupt routine is active and that wasn't known.
 #[inline(always)]
 pub(crate) fn found(parts: &Parts, known: Known) -> Known
     requires { IsKnown parts.now.world.kern parts.now.world.watch.level known }

@@ -60,7 +60,7 @@ module _ (view : Task → TaskView) (keeps : (t : Task) → (view t).id ≡ t.id
         sym (keeps (get_or ts place d)) ∙ sym (ap view_id (get_or-map view ts place d (view d) less)) ∙ at.same (view d);
   }
 
-  -- the view at its place is that of the task as it is now
+  -- taking the task's view again gives the views as they are now
   put_there : (ts : List Task) (place : ℕ) (now : Task) → Rising task_id ts → StandsAt task_id ts who place → of_id task_id (changed ts) who ≡ Some now
       → slice_set (map view ts) place (view now) ≡ map view (changed ts)
   put_there [] place now up at is = absurd (omega (arith, at.within))

@@ -1,5 +1,5 @@
 -- The effective address of a load or store.
-use Rattle.std.proofs.Common.{◌≡◌, ◌≢◌, ℕ, ◌+◌, true, cond, eqb, refl, sym, ap, ap₂, ◌∙◌}
+use Rattle.std.proofs.Common.{◌≡◌, ◌≢◌, ℕ, ◌+◌, cond, sym, ap, ap₂, ◌∙◌}
 use Rattle.std.specs.Prelude.{◌%◌, ◌/◌, ◌^◌, slice_index}
 use Rattle.std.proofs.lemmas.Bool.{eq-eqb, ne_eqb}
 use Rattle.wind_base.specs.declared.regs.Regs.{Regs}

@@ -19,7 +19,7 @@ use tick_file::Event;
 use wind_base::{Gate, NoMemory, Regs};
 use wind_outside::Device;
 
-// The primary opcode of loads and stores whose data address is that of two registers.
+// The primary opcode whose loads and stores add two registers.
 const INDEXED: u32 = 31;
 
 /// Who makes a step, if a task or a routine does.
@@ -77,7 +77,7 @@ fn gate_there_at(world: &World, at: Option<u32>) -> Option<Gate>
     gate_at(world.board, at?)
 }
 
-// The word at an address that is no gate's, if it can be fetched.
+// The word to execute: none at a gate, or where none can be fetched.
 fn word_at(world: &World, at: Option<u32>, gate: Option<Gate>) -> Option<u32>
     ensures { result ≡ word_there (world_seen ⟦<dyn Device as Device>⟧ world.now) at gate }
 {

@@ -156,8 +156,8 @@ pub fn take_snapshot(snapshot: &mut Snapshot, world: &World) -> Result<(), NoMem
     Ok(())
 }
 
-/// Takes the view of a task again. If a snapshot shows of what changed since it was taken at most the
-/// registers of this task, it is that of the world then.
+/// Takes the view of a task again. If at most this task's registers have changed of what a snapshot
+/// shows, the result is a snapshot of this world.
 pub fn retake_task(snapshot: &mut Snapshot, world: &World, who: Ident)
     ensures { (w : WorldState) → IsKern w.kern → IsMoved w (world_seen ⟦<dyn Device as Device>⟧ world.now) who
         → snapshot_state snapshot.old ≡ snapshot_of w

@@ -25,7 +25,7 @@ use Rattle.board_trace.specs.declared.moment.AfterStep.{AfterStep}
 use Rattle.board_trace.specs.declared.happening.Happening.{Happening}
 use Rattle.board_trace.specs.declared.happening.Happening.TheVariants as told
 
--- P holds of every happening that is no call, no change and nothing of an owner
+-- P holds of each happening that isn't a call, a change, or an owner got or lost
 pub record HoldsElse (P : Happening → Type 0) : Type 0 where
   pub tick : (tick : ℕ) → P (told.Tick tick)
   pub arrival : (count : ℕ) → P (told.Arrival count)

@@ -1,5 +1,5 @@
 -- Which exception a step causes, by what it reported and by the word that it executed.
-use Rattle.std.specs.Prelude.{ℕ, ◌+◌, ◌/◌, ◌%◌, ◌^◌, ◌==◌, ◌&&◌, Bool, if◌then◌else◌, nat_le, List, length, take, Option, None, Some, codes}
+use Rattle.std.specs.Prelude.{ℕ, ◌/◌, ◌^◌, ◌==◌, ◌&&◌, Bool, if◌then◌else◌, nat_le, List, length, take, Option, None, Some, codes}
 use Rattle.std.specs.Option.{option_map, unwrap_or}
 use Rattle.std.specs.Str.{bytes_eq}
 use Rattle.wind_base.specs.declared.gate.Gate.{Gate}
@@ -13,7 +13,7 @@ use Rattle.board_trace.specs.declared.cause.Cause.{Cause}
 use Rattle.board_trace.specs.declared.cause.Cause.TheVariants as causes
 
 -- ---- before the step
--- the word at an address that is no gate's, if it can be fetched
+-- the word to execute: none at a gate, or where none can be fetched
 abbrev pub word_there : WorldState → Option ℕ → Option Gate → Option ℕ
 word_there w None gate = None
 word_there w (Some at) (Some g) = None

@@ -1,7 +1,7 @@
 //! Appends contents, symbols and relocations.
 
 ghost use Rattle.std.specs.Prelude.{◌≡◌, ◌+◌, ◌*◌, ◌++◌, ◌<◌, length, IfOk};
-ghost use Rattle.std.specs.List.{All, flat_map};
+ghost use Rattle.std.specs.List.{All};
 ghost use Rattle.wind_base.specs.Limits.{most_symbol_entries};
 ghost use Rattle.elf_build.specs.Entries.{content_of as content_of_body, number_of as number_of_place, sym_entry as sym_entry_of, rel_entry as rel_entry_of};
 ghost use Rattle.elf_build.specs.File.{contents_of, symbols_from, symbols_of, relocs_of};

@@ -43,9 +43,8 @@ pub fn rank_of(order: &[Entry], id: Ident) -> usize
     order.partition_point(|entry| entry.id.get() < number)
 }
 
-// The position of the entry with this id, found by halving. None if there is none.
-#[inline(never)]
-fn search(order: &[Entry], id: Ident) -> Option<usize>
+// The position of the entry with this id, by binary search. None if there is none.
+fn binary_search(order: &[Entry], id: Ident) -> Option<usize>
     requires { Rising entry_id order.now }
     ensures { MatchOption result (of_id entry_id order.now id ≡ None) (λ position. StandsAt entry_id order.now id position) }
 {
@@ -78,8 +77,35 @@ fn from_last(order: &[Entry], id: Ident) -> usize {
     }
 }
 
+// The position of an id if the ids of the order are evenly spaced.
+fn between(order: &[Entry], id: Ident) -> usize {
+    let Some(first) = order.first() else { return 0 };
+    let Some(last) = order.last() else { return 0 };
+    let span = last.id.get().wrapping_sub(first.id.get());
+    if span == 0 {
+        return 0;
+    }
+    let distance = u64::from(id.get().wrapping_sub(first.id.get()));
+    let gaps = order.len() as u64;
+    (distance.wrapping_mul(gaps.wrapping_sub(1)) / u64::from(span)) as usize
+}
+
+// The position of the entry with this id, by interpolation, or else by binary search. None if there
+// is none.
+#[inline(never)]
+fn search(order: &[Entry], id: Ident) -> Option<usize>
+    requires { Rising entry_id order.now }
+    ensures { MatchOption result (of_id entry_id order.now id ≡ None) (λ position. StandsAt entry_id order.now id position) }
+{
+    let near = between(order, id);
+    if near < order.len() && order[near].id == id {
+        return Some(near);
+    }
+    binary_search(order, id)
+}
+
 /// The position of the entry with this id. None if there is none. It costs the same in every order
-/// whose ids follow each other without a gap before or after this one.
+/// whose ids follow each other without a gap before or after this one, or are evenly spaced.
 pub fn position_of(order: &[Entry], id: Ident) -> Option<usize>
     requires { Rising entry_id order.now }
     ensures { MatchOption result (of_id entry_id order.now id ≡ None) (λ position. StandsAt entry_id order.now id position) }

@@ -1,6 +1,6 @@
 -- What a load keeps.
 use Rattle.std.proofs.Common.{◌≡◌, ℕ, ◌+◌, ◌<◌, ◌≤◌, min, true, false, cond, eqb, List, [], ◌∷◌, ◌++◌, length, get_or, Result, Ok, Err, refl, sym, ap, ◌∙◌, is_some, subst, arith}
-use Rattle.std.specs.Prelude.{slice_index, codes, OnOk, OnErr}
+use Rattle.std.specs.Prelude.{codes}
 use Rattle.std.proofs.lemmas.List.{length-append}
 use Rattle.std.proofs.lemmas.List.Quantifiers.{all_pairs_push}
 use Rattle.wind_base.specs.Limits.{greatest_word, most_symbols, ok_word}

@@ -1,8 +1,7 @@
 -- The world that a load leaves, by what its steps have answered.
 use Rattle.std.proofs.Common.{◌≡◌, ◌≢◌, ℕ, List, Result, Ok, Err, refl, sym, ap, ◌∙◌, subst, None, Some}
-use Rattle.std.specs.Prelude.{slice_index, IfOk, OnOk, OnErr}
+use Rattle.std.specs.Prelude.{IfOk, OnOk, OnErr}
 use Rattle.wind_base.specs.declared.errno.Errno.TheVariants as errors
-use Rattle.wind_base.specs.declared.regs.Regs.{Regs}
 use Rattle.wind_base.specs.declared.gate.Gate.TheVariants as gates
 use Rattle.mem_partition.specs.State.{PartState}
 use Rattle.symbol_table.specs.declared.symbol.Symbol.{Symbol}
@@ -17,7 +16,7 @@ use Rattle.module_loader.specs.Loading.{LoaderState, count_refusal, verdict, fil
 use Rattle.module_loader.proofs.Files.{read_verdict}
 use Rattle.kernel_calls.specs.KernelWorldState.{WorldState}
 use Rattle.id_table.specs.Idents.{shell_id}
-use Rattle.kernel_calls.specs.KernelWorldActors.{MayCall, caller_regs, caller_words}
+use Rattle.kernel_calls.specs.KernelWorldActors.{MayCall}
 use Rattle.kernel_calls.specs.KernelWorldKept.{IsWorld}
 use Rattle.kernel_calls.specs.KernelWorldReplies.{left_gate, with_answer}
 use Rattle.kernel_calls.specs.KernelWorldActor.TheVariants.{Task}

@@ -1,5 +1,5 @@
 -- Words are numbers below 2 ^ 32. Their bits are numbered from the most significant, which is bit 0 (Book I 1.3.2).
-use Rattle.std.specs.Prelude.{ℕ, ◌+◌, ◌-◌, ◌*◌, ◌/◌, ◌%◌, ◌^◌, Bool, ◌&&◌, nat_lt, if◌then◌else◌, ℤ, pos, negsuc, int_le, int_lt}
+use Rattle.std.specs.Prelude.{ℕ, ◌+◌, ◌-◌, ◌*◌, ◌/◌, ◌%◌, ◌^◌, Bool, ◌&&◌, if◌then◌else◌, ℤ, pos, negsuc, int_le, int_lt}
 use Rattle.std.specs.Int.{cast_signed, w32}
 pub use Rattle.ppc_word.specs.Bits.{bits, complement, sign_extended}
 

@@ -1,6 +1,6 @@
 //! The files of a call: the list, and the modules that its rows name.
 
-ghost use Rattle.std.specs.Prelude.{◌≡◌, ℕ, ◌+◌, ◌≤◌, ◌<◌, ◌^◌, [], ◌∷◌, None, OnOk, IfOk, IfErr, Ok, length, map, string_bytes};
+ghost use Rattle.std.specs.Prelude.{◌≡◌, ◌+◌, ◌≤◌, ◌<◌, ◌^◌, [], ◌∷◌, None, OnOk, IfOk, IfErr, Ok, length, map, string_bytes};
 ghost use Rattle.std.specs.List.{All};
 ghost use Rattle.wind_outside.specs.Requests.{GrowsBy};
 ghost use Rattle.wind_outside.specs.declared.folder.FetchOutcome.{FetchOutcome};

@@ -1,6 +1,6 @@
 //! The undefined names of modules.
 
-ghost use Rattle.std.specs.Prelude.{◌≡◌, ◌++◌, [], ◌∷◌, OnOk, map};
+ghost use Rattle.std.specs.Prelude.{◌≡◌, ◌++◌, OnOk, map};
 ghost use Rattle.wind_link.specs.{Undefined.pair_of, Values.{valueless_name, valueless_names}};
 
 use crate::values::Values;

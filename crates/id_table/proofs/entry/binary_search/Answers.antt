@@ -4,7 +4,7 @@ use Rattle.std.proofs.lemmas.List.{get_or_default}
 use Rattle.id_table.proofs.Halving.{rank_none}
 use Rattle.id_table.specs.declared.entry.Entry.{Entry}
 use Rattle.id_table.specs.Entries.{entry_id}
-use Rattle.id_table.proofs.entry.search.Goals as goal
+use Rattle.id_table.proofs.entry.binary_search.Goals as goal
 
 pub returns-else-eq : goal.returns-else-eq
 returns-else-eq c =
