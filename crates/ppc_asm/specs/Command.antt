@@ -1,5 +1,5 @@
 -- What the arguments of ppcasm ask for, and how a call ends.
-use Rattle.std.specs.Prelude.{◌≡◌, ◌⊎◌, ℕ, ◌<◌, ◌≤◌, Bool, true, not, ◌==◌, if◌then◌else◌, List, [], ◌∷◌, length, Option, Some, None, IfSome, IsSomeAnd, Ok, Err, bytes_eq, codes}
+use Rattle.std.specs.Prelude.{◌≡◌, ◌⊎◌, ℕ, ◌<◌, ◌≤◌, Bool, true, not, ◌==◌, ◌&&◌, if◌then◌else◌, List, [], ◌∷◌, length, Option, Some, None, IfSome, IsSomeAnd, Ok, Err, bytes_eq, codes}
 use Prim.Native.Char.{code}
 use Rattle.wind_base.specs.Limits.{longest_text_file}
 use Rattle.wind_outside.specs.Files.{Files}
