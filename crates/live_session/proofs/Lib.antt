@@ -1,4 +1,5 @@
 pub mod Announcing
+pub mod Aside
 pub mod Closings
 pub mod CommandLemmas
 pub mod Flow

@@ -3,9 +3,11 @@
 ghost use Rattle.std.specs.Prelude.{◌≡◌, ◌≤◌, ◌++◌, ℕ, List, IsTrue, IfSome, IsSomeAnd, OnOk, OnErr};
 ghost use Rattle.wind_outside.specs.Counts.{Rose};
 ghost use Rattle.wind_outside.specs.Files.{with_file};
+ghost use Rattle.live_session.specs.Folder.{IsMoved};
 
+use crate::aside::aside_name;
 use crate::input::{Input, InputPart, part_len};
-use crate::record_folder::{Presence, RecordFolder};
+use crate::record_folder::{Flush, Presence, RecordFolder};
 use std::alloc::{AllocError, Global};
 use std::collections::BTreeMap;
 use wind_outside::Put;
@@ -129,6 +131,22 @@ impl MemRecordFolder {
         Ok(())
     }
 
+    // Sets a file aside, if it is there.
+    fn move_file(&mut self, alloc: Global, name: &str) -> Result<(), AllocError>
+        ensures ok { OnOk result (IsMoved (files_of self.old) (files_of self.new) name.now) }
+        ensures err { OnErr result (files_of self.new ≡ files_of self.old) }
+        ensures calls { self.new.calls ≡ self.old.calls }
+    {
+        let Some(bytes) = self.files.get(name) else {
+            return Ok(());
+        };
+        let bytes = Vec::from_slice(alloc, bytes)?;
+        let aside = aside_name(alloc, name)?;
+        self.put_file(alloc, &aside, &bytes)?;
+        self.files.remove(name);
+        Ok(())
+    }
+
     // The bytes of a file with more at its end; none if there is no such file, or if memory ran out.
     fn longer(&self, alloc: Global, name: &str, bytes: &[u8]) -> Option<Vec<u8>>
         ensures { IfSome result (λ text. IsSomeAnd (files_of self.now name.now) (λ own. text.items ≡ own ++ bytes.now)) }
@@ -174,7 +192,7 @@ impl RecordFolder for MemRecordFolder {
         }
     }
 
-    fn replace(&mut self, alloc: Global, name: &str, bytes: &[u8]) -> Put {
+    fn replace(&mut self, alloc: Global, name: &str, bytes: &[u8], _flush: Flush) -> Put {
         if self.calls.count() {
             return Put::Failed;
         }
@@ -196,6 +214,19 @@ impl RecordFolder for MemRecordFolder {
             return Put::Failed;
         };
         match self.put_file(alloc, name, &text) {
+            Ok(()) => Put::Done,
+            Err(AllocError) => {
+                self.calls.note_fault();
+                Put::Failed
+            }
+        }
+    }
+
+    fn set_aside(&mut self, alloc: Global, name: &str) -> Put {
+        if self.calls.count() {
+            return Put::Failed;
+        }
+        match self.move_file(alloc, name) {
             Ok(()) => Put::Done,
             Err(AllocError) => {
                 self.calls.note_fault();
