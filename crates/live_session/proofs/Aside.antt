@@ -1,5 +1,5 @@
 -- An older record that is set aside.
-use Rattle.std.proofs.Common.{◌≡◌, ◌≢◌, ℕ, true, Bool, List, Option, None, Some, Result, Ok, Err, OnOk, OnErr, refl, sym, subst}
+use Rattle.std.proofs.Common.{◌≡◌, ◌≢◌, ℕ, true, Bool, List, Option, None, Some, Result, Ok, Err, OnOk, OnErr, sym, subst}
 use Rattle.wind_outside.specs.Files.{Files}
 use Rattle.live_session.specs.Command.{CommandState}
 use Rattle.live_session.specs.Folder.{SetAside, aside_path}

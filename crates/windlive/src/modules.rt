@@ -1,8 +1,7 @@
 //! The modules of a record: the board gets each file as it was when it was first loaded, and the
 //! record gets a copy. This is a trusted edge of the program.
 
-ghost use Rattle.std.specs.Prelude.{◌≡◌, ◌≢◌, ◌≤◌, IsTrue};
-ghost use Rattle.wind_outside.specs.Counts.{Rose};
+ghost use Rattle.std.specs.Prelude.{◌≢◌};
 ghost use Rattle.wind_outside.specs.Files.{IsWithin};
 ghost use Rattle.wind_outside.specs.declared.folder.Fetched.TheVariants as fetched;
 
