@@ -1,6 +1,6 @@
 //! An input and a folder in memory.
 
-ghost use Rattle.std.specs.Prelude.{◌≡◌, ◌≤◌, ◌++◌, ℕ, List, IsTrue, IfSome, IsSomeAnd, OnOk, OnErr};
+ghost use Rattle.std.specs.Prelude.{◌≡◌, ◌≢◌, ◌≤◌, ◌++◌, None, ℕ, List, IsTrue, IfSome, IsSomeAnd, OnOk, OnErr};
 ghost use Rattle.wind_outside.specs.Counts.{Rose};
 ghost use Rattle.wind_outside.specs.Files.{with_file};
 ghost use Rattle.live_session.specs.Folder.{IsMoved};
@@ -131,6 +131,15 @@ impl MemRecordFolder {
         Ok(())
     }
 
+    // Takes the file with this name away, if it is there.
+    fn take_file(&mut self, name: &str)
+        ensures gone { files_of self.new name.now ≡ None }
+        ensures others { (other : List ℕ) → other ≢ name.now → files_of self.new other ≡ files_of self.old other }
+        ensures calls { self.new.calls ≡ self.old.calls }
+    {
+        let _ = self.files.remove(name);
+    }
+
     // Sets a file aside, if it is there.
     fn move_file(&mut self, alloc: Global, name: &str) -> Result<(), AllocError>
         ensures ok { OnOk result (IsMoved (files_of self.old) (files_of self.new) name.now) }
@@ -143,7 +152,7 @@ impl MemRecordFolder {
         let bytes = Vec::from_slice(alloc, bytes)?;
         let aside = aside_name(alloc, name)?;
         self.put_file(alloc, &aside, &bytes)?;
-        self.files.remove(name);
+        self.take_file(name);
         Ok(())
     }
 
