@@ -1,5 +1,4 @@
 pub mod Announcing
-pub mod Aside
 pub mod Closings
 pub mod CommandLemmas
 pub mod Flow
@@ -17,6 +16,7 @@ pub mod Replays
 pub mod SavedFiles
 pub mod Scenes
 pub mod Sending
+pub mod SetAside
 pub mod Spacings
 pub mod Starting
 pub mod Ticking
