@@ -16,7 +16,6 @@ pub mod Replays
 pub mod SavedFiles
 pub mod Scenes
 pub mod Sending
-pub mod SetAside
 pub mod Spacings
 pub mod Starting
 pub mod Ticking
