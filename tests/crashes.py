@@ -1,9 +1,10 @@
 #!/usr/bin/env python3
 """Kills live sessions between any two of their system calls, and replays what each leaves.
 
-What a session had shown has to be a prefix of what the replay of its record writes. A session is stopped at each
-of its system calls by ptrace, and killed there. Linux on x86-64 and AArch64 only. It prints a line for each session
-that differs, and one that counts them. It ends with 1 if one differs.
+What a session had shown has to be a prefix of what the replay of its record writes. A session that sets an older
+record aside has to leave each of its files under its name or with `.old`. A session is stopped at each of its system
+calls by ptrace, and killed there. Linux on x86-64 and AArch64 only. It prints a line for each session that differs,
+and one that counts them. It ends with 1 if one differs.
 
 usage: tests/crashes.py LIVE PLAY
 """
@@ -15,6 +16,8 @@ import sys
 import tempfile
 
 TYPED = b'1+2\n.ticks 2\ns = semBCreate(0, 0)\nsemTake s, 2\n.ticks 3\n.irqs 2 every 9 0\n.ticks 2 every 30\nprintf("%d\\n", tickGet())\n'
+# The files of an older record.
+OLDER = {'console.txt': b'an older console', 'ticks.txt': b'an older tick file', 'command.txt': b'older words'}
 # Requests of ptrace, and an option of it: a child doesn't outlive its tracer.
 TRACE_ME, NEXT_CALL, SET_OPTIONS = 0, 24, 0x4200
 EXIT_KILL = 0x100000
@@ -23,7 +26,7 @@ libc = ctypes.CDLL(None, use_errno=True)
 libc.ptrace.argtypes = [ctypes.c_long, ctypes.c_long, ctypes.c_void_p, ctypes.c_void_p]
 
 
-def start(program, folder, shown):
+def start(program, folder, shown, *words):
     """A traced session, stopped before its first instruction."""
     child = os.fork()
     if child:
@@ -35,17 +38,17 @@ def start(program, folder, shown):
     os.dup2(shown, 1)
     os.dup2(os.open('/dev/null', os.O_WRONLY), 2)
     libc.ptrace(TRACE_ME, 0, None, None)
-    os.execv(program, [program, '--record=r', '--quiet-after=500'])
+    os.execv(program, [program, '--record=r', '--quiet-after=500', *words])
     return None
 
 
-def killed_after(program, folder, count):
+def killed_after(program, folder, count, typed, *words):
     """What a session showed that was killed at its stop with this number, and whether it came so far."""
     with open(os.path.join(folder, 'typed'), 'wb') as file:
-        file.write(TYPED)
+        file.write(typed)
     path = os.path.join(folder, 'shown')
     shown = os.open(path, os.O_WRONLY | os.O_CREAT, 0o600)
-    child = start(program, folder, shown)
+    child = start(program, folder, shown, *words)
     os.close(shown)
     came = True
     for _ in range(count):
@@ -72,22 +75,59 @@ def replayed(program, folder):
     return done.stdout
 
 
+def in_all(live, play):
+    """How many sessions were killed at their stops, and how many of them differ."""
+    count = differing = 0
+    came = True
+    while came:
+        with tempfile.TemporaryDirectory() as folder:
+            count += 1
+            shown, came = killed_after(live, folder, count, TYPED)
+            again = replayed(play, folder)
+            if not again.startswith(shown) or (not came and again != shown):
+                differing += 1
+                print(f'killed at stop {count}: differs')
+    return count, differing
+
+
+def is_held(folder, name, text):
+    """Whether a file of a record has these bytes, under its name or with `.old`."""
+    for path in (name, name + '.old'):
+        try:
+            with open(os.path.join(folder, 'r', path), 'rb') as file:
+                if file.read() == text:
+                    return True
+        except FileNotFoundError:
+            pass
+    return False
+
+
+def in_all_with_older(live):
+    """The same of sessions that set an older record aside."""
+    count = differing = 0
+    came = True
+    while came:
+        with tempfile.TemporaryDirectory() as folder:
+            count += 1
+            os.mkdir(os.path.join(folder, 'r'))
+            for name, text in OLDER.items():
+                with open(os.path.join(folder, 'r', name), 'wb') as file:
+                    file.write(text)
+            _, came = killed_after(live, folder, count, b'1\n', '--force')
+            if not all(is_held(folder, name, text) for name, text in OLDER.items()):
+                differing += 1
+                print(f'killed at stop {count} with an older record: differs')
+    return count, differing
+
+
 def main():
     """Kills a session at each of its stops."""
     if len(sys.argv) != 3:
         print(__doc__.strip().split('\n')[-1], file=sys.stderr)
         return 2
     live, play = (os.path.abspath(path) for path in sys.argv[1:])
-    count = differing = 0
-    came = True
-    while came:
-        with tempfile.TemporaryDirectory() as folder:
-            count += 1
-            shown, came = killed_after(live, folder, count)
-            again = replayed(play, folder)
-            if not again.startswith(shown) or (not came and again != shown):
-                differing += 1
-                print(f'killed at stop {count}: differs')
+    sessions = [in_all(live, play), in_all_with_older(live)]
+    count, differing = (sum(numbers) for numbers in zip(*sessions))
     print(f'killed sessions: {count}, differing: {differing}')
     return 1 if differing else 0
 

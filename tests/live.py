@@ -32,6 +32,9 @@ DOTS = [
 # Modules that define different symbols, or the same ones differently.
 MODULES = ['function/function.o', 'deadlock/deadlock.o', 'device_interrupt/worker.o', 'turns/turns.o']
 
+# The files of a record.
+RECORD = ('console.txt', 'ticks.txt', 'command.txt')
+
 # A line that shows that the lines before it have been read.
 MARK = b'.nothing\n'
 
@@ -223,6 +226,47 @@ def until(stream, end):
     return shown
 
 
+def set_aside(cases):
+    """Records that `--force` sets aside."""
+    with tempfile.TemporaryDirectory() as folder:
+        os.mkdir(os.path.join(folder, 'm'))
+        place('function/function.o', folder, 'f.o')
+        _, shown, _ = live(cases.live, folder, b'ld < f.o\n', '--modules=m')
+        module = held(folder, os.path.join('modules', 'f.o'))
+        for count in range(2):
+            older = {name: held(folder, name) for name in RECORD}
+            place('deadlock/deadlock.o', folder, 'f.o')
+            typed = b'%d\nld < f.o\n' % count if count == 0 else b'7\n'
+            status, out, _ = live(cases.live, folder, typed, '--modules=m', '--force')
+            cases.check(f'--force {count + 1}', status == 0 and held(folder, 'console.txt') == typed
+                        and replay(cases.play, folder)[1] == out)
+            cases.check(f'the files that --force {count + 1} sets aside', all(held(folder, name + '.old') == older[name] for name in RECORD))
+            if count == 0:
+                cases.check('the modules that --force sets aside', held(folder, os.path.join('modules.old', 'f.o')) == module
+                            and held(folder, os.path.join('modules', 'f.o')) != module)
+                os.mkdir(os.path.join(folder, 'older'))
+                for name in (*RECORD, 'modules'):
+                    path = os.path.join(folder, 'r', name + '.old')
+                    copy = shutil.copytree if name == 'modules' else shutil.copyfile
+                    copy(path, os.path.join(folder, 'older', name))
+                os.rename(os.path.join(folder, 'r'), os.path.join(folder, 'newer'))
+                os.rename(os.path.join(folder, 'older'), os.path.join(folder, 'r'))
+                cases.check('the replay of a record set aside', replay(cases.play, folder)[1] == shown)
+                os.rename(os.path.join(folder, 'r'), os.path.join(folder, 'older'))
+                os.rename(os.path.join(folder, 'newer'), os.path.join(folder, 'r'))
+    with tempfile.TemporaryDirectory() as folder:
+        status, _, _ = live(cases.live, folder, b'1\n', '--force')
+        cases.check('--force without a record', status == 0 and sorted(os.listdir(os.path.join(folder, 'r'))) == sorted(RECORD))
+    with tempfile.TemporaryDirectory() as folder:
+        live(cases.live, folder, b'1\n')
+        os.makedirs(os.path.join(folder, 'r', 'ticks.txt.old', 'a folder'))
+        older = {name: held(folder, name) for name in RECORD}
+        status, out, err = live(cases.live, folder, b'2\n', '--force')
+        cases.check('a file that can\'t be set aside', status == 9 and out == b'' and b'can\'t be renamed' in err
+                    and held(folder, 'command.txt.old') == older['command.txt'] and held(folder, 'ticks.txt') == older['ticks.txt']
+                    and held(folder, 'console.txt') == older['console.txt'])
+
+
 def refusals(cases):
     """Records that stay, or are not written."""
     with tempfile.TemporaryDirectory() as folder:
@@ -231,8 +275,6 @@ def refusals(cases):
         before = held(folder, 'console.txt')
         status, _, err = live(cases.live, folder, b'2\n')
         cases.check('a record that is there stays', status == 9 and held(folder, 'console.txt') == before and b'--force' in err)
-        status, _, _ = live(cases.live, folder, b'2\n', '--force')
-        cases.check('a record that is replaced', status == 0 and held(folder, 'console.txt') == b'2\n')
     with tempfile.TemporaryDirectory() as folder:
         status, out, _ = live(cases.live, folder, b'1\n.save\n2\n')
         cases.check('a new folder for the record', status == 0 and b'value = 2' in out and held(folder, 'console.txt') == b'1\n2\n')
@@ -290,6 +332,7 @@ def main():
     by_hand(cases)
     modules(cases)
     module_outside(cases)
+    set_aside(cases)
     refusals(cases)
     filling(cases)
     for seed in range(300):

@@ -5,6 +5,7 @@ pub mod Flow
 pub mod Limits
 pub mod Journaling
 pub mod LivePromises
+pub mod Moved
 pub mod Moving
 pub mod OtherFiles
 pub mod Outcomes

@@ -5,7 +5,7 @@ use Rattle.wind_session.specs.declared.run.RunEnd.{RunEnd}
 use Rattle.wind_outside.specs.Files.{Files}
 use Rattle.live_session.specs.Command.{CommandState}
 use Rattle.live_session.specs.Ending.{IsGoing}
-use Rattle.live_session.specs.Saving.{IsSaved, replay_limit}
+use Rattle.live_session.specs.Saving.{IsOpened, replay_limit}
 use Rattle.live_session.specs.Session.{IsRefusal, IsStatusOf, IsStop, IsTyped, Parts, status_unless}
 use Rattle.live_session.specs.declared.saving.Unsaved.{Unsaved}
 use Rattle.live_session.specs.declared.saving.Unsaved.TheVariants as unsaved
@@ -101,8 +101,8 @@ unopened_status unsaved.NoMemory = (λ e. cc, λ e. cc, λ e. cc)
 
 -- ---- or was: it is empty
 pub opened_record : (c : CommandState) (console ticks : List ℕ) (steps : ℕ) (old new : Option Files) → console ≡ [] → ticks ≡ [] → steps ≡ 0
-    → IsSaved c console ticks (replay_limit steps false) old new → IsSaved c [] [] 0 old new
-opened_record c console ticks steps old new no_console no_ticks no_steps saved =
-    subst (λ n. IsSaved c [] [] n old new) no_steps
-    (subst (λ text. IsSaved c [] text steps old new) no_ticks
-    (subst (λ text. IsSaved c text ticks steps old new) no_console saved))
+    → IsOpened c console ticks (replay_limit steps false) old new → IsOpened c [] [] 0 old new
+opened_record c console ticks steps old new no_console no_ticks no_steps opened =
+    subst (λ n. IsOpened c [] [] n old new) no_steps
+    (subst (λ text. IsOpened c [] text steps old new) no_ticks
+    (subst (λ text. IsOpened c text ticks steps old new) no_console opened))

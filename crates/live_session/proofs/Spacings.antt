@@ -34,7 +34,7 @@ stays_on l m n first second = record {
   live = λ shelf setup old now live. second.live shelf setup old now (first.live shelf setup old now live);
 }
 
--- so many of a series were sent; whatever the others do, all of them do from the first on
+-- if the rest of a series is sent as from the first event on, so is the whole series
 pub record Spaced (n period : ℕ) (event : Event) (start : ℕ) (l : LiveState) (count from : ℕ) (here : LiveState) : Type 0 where
   pub stays : StaysLive l here
   pub console : here.console.bytes ≡ l.console.bytes

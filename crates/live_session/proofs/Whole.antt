@@ -17,7 +17,7 @@ use Rattle.live_session.specs.Ending.{IsAfterRun, IsGoing, is_quiet}
 use Rattle.live_session.specs.Journal.{IsAlwaysReplayed, IsCurrent, scene}
 use Rattle.live_session.specs.LiveAround.{LiveAround, RecordFailed, Store}
 use Rattle.live_session.specs.Moments.{Wherever, moment}
-use Rattle.live_session.specs.Saving.{IsSaved, WritesOnly, replay_limit}
+use Rattle.live_session.specs.Saving.{IsOpened, IsSaved, WritesFor, WritesOnly, replay_limit}
 use Rattle.live_session.specs.Seen.{Begins, LiveState, IsLiveAt, Runs}
 use Rattle.live_session.specs.Session.{IsPermitted, IsRecorded, IsStatusOf, IsTalk, IsTyped, Parts, Played, setup_of, shelf_of}
 use Rattle.live_session.specs.declared.saving.Unsaved.{Unsaved}
@@ -47,8 +47,9 @@ pub record Closed (s : Status) (c : CommandState) (end : RunEnd) (l m : LiveStat
   pub status_is : IsStatusOf end s
   pub typed : IsTyped s before.input after.input m.console.bytes (Talks c l m before after told end failure opened closed)
   pub unopened : c.record_folder ≡ [] → opened.files ≡ before.records
-  pub opens : c.record_folder ≢ [] → IsSaved c [] [] 0 before.records opened.files
-  pub writes : WritesOnly c.record_folder before.records after.records
+  pub opens : c.record_folder ≢ [] → IsOpened c [] [] 0 before.records opened.files
+  pub writes : WritesFor c before.records after.records
+  pub since : WritesOnly c.record_folder opened.files after.records
   pub saved : s ≡ status.Ended → c.record_folder ≢ [] → IsGoing end × IsSaved c m.console.bytes m.ticks.bytes (replay_limit m.board.steps (is_quiet end)) closed.files after.records
   pub unrecorded : s ≡ status.Unrecorded → (c.record_folder ≢ []) × RecordFailed before after
   pub safe : c.record_folder ≢ [] → IsCurrent c l opened.files
@@ -97,6 +98,7 @@ plays law s c end l m before after told failure opened closed h devices permitte
           h.typed;
       permitted = permitted;
       writes = h.writes;
+      since = h.since;
       recorded = λ e named.
           is_recorded end c shelf (setup_of c devices) m.console.bytes m.ticks.bytes m.board old now closed.files after.records (h.saved e named).0 run h.runs.quiet (limit_within m.board.steps (is_quiet end) h.runs.sound.few) (h.saved e named).1;
       unrecorded = h.unrecorded;

@@ -9,7 +9,7 @@ use Rattle.clap.specs.Words.{App, Row, Rule, Text, new_app, new_rule, with_rule}
 use Rattle.clap.specs.declared.builder.action.ArgAction.TheVariants.{SetTrue}
 use Rattle.wind_session.specs.Command.{board_options_value, if_valid, number_value, rows_given, value_of, with_board_options, with_option}
 
--- a command: the folder of modules, the folder for the record, whether a record that is there may be replaced, the most
+-- a command: the folder of modules, the folder for the record, whether a record that is there may be set aside, the most
 -- steps after a part that was sent and after each tick, the rule of inheritance, and the kind of board
 pub record CommandState : Type 0 where
   pub modules : List ℕ

@@ -1,5 +1,5 @@
 -- The files of a record.
-use Rattle.std.specs.Prelude.{◌≡◌, ◌≢◌, ◌⊎◌, ℕ, ◌+◌, Bool, ◌&&◌, nat_lt, if◌then◌else◌, List, [], ◌∷◌, ◌++◌, Option, Some, None, IsSome, IfSome, IsSomeAnd, codes}
+use Rattle.std.specs.Prelude.{◌≡◌, ◌≢◌, ◌⊎◌, ℕ, ◌+◌, Bool, true, false, ◌&&◌, nat_lt, if◌then◌else◌, List, [], ◌∷◌, ◌++◌, Option, Some, None, IsSome, IfSome, IsSomeAnd, codes}
 use Rattle.std.specs.Fmt.{decimal}
 use Rattle.wind_base.specs.Limits.{most_steps}
 use Rattle.wind_base.specs.declared.board_kind.BoardKind.{BoardKind}
@@ -11,7 +11,7 @@ use Rattle.wind_session.specs.Command.{CommandState as SessionCommand, command_o
 use Rattle.wind_session.specs.Paths.{path_in}
 use Rattle.wind_session.specs.declared.command.Source.TheVariants as sources
 use Rattle.live_session.specs.Command.{CommandState}
-use Rattle.live_session.specs.Folder.{Lengthened, Replaced}
+use Rattle.live_session.specs.Folder.{Lengthened, Replaced, SetAside, aside_path}
 
 -- the paths of the three files of a record in a folder
 abbrev pub console_path : List ℕ → List ℕ
@@ -46,15 +46,47 @@ pub record IsOther (folder name : List ℕ) : Type 0 where
   pub no_ticks : name ≢ ticks_path folder
   pub no_command : name ≢ command_path folder
 
--- no other file has changed; what is untold stays untold
+-- no file with such a name has changed; what is untold stays untold
+abbrev pub KeepsThose : (List ℕ → Type 0) → Option Files → Option Files → Type 0
+KeepsThose Spared None new = new ≡ None
+KeepsThose Spared (Some old) new = IsSomeAnd new (λ held. (name : List ℕ) → Spared name → held name ≡ old name)
+
+-- no file but the three has changed
 abbrev pub KeepsOthers : List ℕ → Option Files → Option Files → Type 0
-KeepsOthers folder None new = new ≡ None
-KeepsOthers folder (Some old) new = IsSomeAnd new (λ held. (name : List ℕ) → IsOther folder name → held name ≡ old name)
+KeepsOthers folder = KeepsThose (IsOther folder)
 
 -- only a record in this folder may have been written, and nothing if the folder's name is empty
 pub record WritesOnly (folder : List ℕ) (old new : Option Files) : Type 0 where
   pub nothing : folder ≡ [] → new ≡ old
   pub others : KeepsOthers folder old new
+
+-- a file is none of the three that were set aside
+pub record IsNotAside (folder name : List ℕ) : Type 0 where
+  pub no_console : name ≢ aside_path (console_path folder)
+  pub no_ticks : name ≢ aside_path (ticks_path folder)
+  pub no_command : name ≢ aside_path (command_path folder)
+
+-- a file that a session of this command doesn't write: it is none of the record's, and with `--force` none set aside
+abbrev pub IsSpared : CommandState → List ℕ → Type 0
+IsSpared c name = IsOther c.record_folder name × (c.force ≡ true → IsNotAside c.record_folder name)
+
+-- only the record of this command may have been written, and older files set aside; nothing if it asks for no record
+pub record WritesFor (c : CommandState) (old new : Option Files) : Type 0 where
+  pub nothing : c.record_folder ≡ [] → new ≡ old
+  pub others : KeepsThose (IsSpared c) old new
+
+-- the three files of an older record were set aside, the words first
+pub record AreSetAside (folder : List ℕ) (old new : Option Files) : Type 0 where
+  pub without_command : Option Files
+  pub without_ticks : Option Files
+  pub first : SetAside old without_command (command_path folder)
+  pub second : SetAside without_command without_ticks (ticks_path folder)
+  pub last : SetAside without_ticks new (console_path folder)
+
+-- with `--force` the files of an older record were set aside; otherwise nothing has changed
+abbrev pub MakesRoom : Bool → List ℕ → Option Files → Option Files → Type 0
+MakesRoom true folder old new = AreSetAside folder old new
+MakesRoom false folder old new = new ≡ old
 
 -- the limit with which a replay ends as a session of these steps did: one step more if its run is over
 abbrev pub replay_limit : ℕ → Bool → ℕ
@@ -131,6 +163,12 @@ IsSavedInPart c console ticks limit old new =
     ⊎ ((with_ticks : Option Files) × Replaced with_console with_ticks (ticks_path c.record_folder) ticks
     × ((new ≡ with_ticks)
     ⊎ Replaced with_ticks new (command_path c.record_folder) (command_text c limit)))))
+
+-- a record was opened: there was room for it, or room was made, and its three files were written
+pub record IsOpened (c : CommandState) (console ticks : List ℕ) (limit : ℕ) (old new : Option Files) : Type 0 where
+  pub cleared : Option Files
+  pub room : MakesRoom c.force c.record_folder old cleared
+  pub saved : IsSaved c console ticks limit cleared new
 
 -- the line of an event was added to the tick file, and then its bytes to the console file
 pub record IsAdded (folder line bytes : List ℕ) (old new : Option Files) : Type 0 where

@@ -21,7 +21,7 @@ use Rattle.live_session.specs.Journal.{IsAlwaysReplayed, IsReplayed, scene}
 use Rattle.live_session.specs.Moments.{CanGoOn, Moment, RunsFor, moment}
 use Rattle.live_session.specs.Obeying.{Serves}
 use Rattle.live_session.specs.Positions.{position_after, request_of, sent_of}
-use Rattle.live_session.specs.Saving.{IsFree, IsReplayText, IsSaved, IsTaken, WritesOnly, replay_limit}
+use Rattle.live_session.specs.Saving.{IsFree, IsOpened, IsReplayText, IsSaved, IsTaken, WritesFor, WritesOnly, replay_limit}
 use Rattle.live_session.specs.Seen.{Begins, LiveState}
 use Rattle.live_session.specs.declared.dot_line.DotLine.TheVariants as lines
 use Rattle.live_session.specs.declared.record.Refusal.{Refusal}
@@ -168,14 +168,15 @@ pub record IsSafe (c : CommandState) (shelf : Shelf) (setup : Setup) (opened new
   pub opening : IsReplayed c shelf setup old.bytes opened old.bytes
   pub always : IsAlwaysReplayed c shelf setup old.bytes (scene opened old.bytes) (scene new now.bytes)
 
--- a record that is there may be replaced, or there is none, or none is asked for
+-- a record that is there may be set aside, or there is none, or none is asked for
 abbrev pub IsPermitted : CommandState → Option Files → Type 0
 IsPermitted c files = c.record_folder ≢ [] → c.force ≡ false → IsFree c.record_folder files
 
 -- a session was played with these arguments: its console file and its tick file, for which windplay starts a run; the
 -- board of the first steps of that run; and what was shown is the text of these steps. It began with an empty record,
--- which was written, and each part of the input did what it asks for, until the record was written at the end. At every
--- moment since the beginning, what was shown is a prefix of what a replay of the record's files writes
+-- which was written after an older one was set aside, and each part of the input did what it asks for, until the record
+-- was written at the end. At every moment since the beginning, what was shown is a prefix of what a replay of the
+-- record's files writes
 pub record Played (s : Status) (c : CommandState) (devices : List (Option DeviceState)) (before after : LiveAround) : Type 0 where
   pub begin : LiveState
   pub live : LiveState
@@ -189,11 +190,12 @@ pub record Played (s : Status) (c : CommandState) (devices : List (Option Device
   pub status_is : IsStatusOf end s
   pub begins : Begins (setup_of c devices) begin
   pub unopened : c.record_folder ≡ [] → opened.files ≡ before.records
-  pub opens : c.record_folder ≢ [] → IsSaved c [] [] 0 before.records opened.files
+  pub opens : c.record_folder ≢ [] → IsOpened c [] [] 0 before.records opened.files
   pub typed : IsTyped s before.input after.input live.console.bytes
       (λ parts. IsTalk c parts (shelf_of before.session.files c) (setup_of c devices) before.session.logged begin before.session opened (moment live after.session told closed end unsaved))
   pub permitted : IsPermitted c before.records
-  pub writes : WritesOnly c.record_folder before.records after.records
+  pub writes : WritesFor c before.records after.records
+  pub since : WritesOnly c.record_folder opened.files after.records
   pub recorded : s ≡ status.Ended → c.record_folder ≢ []
       → IsRecorded end c (shelf_of before.session.files c) (setup_of c devices) live.console.bytes live.ticks.bytes live.board before.session.logged after.session.logged closed.files after.records
   pub unrecorded : s ≡ status.Unrecorded → (c.record_folder ≢ []) × RecordFailed before after
@@ -214,7 +216,7 @@ pub record IsUntouched (before after : LiveAround) : Type 0 where
 
 -- only files of a record that may be written were written
 pub record IsUnopened (c : CommandState) (before after : Option Files) : Type 0 where
-  pub writes : WritesOnly c.record_folder before after
+  pub writes : WritesFor c before after
   pub permitted : IsPermitted c before ⊎ (after ≡ before)
 
 -- what these arguments leave

@@ -26,7 +26,7 @@ pub struct Command<'a> {
     pub modules: &'a str,
     /// The name of the folder for the record; empty if none is asked for.
     pub record: &'a str,
-    /// Whether a record that is there may be replaced.
+    /// Whether a record that is there may be set aside.
     pub force: bool,
     /// The most steps after a part that was sent, and after each tick.
     pub quiet_after: u64,
@@ -45,6 +45,9 @@ const BAD_NAME: &str = "'--modules <DIR>' and '--record <DIR>' take no name with
 // Where the record goes.
 const RECORD_HELP: &str = "\
     The folder for the record of the session, made if it isn't there; without it nothing is saved";
+
+// What becomes of an older record.
+const FORCE_HELP: &str = "Puts .old after the names of the files of a record that is there";
 
 // How long the board runs after a line.
 const QUIET_HELP: &str = "The most steps after a line before the next is read, up to 1000000000000";
@@ -73,7 +76,7 @@ fn app<'a>(alloc: Global) -> Result<clap::Command<'a>, AllocError>
     let about = "Plays a session of a wind kernel's shell while it is typed";
     let command = command_line(alloc, "windlive", about)
         .arg(option(alloc, "record", "DIR", "", RECORD_HELP))?
-        .arg(flag(alloc, "force", "Replaces a record that is there"))?
+        .arg(flag(alloc, "force", FORCE_HELP))?
         .arg(flag(alloc, TERMINAL, TERMINAL_HELP))?
         .arg(option(alloc, "quiet-after", "N", "1000000", QUIET_HELP))?;
     with_board_options(alloc, command)

@@ -5,8 +5,9 @@ ghost use Rattle.std.specs.Prelude.{◌≤◌, vec_len, IfOk};
 ghost use Rattle.std.specs.Io.{StopsAt};
 ghost use Rattle.wind_base.specs.Limits.{longest_chunk};
 
+use crate::aside::aside_name;
 use crate::input::{Input, InputPart};
-use crate::record_folder::{Presence, RecordFolder};
+use crate::record_folder::{Flush, Presence, RecordFolder};
 use std::alloc::Global;
 use std::fs::{OpenFile, OpenOptions};
 use std::io::{BufRead, ErrorKind, Read, Write};
@@ -68,17 +69,41 @@ fn beside(alloc: Global, name: &str) -> io::Result<String> {
     Ok(path)
 }
 
+// Writes a new file, and flushes it if that is asked for.
+fn fill<F: Write + OpenFile>(file: &mut F, bytes: &[u8], flush: Flush) -> io::Result<()> {
+    file.write_all(bytes)?;
+    match flush {
+        Flush::Now => file.sync_all(),
+        Flush::Later => Ok(()),
+    }
+}
+
 // Writes a file beside its place, and puts it there. A file that is beside the place already isn't
 // touched, and then nothing is written. If writing fails, the new file is removed.
-fn write_whole<R: Files>(alloc: Global, rt: &R, name: &str, bytes: &[u8]) -> io::Result<()> {
+fn write_whole<R: Files>(
+    alloc: Global,
+    rt: &R,
+    name: &str,
+    bytes: &[u8],
+    flush: Flush,
+) -> io::Result<()> {
     let path = beside(alloc, name)?;
     let mut file = fs::File::create_new(rt, path.as_str())?;
-    let written = file.write_all(bytes);
+    let written = fill(&mut file, bytes, flush);
     let placed = written.and_then(|()| fs::rename(rt, path.as_str(), name));
     if placed.is_err() {
         let _ = fs::remove_file(rt, path.as_str());
     }
     placed
+}
+
+// Puts `.old` after a file's name, if there is such a file.
+fn move_file<R: Files>(alloc: Global, rt: &R, name: &str) -> io::Result<()> {
+    let aside = aside_name(alloc, name)?;
+    match fs::rename(rt, name, aside.as_str()) {
+        Err(error) if error.kind() == ErrorKind::NotFound => Ok(()),
+        moved => moved,
+    }
 }
 
 // Adds bytes at the end of a file. If that fails, the file is cut back to its length.
@@ -122,8 +147,8 @@ impl<R: Files + Drop> RecordFolder for Counted<R> {
         }
     }
 
-    fn replace(&mut self, alloc: Global, name: &str, bytes: &[u8]) -> Put {
-        if write_whole(alloc, &self.handle, name, bytes).is_err() {
+    fn replace(&mut self, alloc: Global, name: &str, bytes: &[u8], flush: Flush) -> Put {
+        if write_whole(alloc, &self.handle, name, bytes, flush).is_err() {
             self.count_fault();
             return Put::Failed;
         }
@@ -135,6 +160,14 @@ impl<R: Files + Drop> RecordFolder for Counted<R> {
             return Put::Done;
         }
         if write_more(&self.handle, name, bytes).is_err() {
+            self.count_fault();
+            return Put::Failed;
+        }
+        Put::Done
+    }
+
+    fn set_aside(&mut self, alloc: Global, name: &str) -> Put {
+        if move_file(alloc, &self.handle, name).is_err() {
             self.count_fault();
             return Put::Failed;
         }

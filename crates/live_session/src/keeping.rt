@@ -9,7 +9,7 @@ ghost use Rattle.live_session.specs.Journal.{Journaled};
 ghost use Rattle.live_session.specs.LiveAround.{store};
 ghost use Rattle.live_session.specs.Moments.{IsTold};
 ghost use Rattle.live_session.specs.Obeying.{Saves};
-ghost use Rattle.live_session.specs.Saving.{IsSaved, IsSavedInPart, KeepsOthers, WritesOnly, replay_limit as replay_limit_lem};
+ghost use Rattle.live_session.specs.Saving.{IsOpened, IsSaved, IsSavedInPart, KeepsOthers, WritesFor, replay_limit as replay_limit_lem};
 ghost use Rattle.live_session.specs.Seen.{live_seen, IsSound};
 ghost use Rattle.live_session.specs.Session.{IsPermitted, IsRefusal};
 ghost use Rattle.live_session.specs.Telling.{failure_text};
@@ -17,6 +17,7 @@ ghost use Rattle.live_session.specs.Words.{command_state, IsTarget};
 ghost use Rattle.live_session.specs.declared.saving.Unsaved.TheVariants as unsaved;
 ghost use Rattle.live_session.specs.declared.status.Status.TheVariants as status;
 
+use crate::aside::make_room;
 use crate::live::Live;
 use crate::messages::{tell, tell_no_memory, tell_of};
 use crate::record_folder::RecordFolder;
@@ -46,7 +47,11 @@ pub(crate) fn may_record<E: Sink, D: RecordFolder>(
     match find_claim(records, target) {
         Claim::Free => true,
         Claim::Taken => {
-            tell_of(err, name, b": a record is there; --force replaces it\n");
+            tell_of(
+                err,
+                name,
+                b": a record is there; --force renames its files to NAME.old\n",
+            );
             false
         }
         Claim::Failed => {
@@ -97,8 +102,8 @@ pub(crate) fn write_record<E: Sink, D: RecordFolder>(
     saved
 }
 
-/// Makes the folder of the record, and writes the record of a session that begins. Says why not. Does
-/// nothing if no record is asked for.
+/// Makes the folder of the record, sets an older record aside if the command has `--force`, and
+/// writes the record of a session that begins. Says why not. Does nothing if no record is asked for.
 pub(crate) fn open_record<E: Sink, D: RecordFolder>(
     alloc: Global,
     target: Target,
@@ -110,12 +115,12 @@ pub(crate) fn open_record<E: Sink, D: RecordFolder>(
     requires few { (live_seen ⟦<dyn Device as Device>⟧ live.now).board.steps ≤ most_steps }
     ensures unnamed { target.entry.command.now.record.now ≡ [] → OnErr result ⊥
         × (D.files records.new ≡ D.files records.old) }
-    ensures ok { OnOk result (target.entry.command.now.record.now ≢ [] → IsSaved (command_state target.entry.command.now)
+    ensures ok { OnOk result (target.entry.command.now.record.now ≢ [] → IsOpened (command_state target.entry.command.now)
         (live_seen ⟦<dyn Device as Device>⟧ live.now).console.bytes
         (live_seen ⟦<dyn Device as Device>⟧ live.now).ticks.bytes
         (replay_limit_lem (live_seen ⟦<dyn Device as Device>⟧ live.now).board.steps false)
         (D.files records.old) (D.files records.new)) }
-    ensures writes { WritesOnly target.entry.command.now.record.now (D.files records.old) (D.files records.new) }
+    ensures writes { WritesFor (command_state target.entry.command.now) (D.files records.old) (D.files records.new) }
     ensures failed { result ≡ Err unsaved.Failed → Rose (D.faults records.old) (D.faults records.new) }
     ensures never_falls { D.faults records.old ≤ D.faults records.new }
 {
@@ -126,6 +131,11 @@ pub(crate) fn open_record<E: Sink, D: RecordFolder>(
         let name = target.command.record.as_bytes();
         tell_of(err, name, b": the folder can't be made\n");
         return Err(Unsaved::Failed);
+    }
+    if let Err(failure) = make_room(alloc, target, records) {
+        let name = target.command.record.as_bytes();
+        tell_of(err, name, b": its files can't be renamed to NAME.old\n");
+        return Err(failure);
     }
     write_record(alloc, target, live, err, records, RunEnd::Limit)
 }

@@ -2,6 +2,7 @@
 //! it exactly.
 #![tactic(auto)]
 
+mod aside;
 mod command;
 mod conversation;
 mod dot_line;
@@ -30,6 +31,6 @@ pub use memory::{MemInput, MemRecordFolder};
 pub use messages::tell_no_memory;
 pub use playing::play_live;
 pub use program::live_program;
-pub use record_folder::{Presence, RecordFolder};
+pub use record_folder::{Flush, Presence, RecordFolder};
 pub use status::Status;
 pub use terminal::HostTerminal;

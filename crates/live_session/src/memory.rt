@@ -1,11 +1,13 @@
 //! An input and a folder in memory.
 
-ghost use Rattle.std.specs.Prelude.{◌≡◌, ◌≤◌, ◌++◌, ℕ, List, IsTrue, IfSome, IsSomeAnd, OnOk, OnErr};
+ghost use Rattle.std.specs.Prelude.{◌≡◌, ◌≢◌, ◌≤◌, ◌++◌, None, ℕ, List, IsTrue, IfSome, IsSomeAnd, OnOk, OnErr};
 ghost use Rattle.wind_outside.specs.Counts.{Rose};
 ghost use Rattle.wind_outside.specs.Files.{with_file};
+ghost use Rattle.live_session.specs.Folder.{IsMoved};
 
+use crate::aside::aside_name;
 use crate::input::{Input, InputPart, part_len};
-use crate::record_folder::{Presence, RecordFolder};
+use crate::record_folder::{Flush, Presence, RecordFolder};
 use std::alloc::{AllocError, Global};
 use std::collections::BTreeMap;
 use wind_outside::Put;
@@ -129,6 +131,31 @@ impl MemRecordFolder {
         Ok(())
     }
 
+    // Takes the file with this name away, if it is there.
+    fn take_file(&mut self, name: &str)
+        ensures gone { files_of self.new name.now ≡ None }
+        ensures others { (other : List ℕ) → other ≢ name.now → files_of self.new other ≡ files_of self.old other }
+        ensures calls { self.new.calls ≡ self.old.calls }
+    {
+        let _ = self.files.remove(name);
+    }
+
+    // Sets a file aside, if it is there.
+    fn move_file(&mut self, alloc: Global, name: &str) -> Result<(), AllocError>
+        ensures ok { OnOk result (IsMoved (files_of self.old) (files_of self.new) name.now) }
+        ensures err { OnErr result (files_of self.new ≡ files_of self.old) }
+        ensures calls { self.new.calls ≡ self.old.calls }
+    {
+        let Some(bytes) = self.files.get(name) else {
+            return Ok(());
+        };
+        let bytes = Vec::from_slice(alloc, bytes)?;
+        let aside = aside_name(alloc, name)?;
+        self.put_file(alloc, &aside, &bytes)?;
+        self.take_file(name);
+        Ok(())
+    }
+
     // The bytes of a file with more at its end; none if there is no such file, or if memory ran out.
     fn longer(&self, alloc: Global, name: &str, bytes: &[u8]) -> Option<Vec<u8>>
         ensures { IfSome result (λ text. IsSomeAnd (files_of self.now name.now) (λ own. text.items ≡ own ++ bytes.now)) }
@@ -174,7 +201,7 @@ impl RecordFolder for MemRecordFolder {
         }
     }
 
-    fn replace(&mut self, alloc: Global, name: &str, bytes: &[u8]) -> Put {
+    fn replace(&mut self, alloc: Global, name: &str, bytes: &[u8], _flush: Flush) -> Put {
         if self.calls.count() {
             return Put::Failed;
         }
@@ -196,6 +223,19 @@ impl RecordFolder for MemRecordFolder {
             return Put::Failed;
         };
         match self.put_file(alloc, name, &text) {
+            Ok(()) => Put::Done,
+            Err(AllocError) => {
+                self.calls.note_fault();
+                Put::Failed
+            }
+        }
+    }
+
+    fn set_aside(&mut self, alloc: Global, name: &str) -> Put {
+        if self.calls.count() {
+            return Put::Failed;
+        }
+        match self.move_file(alloc, name) {
             Ok(()) => Put::Done,
             Err(AllocError) => {
                 self.calls.note_fault();

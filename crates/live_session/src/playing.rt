@@ -156,7 +156,7 @@ fn session<I: Input, F: Folder, O: Sink, E: Sink, D: RecordFolder>(
 
 /// Plays the session that the arguments ask for, with the lines of the input, on a board with these
 /// devices. If a record is asked for, one that is there stays unless the arguments say that it is
-/// replaced; then nothing is played. Nothing is played either if its folder can't be made or its
+/// set aside; then nothing is played. Nothing is played either if its folder can't be made or its
 /// files can't be written. The record is written at the end.
 pub fn play_live<'a, I: Input, F: Folder, O: Sink, E: Sink, D: RecordFolder>(
     alloc: Global,

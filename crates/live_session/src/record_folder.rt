@@ -4,7 +4,7 @@ ghost use Rattle.std.specs.Prelude.{◌≡◌, ℕ, ◌≤◌, Option, IfSome};
 ghost use Rattle.wind_outside.specs.Counts.{Rose};
 ghost use Rattle.wind_outside.specs.Files.{Files};
 ghost use Rattle.wind_outside.specs.declared.sink.Put.TheVariants as puts;
-ghost use Rattle.live_session.specs.Folder.{IsPresence, Lengthened, Replaced};
+ghost use Rattle.live_session.specs.Folder.{IsPresence, Lengthened, Replaced, SetAside};
 ghost use Rattle.live_session.specs.declared.record_folder.Presence.TheVariants as presence;
 
 use std::alloc::Global;
@@ -19,6 +19,15 @@ pub enum Presence {
     Absent,
     /// Asking failed, and counts as a fault.
     Failed,
+}
+
+/// When the bytes of a file are to be on the disk.
+#[derive(Clone, Copy, Debug, PartialEq, Eq)]
+pub enum Flush {
+    /// Before the file is in its place.
+    Now,
+    /// When the system writes them.
+    Later,
 }
 
 /// A folder in which files are written.
@@ -46,8 +55,8 @@ pub trait RecordFolder {
     /// Writes the file with this name beside its place, and then puts it there, instead of a file
     /// that may be there. Writing can fail, and counts as a fault; then the files that a contract
     /// sees are as before. The real folder fails if a file is beside the place already, and may keep
-    /// a part of a new one there if it can't remove it.
-    fn replace(&mut self, alloc: Global, name: &str, bytes: &[u8]) -> Put
+    /// a part of a new one there if it can't remove it. No contract can see a flush.
+    fn replace(&mut self, alloc: Global, name: &str, bytes: &[u8], flush: Flush) -> Put
         ensures done { result ≡ puts.Done → Replaced (files self.old) (files self.new) name.now bytes.now }
         ensures kept { result ≡ puts.Failed → files self.new ≡ files self.old }
         ensures failed { result ≡ puts.Failed → Rose (faults self.old) (faults self.new) }
@@ -58,6 +67,15 @@ pub trait RecordFolder {
     /// are as before. The real folder may leave a part of the bytes if it can't cut the file back.
     fn append(&mut self, alloc: Global, name: &str, bytes: &[u8]) -> Put
         ensures done { result ≡ puts.Done → Lengthened (files self.old) (files self.new) name.now bytes.now }
+        ensures kept { result ≡ puts.Failed → files self.new ≡ files self.old }
+        ensures failed { result ≡ puts.Failed → Rose (faults self.old) (faults self.new) }
+        ensures never_falls { faults self.old ≤ faults self.new };
+
+    /// Puts `.old` after the name of the file with this name, instead of a file that may have the
+    /// longer name. Does nothing if there is no such file. That can fail, and counts as a fault;
+    /// then the files are as before.
+    fn set_aside(&mut self, alloc: Global, name: &str) -> Put
+        ensures done { result ≡ puts.Done → SetAside (files self.old) (files self.new) name.now }
         ensures kept { result ≡ puts.Failed → files self.new ≡ files self.old }
         ensures failed { result ≡ puts.Failed → Rose (faults self.old) (faults self.new) }
         ensures never_falls { faults self.old ≤ faults self.new };

@@ -11,7 +11,7 @@ ghost use Rattle.live_session.specs.declared.saving.Unsaved.TheVariants as unsav
 
 use crate::command::Command;
 use crate::record::Record;
-use crate::record_folder::{Presence, RecordFolder};
+use crate::record_folder::{Flush, Presence, RecordFolder};
 use itoa::Buffer;
 use std::alloc::{AllocError, Global};
 use wind_base::limits::STEPS;
@@ -172,13 +172,14 @@ fn write<D: RecordFolder>(
     records: &mut D,
     path: &str,
     bytes: &[u8],
+    flush: Flush,
 ) -> Result<(), Unsaved>
     ensures ok { OnOk result (Replaced (D.files records.old) (D.files records.new) path.now bytes.now) }
     ensures err { OnErr result (D.files records.new ≡ D.files records.old) }
     ensures failed { result ≡ Err unsaved.Failed → Rose (D.faults records.old) (D.faults records.new) }
     ensures never_falls { D.faults records.old ≤ D.faults records.new }
 {
-    match records.replace(alloc, path, bytes) {
+    match records.replace(alloc, path, bytes, flush) {
         Put::Done => Ok(()),
         Put::Failed => Err(Unsaved::Failed),
     }
@@ -242,11 +243,11 @@ pub(crate) fn write_words<D: RecordFolder>(
     ensures never_falls { D.faults records.old ≤ D.faults records.new }
 {
     let words = command_text(alloc, target.command, limit)?;
-    write(alloc, records, &target.paths.command, &words)
+    write(alloc, records, &target.paths.command, &words, Flush::Later)
 }
 
-/// Writes the files of a record: the console file, the tick file, and last the words with which
-/// windplay replays it.
+/// Writes the files of a record and flushes each: the console file, the tick file, and last the
+/// words with which windplay replays it.
 pub(crate) fn save<D: RecordFolder>(
     alloc: Global,
     records: &mut D,
@@ -264,12 +265,9 @@ pub(crate) fn save<D: RecordFolder>(
     ensures never_falls { D.faults records.old ≤ D.faults records.new }
 {
     let words = command_text(alloc, target.command, limit)?;
-    write(
-        alloc,
-        records,
-        &target.paths.console,
-        record.console.bytes(),
-    )?;
-    write(alloc, records, &target.paths.ticks, record.ticks.bytes())?;
-    write(alloc, records, &target.paths.command, &words)
+    let paths = target.paths;
+    let (console, ticks) = (record.console.bytes(), record.ticks.bytes());
+    write(alloc, records, &paths.console, console, Flush::Now)?;
+    write(alloc, records, &paths.ticks, ticks, Flush::Now)?;
+    write(alloc, records, &paths.command, &words, Flush::Now)
 }

@@ -56,7 +56,7 @@ fn play<I: Input, E: Print + Drop>(around: Around, input: &mut I, err: &mut Host
     match command_of(alloc, around.words) {
         Ok(command) if !command.record.is_empty() => {
             let texts = Screen::new(rt.stderr(), Shows::Texts, around.is_open);
-            let mut modules = Modules::new(alloc, rt, command.modules, command.record, texts);
+            let mut modules = Modules::new(alloc, rt, &command, texts);
             play_with(around, input, &mut modules, err)
         }
         _ => play_with(around, input, &mut HostFolder::new(rt), err),

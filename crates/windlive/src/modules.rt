@@ -1,13 +1,14 @@
 //! The modules of a record: the board gets each file as it was when it was first loaded, and the
 //! record gets a copy. This is a trusted edge of the program.
 
-ghost use Rattle.std.specs.Prelude.{◌≡◌, ◌≢◌, ◌≤◌, IsTrue};
-ghost use Rattle.wind_outside.specs.Counts.{Rose};
+ghost use Rattle.std.specs.Prelude.{◌≢◌};
 ghost use Rattle.wind_outside.specs.Files.{IsWithin};
 ghost use Rattle.wind_outside.specs.declared.folder.Fetched.TheVariants as fetched;
 
 use kept_files::{KeptFile, KeptFiles, Unkept};
+use live_session::Command;
 use std::alloc::{AllocError, Global};
+use std::cell::Cell;
 use std::io::{ErrorKind, Print};
 use std::rt::Files;
 use std::{fs, io};
@@ -23,6 +24,8 @@ pub(crate) struct Modules<'a, R: Files + Copy + Drop, P: Print + Drop> {
     // the names of the folder and of the record's folder
     name: &'a str,
     record: &'a str,
+    // whether the copies of an older record may still be in their place
+    has_older: Cell<bool>,
     // where the program says what the record lacks
     texts: P,
 }
@@ -54,21 +57,16 @@ fn answer_of(alloc: Global, kept: Option<&KeptFile>, limit: u32) -> Fetched
 }
 
 impl<'a, R: Files + Copy + Drop, P: Print + Drop> Modules<'a, R, P> {
-    /// The folder of modules with this name, for a session with a record in a folder. `texts` takes
-    /// the messages.
-    pub(crate) fn new(
-        alloc: Global,
-        rt: R,
-        name: &'a str,
-        record: &'a str,
-        texts: P,
-    ) -> Modules<'a, R, P> {
+    /// The folder of modules of a command with a record. With `--force` the copies of an older record
+    /// are set aside before the first copy. `texts` takes the messages.
+    pub(crate) fn new(alloc: Global, rt: R, command: &Command<'a>, texts: P) -> Modules<'a, R, P> {
         Modules {
             rt,
             folder: HostFolder::new(rt),
             kept: KeptFiles::new(alloc, MODULE_FILE_BYTES),
-            name,
-            record,
+            name: command.modules,
+            record: command.record,
+            has_older: Cell::new(command.force),
             texts,
         }
     }
@@ -88,16 +86,29 @@ impl<'a, R: Files + Copy + Drop, P: Print + Drop> Modules<'a, R, P> {
         name.strip_prefix("/").unwrap_or(name)
     }
 
+    // Renames the folder of an older record's copies to `modules.old`, once.
+    fn set_older_aside(&self, alloc: Global, folder: &str) -> io::Result<()> {
+        if !self.has_older.get() {
+            return Ok(());
+        }
+        let aside = wind_session::path_in(alloc, self.record, "modules.old")?;
+        unless_absent(self.rt.remove_dir_all(alloc, &aside))?;
+        unless_absent(self.rt.rename(folder, &aside))?;
+        self.has_older.set(false);
+        Ok(())
+    }
+
     // Makes the record's copy of a file what is kept of it.
     fn write_copy(&self, alloc: Global, path: &str, file: &str) -> io::Result<()> {
         let folder = wind_session::path_in(alloc, self.record, "modules")?;
+        self.set_older_aside(alloc, &folder)?;
         let copy = wind_session::path_in(alloc, &folder, file)?;
         match self.kept.get(path) {
             Some(KeptFile::Found(bytes)) => {
                 make_folder(&self.rt, &folder)?;
                 fs::write(&self.rt, copy.as_str(), bytes.as_slice())
             }
-            _ => remove(&self.rt, &copy),
+            _ => unless_absent(fs::remove_file(&self.rt, copy.as_str())),
         }
     }
 
@@ -144,12 +155,12 @@ fn make_folder<R: Files>(rt: &R, name: &str) -> io::Result<()> {
     }
 }
 
-// Removes a file, if it is there.
-fn remove<R: Files>(rt: &R, name: &str) -> io::Result<()> {
-    match fs::remove_file(rt, name) {
+// The outcome of a call on a file that doesn't have to be there.
+fn unless_absent(outcome: io::Result<()>) -> io::Result<()> {
+    match outcome {
         Err(error) if error.kind() == ErrorKind::NotFound => Ok(()),
         Err(error) if error.kind() == ErrorKind::NotADirectory => Ok(()),
-        removed => removed,
+        outcome => outcome,
     }
 }
 

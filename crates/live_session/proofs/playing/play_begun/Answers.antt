@@ -5,7 +5,7 @@ use Rattle.wind_outside.specs.Files.{Files}
 use Rattle.wind_session.proofs.AppendingLemmas.{rose_earlier}
 use Rattle.wind_session.specs.Keeping.{messages}
 use Rattle.live_session.specs.LiveAround.{live_around, store}
-use Rattle.live_session.specs.Saving.{IsSaved, WritesOnly}
+use Rattle.live_session.specs.Saving.{IsOpened, WritesFor}
 use Rattle.live_session.specs.Session.{IsRefusal}
 use Rattle.live_session.specs.Words.{command_state}
 use Rattle.live_session.specs.declared.saving.Unsaved.{Unsaved}
@@ -13,7 +13,7 @@ use Rattle.live_session.specs.declared.saving.Unsaved.TheVariants as unsaved
 use Rattle.live_session.specs.declared.status.Status.{Status}
 use Rattle.live_session.specs.declared.status.Status.TheVariants as status
 use Rattle.live_session.proofs.Closings.{is_failure, no_failure, some_failure}
-use Rattle.live_session.proofs.OtherFiles.{named_by, writes_both, writes_kept, writes_record}
+use Rattle.live_session.proofs.OtherFiles.{for_both, for_kept, named_by, writes_both, writes_for, writes_record}
 use Rattle.live_session.proofs.Outcomes.{IsAfter, after_failed, after_recorded, after_status, after_typed, ended_going, ended_same, never_usage, opened_record, put_same, read_same, unopened_refusal, unopened_status}
 use Rattle.live_session.proofs.SavedFiles.{opening_current, safe_end}
 use Rattle.live_session.proofs.Whole.{plays}
@@ -36,9 +36,10 @@ returns-then-is_empty-clause-leaves g c = λ devices begins.
       unopened = λ e. (c.open_record.ensures.unnamed e).1 ∙ c.may_record.ensures.files;
       opens = λ e. absurd (e none);
       writes =
-          writes_both _ _ _ _
-          (subst (λ (f : Option Files). WritesOnly folder f (g.D.RecordFolder.files c.open_record.new.records)) c.may_record.ensures.files c.open_record.ensures.writes)
-          closing.ensures.journal.writes;
+          for_both _ _ _ _
+          (subst (λ (f : Option Files). WritesFor (command_state c.args.target.command.now) f (g.D.RecordFolder.files c.open_record.new.records)) c.may_record.ensures.files c.open_record.ensures.writes)
+          (writes_for _ _ _ closing.ensures.journal.writes);
+      since = closing.ensures.journal.writes;
       saved = λ e named. absurd (named none);
       unrecorded = λ e.
           let named = (closing.ensures.journal.stuck (some_failure _ _ (closing.ensures.unrecorded e))).0 in
@@ -57,7 +58,7 @@ returns-then-is_some-clause-leaves g c = λ devices begins.
     let command = command_state c.args.target.command.now in
     let folder = c.args.target.command.now.record.now in
     let named : folder ≢ [] = named_by folder (sym c.is_empty.ensures ∙ c.if-is_empty.false) in
-    let opened = opening_current command _ _ _ begins.sound (c.in_default.ensures.ok named) in
+    let opened = opening_current command _ _ _ begins.sound (c.in_default.ensures.ok named).saved in
     let stuck = is_failure closing.result.unsaved (sym c.is_some.ensures ∙ c.if-is_some.true) in
     inr (plays c.writing_law.ensures.written closing.result.status command closing.result.end _ _
     (live_around g.I.Input g.F.Folder g.O.Sink g.D.RecordFolder c.args.input.now c.args.folder.now c.args.out.now c.args.records.now)
@@ -70,12 +71,13 @@ returns-then-is_some-clause-leaves g c = λ devices begins.
       unopened = λ e. absurd (named e);
       opens = λ e.
           let saved = c.in_default.ensures.ok e in
-          subst (λ (f : Option Files). IsSaved command [] [] 0 f (g.D.RecordFolder.files c.open_record.new.records)) c.may_record.ensures.files
+          subst (λ (f : Option Files). IsOpened command [] [] 0 f (g.D.RecordFolder.files c.open_record.new.records)) c.may_record.ensures.files
           (opened_record _ _ _ _ _ _ begins.empty begins.no_ticks begins.no_steps saved);
       writes =
-          writes_both _ _ _ _
-          (subst (λ (f : Option Files). WritesOnly folder f (g.D.RecordFolder.files c.open_record.new.records)) c.may_record.ensures.files c.open_record.ensures.writes)
-          closing.ensures.journal.writes;
+          for_both _ _ _ _
+          (subst (λ (f : Option Files). WritesFor command f (g.D.RecordFolder.files c.open_record.new.records)) c.may_record.ensures.files c.open_record.ensures.writes)
+          (writes_for _ _ _ closing.ensures.journal.writes);
+      since = closing.ensures.journal.writes;
       saved = λ e some. absurd (closing.ensures.unended stuck e);
       unrecorded = λ e. (
         named,
@@ -97,7 +99,7 @@ returns-clause-leaves g c = λ devices begins.
     let command = command_state c.args.target.command.now in
     let folder = c.args.target.command.now.record.now in
     let named : folder ≢ [] = named_by folder (sym c.is_empty.ensures ∙ c.if-is_empty.false) in
-    let opened = opening_current command _ _ _ begins.sound (c.in_default.ensures.ok named) in
+    let opened = opening_current command _ _ _ begins.sound (c.in_default.ensures.ok named).saved in
     let none = no_failure closing.result.unsaved (sym c.is_some.ensures ∙ c.if-is_some.false) in
     let known : closing.result.status ≢ status.Unrecorded = λ e. some_failure _ _ (closing.ensures.unrecorded e) none in
     let after : IsAfter writing.result closing.result.status c.status_after-2.result = record { ok = c.status_after-2.ensures.ok; err = c.status_after-2.ensures.err } in
@@ -112,12 +114,13 @@ returns-clause-leaves g c = λ devices begins.
       unopened = λ e. absurd (named e);
       opens = λ e.
           let saved = c.in_default.ensures.ok e in
-          subst (λ (f : Option Files). IsSaved command [] [] 0 f (g.D.RecordFolder.files c.open_record.new.records)) c.may_record.ensures.files
+          subst (λ (f : Option Files). IsOpened command [] [] 0 f (g.D.RecordFolder.files c.open_record.new.records)) c.may_record.ensures.files
           (opened_record _ _ _ _ _ _ begins.empty begins.no_ticks begins.no_steps saved);
       writes =
-          writes_both _ _ _ _
-          (subst (λ (f : Option Files). WritesOnly folder f (g.D.RecordFolder.files c.open_record.new.records)) c.may_record.ensures.files c.open_record.ensures.writes)
-          (writes_both _ _ _ _ closing.ensures.journal.writes (writes_record _ _ _ named writing.ensures.others));
+          for_both _ _ _ _
+          (subst (λ (f : Option Files). WritesFor command f (g.D.RecordFolder.files c.open_record.new.records)) c.may_record.ensures.files c.open_record.ensures.writes)
+          (writes_for _ _ _ (writes_both _ _ _ _ closing.ensures.journal.writes (writes_record _ _ _ named writing.ensures.others)));
+      since = writes_both _ _ _ _ closing.ensures.journal.writes (writes_record _ _ _ named writing.ensures.others);
       saved = λ e some. (
         ended_going closing.result.end closing.result.status closing.ensures.status_is
             (ended_same writing.result closing.result.status c.status_after-2.result after e),
@@ -169,7 +172,7 @@ returns-in-Err-clause-leaves g c = λ devices begins.
       subst (λ (s : Status). IsRefusal s command (g.D.RecordFolder.files c.args.records.now) rose) (sym c.status_after.ensures.err) refusal,
       record { outside = refl; input = refl },
       record {
-        writes = subst (λ (f : Option Files). WritesOnly c.args.target.command.now.record.now f (g.D.RecordFolder.files c.open_record.new.records)) c.may_record.ensures.files c.open_record.ensures.writes;
+        writes = subst (λ (f : Option Files). WritesFor command f (g.D.RecordFolder.files c.open_record.new.records)) c.may_record.ensures.files c.open_record.ensures.writes;
         permitted = inl (c.may_record.ensures.permitted (search rules));
       },
     )
@@ -187,7 +190,7 @@ returns-in-Err-clause-fault g c = rw c.status_after.ensures.err (λ e. absurd ((
 pub returns-then-not-may_record-clause-leaves : goal.returns-then-not-may_record-clause-leaves
 returns-then-not-may_record-clause-leaves g c = λ devices begins.
     let no : c.may_record.result ≡ false = search rules in
-    inl (c.may_record.ensures.refused no, record { outside = refl; input = refl }, record { writes = writes_kept _ _ _ c.may_record.ensures.files; permitted = inr c.may_record.ensures.files })
+    inl (c.may_record.ensures.refused no, record { outside = refl; input = refl }, record { writes = for_kept _ _ _ c.may_record.ensures.files; permitted = inr c.may_record.ensures.files })
 
 -- ---- the counts of faults, and the folder of modules
 pub returns-then-is_empty-clause-keeps : goal.returns-then-is_empty-clause-keeps
