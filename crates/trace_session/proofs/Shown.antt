@@ -1,5 +1,5 @@
 -- What a picture shows of spans.
-use Rattle.std.proofs.Common.{◌≡◌, ℕ, zero, suc, ◌+◌, ◌<◌, ◌&&◌, Bool, true, if◌then◌else◌, List, [], ◌∷◌, ◌++◌, refl, sym, ap, ap₂, ◌∙◌, append_assoc, length, drop, get_or, drop-cons, add-one, le-leb, arith}
+use Rattle.std.proofs.Common.{◌≡◌, ℕ, zero, suc, ◌+◌, ◌<◌, ◌&&◌, true, if◌then◌else◌, List, [], ◌∷◌, ◌++◌, refl, sym, ap, ap₂, ◌∙◌, append_assoc, length, drop, get_or, drop-cons, add-one, le-leb, arith}
 use Rattle.std.specs.List.{filter}
 use Rattle.std.proofs.lemmas.List.Elements.{filter-append}
 use Rattle.wind_machine.specs.State.{State}
@@ -13,7 +13,7 @@ use Rattle.trace_picture.specs.declared.areas.AreaKind.TheVariants.{Bar}
 use Rattle.trace_session.specs.Choice.{ChoiceState, everything, is_step}
 use Rattle.trace_session.specs.Laws.{EverythingLaw}
 use Rattle.trace_session.specs.Shown.{shown_areas, shows}
-use Rattle.trace_session.specs.Spans.{looked_at, no_spans, opening_spans, part_after, part_of, spans_after, spans_of}
+use Rattle.trace_session.specs.Spans.{looked_at, no_spans, opening_spans, part_after, part_of, spans_after}
 use Rattle.trace_session.proofs.Lines.{all_lines}
 
 -- ---- the areas of two lists of spans

@@ -8,6 +8,7 @@ mod command;
 mod ending;
 mod events;
 mod forms;
+mod kinds;
 mod laws;
 mod observer;
 mod playing;

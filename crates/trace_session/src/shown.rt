@@ -2,7 +2,6 @@
 
 ghost use Rattle.std.specs.Prelude.{◌≡◌, ◌++◌, ◌∷◌, [], OnOk};
 ghost use Rattle.std.specs.List.{filter};
-ghost use Rattle.trace_picture.specs.Areas.{areas_of};
 ghost use Rattle.trace_session.specs.Choice.{choice_state};
 ghost use Rattle.trace_session.specs.Shown.{kind_of_area as kind_of_area_lem, kind_of_standing as kind_of_standing_lem, shown_areas, shows};
 
