@@ -23,16 +23,17 @@ pub enum AreaKind {
 /// A stretch of board time in the row of a task.
 #[derive(Clone, Copy, Debug, PartialEq, Eq)]
 pub struct Area {
+    // fields lie in this order, and small ones together take less room
     /// The task whose row it is in.
     pub row: Ident,
+    /// What the task did.
+    pub title: Look,
+    /// What it is drawn as.
+    pub kind: AreaKind,
     /// From when, in board time.
     pub from: u128,
     /// Until when; it is after `from`.
     pub to: u128,
-    /// What it is drawn as.
-    pub kind: AreaKind,
-    /// What the task did.
-    pub title: Look,
 }
 
 /// The areas of a picture.

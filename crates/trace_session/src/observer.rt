@@ -157,18 +157,20 @@ impl<'a> Observer<'a> {
         self.spans.close(end)
     }
 
-    /// The areas of the spans that have ended and are shown.
-    pub(crate) fn areas(&self) -> Result<Areas, NoMemory>
-        ensures { IfOk result (λ areas. areas ≡ shown_areas (choice_state self.now.choice.now) self.now.spans.done) }
+    /// Takes the areas of the spans that have ended and are shown. The spans are dropped, as the picture
+    /// needs no more of them.
+    pub(crate) fn take_areas(&mut self) -> Result<Areas, NoMemory>
+        ensures { IfOk result (λ areas. areas ≡ shown_areas (choice_state self.old.choice.now) self.old.spans.done) }
     {
         let mut areas = Areas::new(self.alloc);
         add_spans(&mut areas, self.choice, self.spans.done())?;
+        self.scene.note_waits(self.choice, self.spans.done())?;
+        self.spans = Spans::new(self.alloc);
         Ok(areas)
     }
 
     /// Adds the picture with these areas.
-    pub(crate) fn draw(&mut self, text: &mut Vec<u8>, areas: &Areas) -> Result<(), NoMemory> {
-        self.scene.note_waits(self.choice, self.spans.done())?;
+    pub(crate) fn draw(&self, text: &mut Vec<u8>, areas: &Areas) -> Result<(), NoMemory> {
         self.scene.draw(self.alloc, text, self.choice, areas.list())
     }
 }
