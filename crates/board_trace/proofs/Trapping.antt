@@ -1,16 +1,18 @@
 -- The cause that a line tells is the machine's trap.
-use Rattle.std.proofs.Common.{◌≡◌, ℕ, Bool, true, false, cond, eqb, List, [], ◌++◌, Option, None, Some, refl, sym, ap, ap₂, subst, ◌∙◌, append_assoc, length, take, length-append, le-leb, arith}
-use Rattle.std.specs.Prelude.{◌&&◌, ◌||◌, IfSome, codes, if◌then◌else◌, nat_le, not, unwrap_or}
+use Rattle.std.proofs.Common.{◌≡◌, ℕ, Bool, true, false, cond, eqb, List, [], ◌∷◌, ◌++◌, Option, None, Some, refl, sym, ap, ap₂, subst, ◌∙◌, append_assoc, length, take, length-append, le-leb, arith}
+use Rattle.std.specs.Prelude.{◌&&◌, ◌||◌, codes, if◌then◌else◌, nat_le, not, unwrap_or}
 use Rattle.std.specs.Option.{option_map}
 use Rattle.std.specs.Str.{bytes_eq}
 use Rattle.std.proofs.Math.Seq.{take-append_seam}
 use Rattle.std.proofs.lemmas.Slice.Eq.{bytes_eq-Decides}
+use Rattle.id_table.proofs.Records.{found_in}
 use Rattle.id_table.specs.Idents.{shell_id}
 use Rattle.task_block.specs.declared.task.Task.{Task}
-use Rattle.task_block.specs.Standing.{is_ready}
 use Rattle.wind_base.specs.declared.regs.Regs.{Regs}
 use Rattle.wind_core.specs.Moves.{suspend}
-use Rattle.wind_core.specs.State.{task_of}
+use Rattle.wind_core.specs.Orders.{running}
+use Rattle.wind_core.specs.State.{task_id, task_of}
+use Rattle.wind_core.proofs.Lawful.{runner_may}
 use Rattle.ppc_core.specs.Outcomes.{Outcome, Done, Trapped}
 use Rattle.ppc_core.specs.Instructions.{exec_of}
 use Rattle.ppc_core.specs.declared.trap.Trap.{Trap}
@@ -18,7 +20,6 @@ use Rattle.ppc_core.specs.declared.trap.Trap.TheVariants as traps
 use Rattle.board_bus.specs.Access.{board_meaning, fetched}
 use Rattle.board_bus.specs.BusState.{BusState}
 use Rattle.kernel_world.specs.Actors.{is_shell}
-use Rattle.kernel_world.specs.Objects.{IsReady}
 use Rattle.kernel_world.specs.Starting.{no_regs}
 use Rattle.kernel_world.specs.State.{WorldState}
 use Rattle.kernel_world.specs.declared.actor.Actor.{Actor}
@@ -40,13 +41,15 @@ use Rattle.wind_machine.specs.declared.next.Next.TheVariants.{Deliver, Come, Arr
 use Rattle.wind_machine.specs.declared.phase.Phase.{Phase}
 use Rattle.wind_machine.specs.declared.phase.Phase.TheVariants as phases
 use Rattle.wind_machine.proofs.Asking.{as_task, asks_at_gate, own_gate}
-use Rattle.wind_machine.proofs.Free.{own_found, runner_ready}
+use Rattle.wind_machine.proofs.Free.{own_found}
 use Rattle.wind_machine.proofs.Order.{by_next}
-use Rattle.board_trace.specs.Before.{at_of, counter_at, gate_of, gate_there, is_calling, word_of}
+use Rattle.board_trace.specs.Before.{at_of, before_step, counter_at, gate_of, gate_there, is_calling, word_of}
 use Rattle.board_trace.specs.Causes.{begins_with, cause_of, target_of, word_there}
-use Rattle.board_trace.specs.Traps.{CauseLaw, cause_by, trap_at, trap_of, world_at_step}
+use Rattle.board_trace.specs.Level.{exception_told}
+use Rattle.board_trace.specs.Traps.{CauseLaw, cause_by, cause_in, trap_at, trap_of, world_at_step}
 use Rattle.board_trace.specs.declared.cause.Cause.{Cause}
 use Rattle.board_trace.specs.declared.cause.Cause.TheVariants as causes
+use Rattle.board_trace.specs.declared.happening.Happening.TheVariants as told
 
 -- ---- the text that reports a trap
 begins : (word rest : List ℕ) → begins_with word (word ++ rest) ≡ true
@@ -139,14 +142,15 @@ trapped_in_call trap w who = part_of at_prompt (writing (with_kern w (aborted w.
 abbrev trapped_alone : Trap → ShellState → WorldState → ℕ → Part
 trapped_alone trap shell w who = part_of shell (writing (with_kern w (suspend w.kern who)) (trap_text trap (task_of w.kern.tasks who)))
 
-found : (o : Option Task) → IfSome o (λ t. is_ready t ≡ true) → (t : Task) × (o ≡ Some t)
-found None ready = absurd ready
-found (Some t) ready = (t, refl)
+-- a task lives
+record Living (w : WorldState) (who : ℕ) : Type 0 where
+  task : Task
+  is : task_of w.kern.tasks who ≡ Some task
 
-trap_reports : (trap : Trap) (shell : ShellState) (w : WorldState) (who : Actor) → w.output ≡ [] → ((id : ℕ) → who ≡ by_task id → IsReady w.kern id) → Reports trap (trapped trap shell w who).world.output
-trap_reports trap shell w (by_task who) empty ready =
-    let t = found (task_of w.kern.tasks who) (ready who refl) in
-    let wrote = task_report trap (task_of w.kern.tasks who) t.0 t.1 in
+trap_reports : (trap : Trap) (shell : ShellState) (w : WorldState) (who : Actor) → w.output ≡ [] → ((id : ℕ) → who ≡ by_task id → Living w id) → Reports trap (trapped trap shell w who).world.output
+trap_reports trap shell w (by_task who) empty lives =
+    let living = lives who refl in
+    let wrote = task_report trap (task_of w.kern.tasks who) living.task living.is in
     record {
       rest = wrote.rest;
       is = elim (eqb who shell_id) as (λ b. (cond b (trapped_in_call trap w who) (trapped_alone trap shell w who)).world.output ≡ head_text trap ++ wrote.rest) [
@@ -154,7 +158,7 @@ trap_reports trap shell w (by_task who) empty ready =
         | false ↦ ap (λ bytes. bytes ++ trap_text trap (task_of w.kern.tasks who)) empty ∙ wrote.is
       ];
     }
-trap_reports trap shell w Interrupt empty ready =
+trap_reports trap shell w Interrupt empty lives =
     let wrote = routine_report trap (regs_of w Interrupt).pc in
     record { rest = wrote.rest; is = ap (λ bytes. bytes ++ routine_text trap (regs_of w Interrupt).pc) empty ∙ wrote.is }
 
@@ -188,23 +192,30 @@ nothing_written : (s : State) (who : Actor) → (world_at_step s who).output ≡
 nothing_written s (by_task who) = refl
 nothing_written s Interrupt = refl
 
--- who makes the step is ready, if it is a task
-ready_actor : (s : State) (who : ℕ) → Good s → stepping s ≡ Some (by_task who) → IsReady s.world.kern who
-ready_actor s who g = by_next s (λ n. actor_of n ≡ Some (by_task who) → IsReady s.world.kern who) (record {
+-- the running task lives
+runs_living : (s : State) (who : ℕ) (t : Task) → Good s → running s.world.kern ≡ Some t → t.id ≡ who → Living s.world who
+runs_living s who t g runs own =
+    let is = g.kept.world.kern in
+    let P : ℕ → Type 0 = λ id. task_of s.world.kern.tasks id ≡ Some t in
+    record { task = t; is = subst P own (found_in task_id s.world.kern.tasks t is.rising (runner_may s.world.kern is t runs).lives) }
+
+-- so does who makes the step, if it is a task
+living : (s : State) (who : ℕ) → Good s → stepping s ≡ Some (by_task who) → Living s.world who
+living s who g = by_next s (λ n. actor_of n ≡ Some (by_task who) → Living s.world who) (record {
   deliver = λ i due q. absurd (cc);
   come = λ held e due q. absurd (cc);
   arrive = λ held quiet due q. absurd (cc);
   routine = λ nothing active q. absurd (cc);
-  act = λ left t runs none q. let own : t.id ≡ who = cc in subst (IsReady s.world.kern) own (runner_ready s.world.kern g.kept.world.kern t runs);
-  load = λ left t runs own name found q. let same : shell_id ≡ who = cc in subst (IsReady s.world.kern) (own ∙ same) (runner_ready s.world.kern g.kept.world.kern t runs);
+  act = λ left t runs none q. let own : t.id ≡ who = cc in runs_living s who t g runs own;
+  load = λ left t runs own name found q. let same : shell_id ≡ who = cc in runs_living s who t g runs (own ∙ same);
   jump = λ left nobody e there q. absurd (cc);
   over = λ left nobody none q. absurd (cc);
 })
 
-ready_at_step : (s : State) (who : Actor) (id : ℕ) → Good s → stepping s ≡ Some who → who ≡ by_task id → IsReady (world_at_step s who).kern id
-ready_at_step s who id g comes is =
-    let there = subst (λ o. IfSome o (λ t. is_ready t ≡ true)) (sym (own_found s.world.kern.tasks id)) (ready_actor s id g (comes ∙ ap Some is)) in
-    subst (λ a. IsReady (world_at_step s a).kern id) (sym is) there
+living_at_step : (s : State) (who : Actor) (id : ℕ) → Good s → stepping s ≡ Some who → who ≡ by_task id → Living (world_at_step s who) id
+living_at_step s who id g comes is =
+    let there = living s id g (comes ∙ ap (λ (a : Actor). Some a) is) in
+    subst (λ (a : Actor). Living (world_at_step s a) id) (sym is) (record { task = there.task; is = own_found s.world.kern.tasks id ∙ there.is })
 
 -- the address and the word of the step
 module _ (s : State) (who : Actor) (step : IsInstructionOf who s) where
@@ -226,7 +237,7 @@ module _ (s : State) (who : Actor) (step : IsInstructionOf who s) where
   executes shell =
       let w = world_at_step s who in
       ap (λ g. part_at g shell w who) (same_gate s who ∙ step.no_gate)
-      ∙ ap (λ o. word_part o shell w who) (ap₂ (λ b (r : Regs). fetched b r.pc) (same_bus s who) (same_regs s who) ∙ sym word_is)
+      ∙ ap (λ o. word_part o shell w who) (ap₂ (λ (b : BusState) (r : Regs). fetched b r.pc) (same_bus s who) (same_regs s who) ∙ sym word_is)
 
 -- what the step of a task or routine leaves written
 abbrev written_by : State → Actor → List ℕ
@@ -237,15 +248,15 @@ unfolding file_asked
 load_needs s name e = e
 
 after_is : (said : FileSaid) (s t : State) (who : Actor) → IsInstructionOf who s → (n : Next) → n ≡ next s → option_map settled_state (state_after said s n) ≡ Some t → t.world.output ≡ written_by s who
-after_is said s t (by_task who) step (Act id) is e =
-    let same : id ≡ who = (let both : Some (by_task id) ≡ Some (by_task who) = ap actor_of is ∙ step.comes in cc) in
-    let calls : IsOnProcessor s.shell.phase (by_task id) = λ own. step.in_call (ap (λ i. is_shell (by_task i)) (sym same) ∙ ap (λ i. eqb i shell_id) own) in
+after_is said s t who step (Act id) is e =
+    let same : by_task id ≡ who = some_is (by_task id) who (ap actor_of is ∙ step.comes) in
+    let calls : IsOnProcessor s.shell.phase (by_task id) = λ own. step.in_call (ap is_shell (sym same) ∙ ap (λ i. eqb i shell_id) own) in
     ap (λ (u : State). u.world.output) (sym (some_is (settled_state (step_of s id)) t e))
     ∙ ap (λ (u : State). u.world.output) (as_task s id calls)
-    ∙ ap (λ i. written_by s (by_task i)) same
-after_is said s t Interrupt step Routine is e = ap (λ (u : State). u.world.output) (sym (some_is (settled_state (routine_step s)) t e))
-after_is said s t (by_task who) step Routine is e = let both : Some Interrupt ≡ Some (by_task who) = ap actor_of is ∙ step.comes in absurd (cc)
-after_is said s t Interrupt step (Act id) is e = let both : Some (by_task id) ≡ Some Interrupt = ap actor_of is ∙ step.comes in absurd (cc)
+    ∙ ap (written_by s) same
+after_is said s t who step Routine is e =
+    let same : Interrupt ≡ who = some_is Interrupt who (ap actor_of is ∙ step.comes) in
+    ap (λ (u : State). u.world.output) (sym (some_is (settled_state (routine_step s)) t e)) ∙ ap (written_by s) same
 after_is said s t who step (Load name) is e =
     let needs : file_asked s ≡ Some name = load_needs s name (ap file_of (sym is)) in
     let none : file_asked s ≡ None = asks_at_gate s who step.comes step.no_gate in
@@ -260,9 +271,15 @@ pub causes_are_traps : CauseLaw
 unfolding machine_step
 causes_are_traps said s t who trap good step made traps_so =
     let w = world_at_step s who in
-    let at = (regs_of s.world who).pc in
-    let target = target_of s.world (Some who) (word_of s) in
-    let reports = trap_reports trap s.shell w who (nothing_written s who) (λ id is. ready_at_step s who id good step.comes is) in
-    ap (λ bytes. cause_of bytes at (word_of s) target)
-    (after_is said s t who step (next s) refl made ∙ ap (λ (p : Part). p.world.output) (executes s who step s.shell ∙ word_traps (word_of s) s.shell w who trap traps_so))
-    ∙ reported_cause trap (trapped trap s.shell w who).world.output at (word_of s) target reports
+    let pc = (regs_of s.world who).pc in
+    let word = word_of s in
+    let written = t.world.output in
+    let reports = trap_reports trap s.shell w who (nothing_written s who) (λ id is. living_at_step s who id good step.comes is) in
+    let wrote : written ≡ (trapped trap s.shell w who).world.output =
+    after_is said s t who step (next s) refl made ∙ ap (λ (p : Part). p.world.output) (executes s who step s.shell ∙ word_traps word s.shell w who trap traps_so) in
+    let cause : cause_of written pc word (target_of s.world (Some who) word) ≡ cause_in s who trap =
+    ap (λ bytes. cause_of bytes pc word (target_of s.world (Some who) word)) wrote
+    ∙ reported_cause trap (trapped trap s.shell w who).world.output pc word (target_of s.world (Some who) word) reports in
+    ap₂ (exception_told (before_step s) written) step.comes (at_is s who step)
+    ∙ ap (λ a. told.Exception who pc (cause_of written pc word (target_of s.world a word)) ∷ []) step.comes
+    ∙ ap (λ x. told.Exception who pc x ∷ []) cause

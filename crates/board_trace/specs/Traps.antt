@@ -1,5 +1,5 @@
 -- Which trap the machine makes when it executes a word, and the cause that its line tells.
-use Rattle.std.specs.Prelude.{◌≡◌, ℕ, Option, None, Some}
+use Rattle.std.specs.Prelude.{◌≡◌, ℕ, [], ◌∷◌, Option, None, Some}
 use Rattle.std.specs.Option.{unwrap_or}
 use Rattle.ppc_core.specs.Instructions.{exec_of}
 use Rattle.ppc_core.specs.Outcomes.{Outcome, Done, Trapped}
@@ -14,14 +14,16 @@ use Rattle.wind_machine.specs.ActorSteps.{at_step_start}
 use Rattle.wind_machine.specs.Events.{cleared, unreserved_world}
 use Rattle.wind_machine.specs.Good.{Good}
 use Rattle.wind_machine.specs.LiveLoadingSaid.{FileSaid}
-use Rattle.wind_machine.specs.Machine.{machine_step}
+use Rattle.wind_machine.specs.Machine.{machine_step, stepping}
 use Rattle.wind_machine.specs.Processor.{bus_of, regs_of}
 use Rattle.wind_machine.specs.Silent.{IsInstructionOf}
 use Rattle.wind_machine.specs.State.{State}
-use Rattle.board_trace.specs.Before.{word_of}
-use Rattle.board_trace.specs.Causes.{cause_of, target_of}
+use Rattle.board_trace.specs.Before.{at_of, before_step, word_of}
+use Rattle.board_trace.specs.Causes.{target_of}
+use Rattle.board_trace.specs.Level.{exception_told}
 use Rattle.board_trace.specs.declared.cause.Cause.{Cause}
 use Rattle.board_trace.specs.declared.cause.Cause.TheVariants as causes
+use Rattle.board_trace.specs.declared.happening.Happening.TheVariants as told
 
 -- the world in which a task or routine makes the next step
 abbrev pub world_at_step : State → Actor → WorldState
@@ -47,12 +49,14 @@ cause_by traps.Access at word target = causes.Access (unwrap_or target at)
 cause_by traps.TrapInsn at word target = causes.Trap
 cause_by traps.Sysc at word target = causes.SystemCall
 
--- a step from a state with the invariant in which a task or routine executes a word: if the machine traps, the cause that is
--- read of what the step reports is the trap's, with the step's word and data address
+-- the cause of a trap in the next step of a task or routine
+abbrev pub cause_in : State → Actor → Trap → Cause
+cause_in s who trap = cause_by trap (regs_of s.world who).pc (word_of s) (target_of s.world (Some who) (word_of s))
+
+-- in a step from a state with the invariant, a task or routine executes a word and the machine traps: then the exception that
+-- is told is its own, at its program counter, and its cause is that trap, with the word or the data address
 abbrev pub CauseLaw : Type 0
 CauseLaw =
     (said : FileSaid) (s t : State) (who : Actor) (trap : Trap) → Good s → IsInstructionOf who s → machine_step said s ≡ Some t
     → trap_at (word_of s) (world_at_step s who) who ≡ Some trap
-    → let at = (regs_of s.world who).pc in
-    let target = target_of s.world (Some who) (word_of s) in
-    cause_of t.world.output at (word_of s) target ≡ cause_by trap at (word_of s) target
+    → exception_told (before_step s) t.world.output (stepping s) (at_of s) ≡ told.Exception who (regs_of s.world who).pc (cause_in s who trap) ∷ []
