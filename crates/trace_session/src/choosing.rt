@@ -178,7 +178,8 @@ fn choice_of(
     let tasks = tasks_of(alloc, value_of(matches, "tasks"))?;
     let tasks = valid(alloc, app, tasks, BAD_TASKS)?;
     let kinds = kinds_of(alloc, value_of(matches, "kinds"))?;
-    let kinds = valid(alloc, app, kinds, &kinds_message(alloc)?)?;
+    let message = kinds_message(alloc)?;
+    let kinds = valid(alloc, app, kinds, message.as_str())?;
     Ok(Choice {
         first,
         last,
