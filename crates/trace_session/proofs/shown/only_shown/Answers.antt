@@ -1,5 +1,5 @@
 use Rattle.trace_session.specs.Choice.{choice_state}
-use Rattle.trace_session.proofs.Shown.{one_more}
+use Rattle.trace_session.proofs.Selecting.{one_more}
 use Rattle.trace_session.proofs.shown.only_shown.Goals as goal
 
 -- one more of the areas, if it is shown
