@@ -1,5 +1,5 @@
 -- What the arguments of the command line ask for.
-use Rattle.std.specs.Prelude.{ℕ, Bool, ◌&&◌, ◌==◌, List, [], ◌∷◌, Option, Some, None, if◌then◌else◌, codes}
+use Rattle.std.specs.Prelude.{ℕ, Bool, true, false, ◌&&◌, ◌==◌, List, [], ◌∷◌, Option, Some, None, if◌then◌else◌, codes}
 use Rattle.std.specs.Option.{option_map}
 use Rattle.std.specs.List.{slice_split}
 use Rattle.std.specs.Str.{bytes_eq}
@@ -7,8 +7,8 @@ use Rattle.clap.specs.Words.{App, Row, Text, new_app}
 use Rattle.wind_base.specs.Limits.{most_steps}
 use Rattle.wind_session.specs.Command.{CommandState, number_value, command_of_rows as session_of_rows, if_valid, rows_given, value_of, with_option, with_session_options}
 use Rattle.trace_session.specs.Choice.{ChoiceState, everything}
+use Rattle.trace_session.specs.Kinds.{kind_named}
 use Rattle.trace_session.specs.declared.choice.Kind.{Kind}
-use Rattle.trace_session.specs.declared.choice.Kind.TheVariants as kinds
 use Rattle.trace_session.specs.declared.forms.Form.{Form}
 use Rattle.trace_session.specs.declared.forms.Form.TheVariants.{Events, Timeline, State}
 
@@ -68,25 +68,6 @@ most_id = 4294967295
 abbrev pub tasks_value : Text → Option (Option (List ℕ))
 tasks_value text = if bytes_eq text (codes "all") then Some None else option_map Some (each (number_value most_id) (parts text))
 
--- the kind with this name
-abbrev pub kind_named : Text → Option Kind
-kind_named name =
-    if bytes_eq name (codes "outside") then Some kinds.Outside
-    else if bytes_eq name (codes "runs") then Some kinds.Runs
-    else if bytes_eq name (codes "calls") then Some kinds.Calls
-    else if bytes_eq name (codes "exceptions") then Some kinds.Exceptions
-    else if bytes_eq name (codes "owners") then Some kinds.Owners
-    else if bytes_eq name (codes "messages") then Some kinds.Messages
-    else if bytes_eq name (codes "waits") then Some kinds.Waits
-    else if bytes_eq name (codes "tasks") then Some kinds.Tasks
-    else if bytes_eq name (codes "priorities") then Some kinds.Priorities
-    else if bytes_eq name (codes "watchdogs") then Some kinds.Watchdogs
-    else if bytes_eq name (codes "modules") then Some kinds.Modules
-    else if bytes_eq name (codes "routines") then Some kinds.Routines
-    else if bytes_eq name (codes "output") then Some kinds.Output
-    else if bytes_eq name (codes "instructions") then Some kinds.Instructions
-    else None
-
 -- the kinds; none for all
 abbrev pub kinds_value : Text → Option (Option (List Kind))
 kinds_value text = if bytes_eq text (codes "all") then Some None else option_map Some (each kind_named (parts text))
@@ -107,11 +88,18 @@ has_defaults rows =
     && (bytes_eq (value_of (codes "to") rows) (codes "last")
     && (bytes_eq (value_of (codes "tasks") rows) (codes "all") && bytes_eq (value_of (codes "kinds") rows) (codes "all")))
 
--- events are told of a choice, other forms of everything
+-- the form is told of a choice
+abbrev pub has_choice : Form → Bool
+has_choice Events = true
+has_choice Timeline = true
+has_choice State = false
+
+-- other forms are told of everything
 abbrev pub choice_for : Form → List Row → Option ChoiceState
-choice_for Events rows = choice_of_rows rows
-choice_for Timeline rows = if has_defaults rows then Some everything else None
-choice_for State rows = if has_defaults rows then Some everything else None
+choice_for form rows =
+    if has_choice form then choice_of_rows rows
+    else if has_defaults rows then Some everything
+    else None
 
 -- ---- the command
 -- the command line, as clap reads it

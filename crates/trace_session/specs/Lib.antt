@@ -1,7 +1,9 @@
 pub mod Bursts
 pub mod Choice
 pub mod Forms
+pub mod Kinds
 pub mod Laws
+pub mod Shown
 pub mod Spans
 pub mod Steps
 pub mod Traced
