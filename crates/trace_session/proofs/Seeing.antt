@@ -13,12 +13,18 @@ use Rattle.board_changes.specs.Spans.{SpanState, closed}
 use Rattle.trace_picture.specs.Areas.{areas_of}
 use Rattle.trace_picture.specs.declared.areas.Area.{Area}
 use Rattle.trace_state.specs.Board.{IsTextOf, board_data}
-use Rattle.trace_session.specs.Traced.{IsPutOf, SeesSteps, TellsAreas, TellsNothing, TellsState}
+use Rattle.trace_session.specs.declared.traced.Product.{Product}
+use Rattle.trace_session.specs.declared.traced.Product.TheVariants as products
+use Rattle.trace_session.specs.Traced.{Alone, IsPutOf, SeesSteps, TellsAreas, TellsNothing, TellsState}
 use Rattle.trace_session.proofs.Telling.{lost_if, tells_unless}
 
 -- nothing is told of the run
 pub untold : (shelf : Shelf) (said : Answers) (s u : State) (n i : ℕ) (old mid : Option (List Request)) → After shelf said s n i u old mid → Told TellsNothing shelf s n u old mid
 untold shelf said s u n i old mid run = record { said = said; k = i; end = ends.WriteFault; made = stopped shelf said s u n i old mid run; tells = tt }
+
+-- a text was put, and nothing else is left
+pub alone : (product : Product) (Tells : Answers → ℕ → RunEnd → Type 0) (shelf : Shelf) (s t : State) (n : ℕ) (old new : Option (List Request)) → product ≡ products.Text → Told Tells shelf s n t old new → Told (Alone product Tells) shelf s n t old new
+alone product Tells shelf s t n old new none ran = record { said = ran.said; k = ran.k; end = ran.end; made = ran.made; tells = (none, ran.tells) }
 
 -- the spans of a run, and no put was lost
 abbrev pub Sees : RunEnd → SpanState → State → Answers → ℕ → RunEnd → Type 0
@@ -38,7 +44,7 @@ module _ (shelf : Shelf) (s t : State) (n : ℕ) (old new : Option (List Request
 
     -- the spans ended with the run, and these are their areas
     pub areas_told : (last : SpanState) (areas : List Area) (result : RunEnd) (time : ℕ) → last ≡ closed spans time → time ≡ t.time → areas ≡ areas_of last.done
-        → (result ≡ end) ⊎ (result ≡ ends.WriteFault) → Told (TellsAreas result areas s) shelf s n t old new
+        → (result ≡ end) ⊎ (result ≡ ends.WriteFault) → Told (TellsAreas (products.Picture areas) result s) shelf s n t old new
     areas_told last areas result time closed_is time_is areas_are put = record {
       said = ran.said;
       k = ran.k;
@@ -46,9 +52,9 @@ module _ (shelf : Shelf) (s t : State) (n : ℕ) (old new : Option (List Request
       made = ran.made;
       tells = (
         subst (λ e. (result ≡ e) ⊎ (result ≡ ends.WriteFault)) ran.tells.0 put,
-        areas_are ∙ ap (λ (x : SpanState). areas_of x.done)
+        ap products.Picture (areas_are ∙ ap (λ (x : SpanState). areas_of x.done)
             (closed_is ∙ ap (closed spans) (time_is ∙ ap (λ (v : State). v.time) ran.made.state)
-            ∙ ap (λ x. closed x (after ran.said s ran.k).time) (tells_unless (SeesSteps spans) (λ said u k. ⊥) ran.said s ran.k ran.end none_lost ran.tells.1)),
+            ∙ ap (λ x. closed x (after ran.said s ran.k).time) (tells_unless (SeesSteps spans) (λ said u k. ⊥) ran.said s ran.k ran.end none_lost ran.tells.1))),
       );
     }
 

@@ -1,5 +1,5 @@
 -- What the arguments of the command line ask for.
-use Rattle.std.specs.Prelude.{ℕ, Bool, ◌&&◌, ◌==◌, List, [], ◌∷◌, Option, Some, None, if◌then◌else◌, codes}
+use Rattle.std.specs.Prelude.{ℕ, Bool, true, false, ◌&&◌, ◌==◌, List, [], ◌∷◌, Option, Some, None, if◌then◌else◌, codes}
 use Rattle.std.specs.Option.{option_map}
 use Rattle.std.specs.List.{slice_split}
 use Rattle.std.specs.Str.{bytes_eq}
@@ -10,7 +10,7 @@ use Rattle.trace_session.specs.Choice.{ChoiceState, everything}
 use Rattle.trace_session.specs.declared.choice.Kind.{Kind}
 use Rattle.trace_session.specs.declared.choice.Kind.TheVariants as kinds
 use Rattle.trace_session.specs.declared.forms.Form.{Form}
-use Rattle.trace_session.specs.declared.forms.Form.TheVariants.{Events, Timeline, State}
+use Rattle.trace_session.specs.declared.forms.Form.TheVariants.{Events, JsonLines, Timeline, State}
 
 -- a command: the form in which a session is told, what is told of it, and the session
 pub record TraceState : Type 0 where
@@ -22,6 +22,7 @@ pub record TraceState : Type 0 where
 abbrev pub form_named : Text → Option Form
 form_named name =
     if bytes_eq name (codes "events") then Some Events
+    else if bytes_eq name (codes "json-lines") then Some JsonLines
     else if bytes_eq name (codes "timeline") then Some Timeline
     else if bytes_eq name (codes "state") then Some State
     else None
@@ -107,11 +108,19 @@ has_defaults rows =
     && (bytes_eq (value_of (codes "to") rows) (codes "last")
     && (bytes_eq (value_of (codes "tasks") rows) (codes "all") && bytes_eq (value_of (codes "kinds") rows) (codes "all")))
 
--- events are told of a choice, other forms of everything
+-- the form is told of a choice
+abbrev pub has_choice : Form → Bool
+has_choice Events = true
+has_choice JsonLines = true
+has_choice Timeline = false
+has_choice State = false
+
+-- other forms are told of everything
 abbrev pub choice_for : Form → List Row → Option ChoiceState
-choice_for Events rows = choice_of_rows rows
-choice_for Timeline rows = if has_defaults rows then Some everything else None
-choice_for State rows = if has_defaults rows then Some everything else None
+choice_for form rows =
+    if has_choice form then choice_of_rows rows
+    else if has_defaults rows then Some everything
+    else None
 
 -- ---- the command
 -- the command line, as clap reads it

@@ -1,17 +1,24 @@
 //! A run, told as a picture.
 
-ghost use Rattle.std.specs.Prelude.{◌≡◌, ◌≢◌, ◌≤◌};
+ghost use Rattle.std.specs.Prelude.{◌≡◌, ◌≤◌, IfOk, OnErr};
+ghost use Rattle.wind_base.specs.Limits.{most_steps};
 ghost use Rattle.wind_outside.specs.Counts.{Rose};
-ghost use Rattle.trace_session.specs.Traced.{IsPutOf};
+ghost use Rattle.wind_session.specs.{Keeping.KeepsFiles, Telling.Told};
+ghost use Rattle.wind_session.specs.BoardPlayerSeen.{seen};
 ghost use Rattle.wind_session.specs.declared.run.RunEnd.TheVariants as ends;
+ghost use Rattle.trace_session.specs.Traced.{TellsAreas, TellsNothing};
 
 use crate::observer::Observer;
+use crate::put::put_text;
+use crate::traced::{Product, TracedRun};
 use board_trace::BeforeStep;
+use std::alloc::Global;
+use trace_picture::areas_of;
 use trace_state::look_before;
 use wind_base::NoMemory;
 use wind_machine::silent_law;
-use wind_outside::{Put, Sink};
-use wind_session::{Board, RunEnd, Teller};
+use wind_outside::{Device, Folder, Put, Sink};
+use wind_session::{Board, Teller, tell_run};
 
 impl Teller for Observer {
     ghost use Rattle.std.specs.Prelude.{◌≡◌};
@@ -58,14 +65,44 @@ impl Teller for Observer {
     }
 }
 
-/// Puts a text. The run before it ended like this.
-pub(crate) fn put_text<O: Sink>(out: &mut O, text: &[u8], end: RunEnd) -> RunEnd
-    ensures put { IsPutOf text.now result end (O.bytes out.old) (O.bytes out.new) }
-    ensures fault { end ≢ ends.WriteFault → result ≡ ends.WriteFault → Rose (O.faults out.old) (O.faults out.new) }
-    ensures faults { O.faults out.old ≤ O.faults out.new }
+/// Makes steps, at most `limit`, and puts a picture of them. The modules that the steps need are
+/// fetched from the folder.
+///
+/// # Errors
+///
+/// `NoMemory` if memory runs out for the picture. Then the run is given up.
+pub(crate) fn draw_timeline<F: Folder, O: Sink>(
+    alloc: Global,
+    board: &mut Board,
+    folder: &mut F,
+    modules: &str,
+    out: &mut O,
+    limit: u64,
+) -> Result<TracedRun, NoMemory>
+    requires fresh { (seen ⟦<dyn Device as Device>⟧ board.old).steps ≡ 0 }
+    requires bound { limit ≤ most_steps }
+    ensures told { IfOk result (λ t. Told
+        (TellsAreas t.product t.end (seen ⟦<dyn Device as Device>⟧ board.old))
+        (record { files = F.files folder.old; name = modules.now }) (seen ⟦<dyn Device as Device>⟧ board.old) limit
+        (seen ⟦<dyn Device as Device>⟧ board.new) (F.requests folder.old) (F.requests folder.new)) }
+    ensures given_up { OnErr result (Told
+        TellsNothing
+        (record { files = F.files folder.old; name = modules.now }) (seen ⟦<dyn Device as Device>⟧ board.old) limit
+        (seen ⟦<dyn Device as Device>⟧ board.new) (F.requests folder.old) (F.requests folder.new)) }
+    ensures read_fault { IfOk result (λ t. t.end ≡ ends.ReadFault → Rose (F.faults folder.old) (F.faults folder.new)) }
+    ensures fault { IfOk result (λ t. t.end ≡ ends.WriteFault → Rose (O.faults out.old) (O.faults out.new)) }
+    ensures keeps { KeepsFiles ⟦<F as Folder>⟧ ⟦<O as Sink>⟧ folder.old out.old folder.new out.new }
 {
-    match out.put(text) {
-        Put::Done => end,
-        Put::Failed => RunEnd::WriteFault,
-    }
+    let mut observer = Observer::new(alloc, board)?;
+    let end = tell_run(alloc, board, folder, modules, out, limit, &mut observer)?;
+    observer.close(board)?;
+    let areas = areas_of(alloc, observer.spans.done())?;
+    let mut text = Vec::new(alloc);
+    observer
+        .scene
+        .draw(alloc, &mut text, areas.list(), board.time())?;
+    Ok(TracedRun {
+        end: put_text(out, &text, end),
+        product: Product::Picture(areas),
+    })
 }
