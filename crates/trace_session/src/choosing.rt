@@ -228,8 +228,8 @@ fn has_choice(form: Form) -> bool
     ensures { result ≡ has_choice_lem form }
 {
     match form {
-        Form::Events | Form::JsonLines => true,
-        Form::Timeline | Form::State => false,
+        Form::Events | Form::Timeline => true,
+        Form::State => false,
     }
 }
 

@@ -6,36 +6,38 @@ ghost use Rattle.wind_outside.specs.Counts.{Rose};
 ghost use Rattle.wind_session.specs.{Keeping.KeepsFiles, Telling.Told};
 ghost use Rattle.wind_session.specs.BoardPlayerSeen.{seen};
 ghost use Rattle.wind_session.specs.declared.run.RunEnd.TheVariants as ends;
+ghost use Rattle.trace_session.specs.Choice.{choice_state};
 ghost use Rattle.trace_session.specs.Traced.{TellsAreas, TellsNothing};
 
+use crate::choice::Choice;
 use crate::observer::Observer;
 use crate::put::put_text;
 use crate::traced::{Product, TracedRun};
 use board_trace::BeforeStep;
 use std::alloc::Global;
-use trace_picture::areas_of;
 use trace_state::look_before;
 use wind_base::NoMemory;
 use wind_machine::silent_law;
 use wind_outside::{Device, Folder, Put, Sink};
 use wind_session::{Board, Teller, tell_run};
 
-impl Teller for Observer {
+impl<'a> Teller for Observer<'a> {
     ghost use Rattle.std.specs.Prelude.{◌≡◌};
-    ghost use Rattle.board_trace.specs.Before.{before_step};
+    ghost use Rattle.board_trace.specs.{Before.before_step};
+    ghost use Rattle.trace_session.specs.Choice.{choice_state};
     ghost use Rattle.trace_session.specs.Traced.{SeesSteps};
 
     type Before = BeforeStep;
 
     type Error = NoMemory;
 
-    type Scope = ();
+    type Scope = &'a Choice;
 
-    ghost scope = { λ o. tt };
+    ghost scope = { λ o. o.choice };
 
     ghost reads = { λ before s. before ≡ before_step s };
 
-    ghost tells = { λ o first now. SeesSteps o.spans };
+    ghost tells = { λ o first now. SeesSteps (choice_state o.choice.now) o.spans };
 
     ghost lost = { λ scope first now said s k. ⊥ };
 
@@ -47,7 +49,9 @@ impl Teller for Observer {
 
     fn burst(&mut self, board: &mut Board, most: u64) -> Result<u64, NoMemory> {
         silent_law();
-        Ok(board.burst(most))
+        // the step after them is like them, so the first and the last step that is shown is none of them
+        let alike = self.choice.most_alike(board.steps(), most);
+        Ok(board.burst(alike.saturating_sub(1)))
     }
 
     fn look_before(&self, board: &Board) -> Result<BeforeStep, NoMemory> {
@@ -65,14 +69,15 @@ impl Teller for Observer {
     }
 }
 
-/// Makes steps, at most `limit`, and puts a picture of them. The modules that the steps need are
-/// fetched from the folder.
+/// Makes steps, at most `limit`, and puts a picture of those that are chosen. The modules that
+/// the steps need are fetched from the folder.
 ///
 /// # Errors
 ///
 /// `NoMemory` if memory runs out for the picture. Then the run is given up.
 pub(crate) fn draw_timeline<F: Folder, O: Sink>(
     alloc: Global,
+    choice: &Choice,
     board: &mut Board,
     folder: &mut F,
     modules: &str,
@@ -82,7 +87,8 @@ pub(crate) fn draw_timeline<F: Folder, O: Sink>(
     requires fresh { (seen ⟦<dyn Device as Device>⟧ board.old).steps ≡ 0 }
     requires bound { limit ≤ most_steps }
     ensures told { IfOk result (λ t. Told
-        (TellsAreas t.product t.end (seen ⟦<dyn Device as Device>⟧ board.old))
+        (TellsAreas (choice_state choice.now) t.product t.end
+        (seen ⟦<dyn Device as Device>⟧ board.old))
         (record { files = F.files folder.old; name = modules.now }) (seen ⟦<dyn Device as Device>⟧ board.old) limit
         (seen ⟦<dyn Device as Device>⟧ board.new) (F.requests folder.old) (F.requests folder.new)) }
     ensures given_up { OnErr result (Told
@@ -93,14 +99,12 @@ pub(crate) fn draw_timeline<F: Folder, O: Sink>(
     ensures fault { IfOk result (λ t. t.end ≡ ends.WriteFault → Rose (O.faults out.old) (O.faults out.new)) }
     ensures keeps { KeepsFiles ⟦<F as Folder>⟧ ⟦<O as Sink>⟧ folder.old out.old folder.new out.new }
 {
-    let mut observer = Observer::new(alloc, board)?;
+    let mut observer = Observer::new(alloc, choice, board)?;
     let end = tell_run(alloc, board, folder, modules, out, limit, &mut observer)?;
     observer.close(board)?;
-    let areas = areas_of(alloc, observer.spans.done())?;
+    let areas = observer.areas()?;
     let mut text = Vec::new(alloc);
-    observer
-        .scene
-        .draw(alloc, &mut text, areas.list(), board.time())?;
+    observer.draw(&mut text, &areas)?;
     Ok(TracedRun {
         end: put_text(out, &text, end),
         product: Product::Picture(areas),
