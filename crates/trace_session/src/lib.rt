@@ -9,6 +9,7 @@ mod ending;
 mod events;
 mod forms;
 mod laws;
+mod lines;
 mod observer;
 mod playing;
 mod program;
