@@ -1,7 +1,9 @@
 -- What happens in a step as JSON: the word for it, and what else is told of it. Names and bytes are strings in which a byte
 -- that isn't plain is `\xNN`.
 use Rattle.std.specs.Prelude.{ℕ, List, [], ◌∷◌, codes}
-use Rattle.serde_json.specs.Data.{Data, string}
+use Rattle.std.specs.Int.{cast_signed, w32}
+use Rattle.serde_json.specs.Data.{Data, number, string}
+use Rattle.serde_json.specs.Find.{of_integer}
 use Rattle.board_trace.specs.declared.cause.Cause.{Cause}
 use Rattle.board_trace.specs.declared.cause.Cause.TheVariants as causes
 use Rattle.board_trace.specs.declared.happening.Happening.{Happening}
@@ -37,9 +39,9 @@ event_word (told.Instructions who count) = codes "instructions"
 abbrev pub handed_members : ℕ → ℕ → List (List ℕ × Data)
 handed_members queue receiver = (codes "queue", number_of queue) ∷ (codes "receiver", number_of receiver) ∷ []
 
--- the address of a routine, and its parameter
+-- the address of a routine, and its parameter as a signed number
 abbrev pub routine_members : ℕ → ℕ → List (List ℕ × Data)
-routine_members entry param = (codes "entry", number_of entry) ∷ (codes "parameter", number_of param) ∷ []
+routine_members entry param = (codes "entry", number_of entry) ∷ (codes "parameter", number (of_integer (cast_signed w32 param))) ∷ []
 
 -- which exception, with the data address or the word that caused it
 abbrev pub cause_word : Cause → List ℕ

@@ -9,6 +9,7 @@ use crate::calls::add_called;
 use crate::changes::{add_change, change_word};
 use board_trace::{Cause, Happening};
 use id_table::Ident;
+use serde_json::Value;
 use std::alloc::{AllocError, Global};
 use trace_state::{Members, id_or_null};
 
@@ -53,7 +54,7 @@ fn add_routine(members: &mut Members, entry: u32, param: u32) -> Result<(), Allo
     ensures { OnOk result (members_in members.new ≡ with_all (routine_members entry param) (members_in members.old)) }
 {
     members.put_number("entry", u64::from(entry))?;
-    members.put_number("parameter", u64::from(param))
+    members.put("parameter", Value::from(param.cast_signed()))
 }
 
 // The word for a cause.
