@@ -88,7 +88,8 @@ pub(crate) fn add_called(
     call: &Call,
     reply: &Reply,
 ) -> Result<(), AllocError>
-    ensures { OnOk result (members_in members.new ≡ with_all (call_members call.now reply.now) (members_in members.old)) }
+    ensures { OnOk result (members_in members.new
+        ≡ with_all (call_members call.now reply.now) (members_in members.old)) }
 {
     members.put_word("call", gate_name(call.gate()))?;
     let words = words_value(alloc, &words_of(call))?;

@@ -112,7 +112,8 @@ fn add_priority(
     to: Pri,
     inherited: bool,
 ) -> Result<(), AllocError>
-    ensures { OnOk result (members_in members.new ≡ with_all (priority_members from to inherited) (members_in members.old)) }
+    ensures { OnOk result (members_in members.new
+        ≡ with_all (priority_members from to inherited) (members_in members.old)) }
 {
     members.put_number("from", u64::from(from.get()))?;
     members.put_number("to", u64::from(to.get()))?;

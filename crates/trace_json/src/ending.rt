@@ -3,6 +3,7 @@
 ghost use Rattle.std.specs.Prelude.{◌≡◌, IfOk};
 ghost use Rattle.serde_json.specs.View.{view};
 ghost use Rattle.trace_state.specs.Json.{list_of};
+ghost use Rattle.trace_text.specs.Forms.{outcome_state};
 ghost use Rattle.trace_json.specs.Lines.{end_data, standing_data};
 
 use crate::lines::add_head;
@@ -40,13 +41,7 @@ fn standings(alloc: Global, tasks: &[TaskView]) -> Result<Value, AllocError>
 /// The object of the end of a run.
 #[tactic(auto, unfolding(crate::specs::Lines::end_data))]
 pub(crate) fn end_value(alloc: Global, outcome: &Outcome) -> Result<Value, AllocError>
-    ensures { IfOk result (λ v. view v ≡ end_data (record {
-        time = outcome.now.at.time;
-        step = outcome.now.at.step;
-        how = outcome.now.how.now;
-        tasks = outcome.now.tasks.now;
-        left = outcome.now.left;
-    })) }
+    ensures { IfOk result (λ v. view v ≡ end_data (outcome_state outcome.now)) }
 {
     let mut members = Members::new(alloc);
     add_head(&mut members, outcome.at, "end")?;

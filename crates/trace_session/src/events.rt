@@ -1,6 +1,6 @@
 //! A run, told as lines.
 
-ghost use Rattle.std.specs.Prelude.{◌≡◌, ◌≢◌, ◌⊎◌, ◌<◌, ◌≤◌, ◌+◌, ◌++◌, ◌^◌, ℕ, List, [], Option, IfOk, OnErr, OnOk};
+ghost use Rattle.std.specs.Prelude.{◌≡◌, ◌≢◌, ◌⊎◌, ◌<◌, ◌≤◌, ◌+◌, ◌^◌, ℕ, List, [], Option, IfOk, OnErr, OnOk};
 ghost use Rattle.wind_base.specs.Limits.{most_steps};
 ghost use Rattle.wind_outside.specs.{Appending.{Appended, AppendedPrefix}, Counts.Rose};
 ghost use Rattle.wind_outside.specs.declared.sink.Put.TheVariants as puts;
@@ -11,7 +11,7 @@ ghost use Rattle.board_trace.specs.{Runs.Line, Snapshots.snapshot_of, Views.snap
 ghost use Rattle.trace_text.specs.{Forms.{HasLines, Joins}, Pages.{Ends, count_in}};
 ghost use Rattle.wind_session.specs.declared.run.RunEnd.TheVariants as ends;
 ghost use Rattle.trace_session.specs.Choice.{choice_state, chosen_lines};
-ghost use Rattle.trace_session.specs.Traced.{Alone, HoldsLines, IsPutOf, TellsEvents, TellsPart, last_line_of};
+ghost use Rattle.trace_session.specs.Traced.{Alone, HoldsLines, HoldsSome, IsPutOf, TellsLines, TellsSome, outcome_of};
 
 use crate::choice::Choice;
 use crate::laws::silent_lines_law;
@@ -45,7 +45,8 @@ fn put_page<L: LineForm, O: Sink>(page: &mut Page<L>, out: &mut O) -> Put
 // Puts the text of a page that is full.
 fn put_full<L: LineForm, O: Sink>(page: &mut Page<L>, out: &mut O) -> Put
     ensures done { result ≡ puts.Done → (first : Option (List ℕ)) (lines : List Line)
-        → HoldsLines L.is_line first (O.bytes out.old) page.old lines → HoldsLines L.is_line first (O.bytes out.new) page.new lines }
+        → HoldsLines L.is_line first (O.bytes out.old) page.old lines
+        → HoldsLines L.is_line first (O.bytes out.new) page.new lines }
     ensures part { result ≡ puts.Failed → (first : Option (List ℕ)) (lines : List Line)
         → HoldsLines L.is_line first (O.bytes out.old) page.old lines
         → HoldsSome L.is_line first (O.bytes out.new) lines }
@@ -60,11 +61,7 @@ fn put_full<L: LineForm, O: Sink>(page: &mut Page<L>, out: &mut O) -> Put
 }
 
 // Makes instructions at once, at most `most`, and tells of them. Returns how many it made.
-fn burst<L: LineForm>(
-    board: &mut Board,
-    tracer: &mut Tracer<L>,
-    most: u64,
-) -> Result<u64, NoMemory>
+fn burst<L: LineForm>(board: &mut Board, tracer: &mut Tracer<L>, most: u64) -> Result<u64, NoMemory>
     requires few { (seen ⟦<dyn Device as Device>⟧ board.old).steps + most ≤ most_steps }
     requires fits { count_in tracer.old.page.growing + most < 2 ^ 64 }
     requires before { snapshot_state tracer.old.reader.before

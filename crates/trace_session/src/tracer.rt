@@ -50,8 +50,8 @@ fn add_chosen<L: LineForm>(
 ) -> Result<(), NoMemory>
     requires fits { count_in page.old.growing + count_of happening.now < 2 ^ 64 }
     requires short { length name.now ≤ 31 }
-    ensures lines { OnOk result ((given : List ℕ) (made : List Line) → Ends L.is_line given page.old made → Ends L.is_line given page.new
-        (with_if (chosen (choice_state choice.now) before_step.now.step happening.now) (record {
+    ensures lines { OnOk result ((given : List ℕ) (made : List Line) → Ends L.is_line given page.old made
+        → Ends L.is_line given page.new (with_if (chosen (choice_state choice.now) before_step.now.step happening.now) (record {
           time = before_step.now.time;
           step = before_step.now.step;
           name = name.now;
@@ -75,8 +75,8 @@ fn add_lines<L: LineForm>(
     after: &Snapshot,
 ) -> Result<(), NoMemory>
     requires { count_in page.old.growing + sum_by count_of list.now < 2 ^ 64 }
-    ensures lines { OnOk result ((given : List ℕ) (made : List Line) → Ends L.is_line given page.old made → Ends L.is_line given page.new
-        (with_lines (filter (is_chosen (choice_state choice.now))
+    ensures lines { OnOk result ((given : List ℕ) (made : List Line) → Ends L.is_line given page.old made
+        → Ends L.is_line given page.new (with_lines (filter (is_chosen (choice_state choice.now))
         (map (line_of before_step.now (snapshot_state before.now) (snapshot_state after.now)) list.now)) made)) }
     ensures waits { OnOk result (count_in page.new.growing ≤ count_in page.old.growing + sum_by count_of list.now) }
 {

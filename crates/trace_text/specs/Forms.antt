@@ -2,6 +2,7 @@
 use Rattle.std.specs.Prelude.{◌≡◌, ℕ, List, [], ◌∷◌, ◌++◌}
 use Rattle.board_changes.specs.declared.view.TaskView.{TaskView}
 use Rattle.board_trace.specs.Runs.{Line}
+use Rattle.trace_text.specs.declared.form.Outcome.{Outcome}
 
 -- how a run ended: board time, the number of the last step, how in words, the tasks that are left, and how many bytes of
 -- the console file haven't arrived
@@ -11,6 +12,9 @@ pub record OutcomeState : Type 0 where
   pub how : List ℕ
   pub tasks : List TaskView
   pub left : ℕ
+
+abbrev pub outcome_state : Outcome → OutcomeState
+outcome_state o = record { time = o.at.time; step = o.at.step; how = o.how.now; tasks = o.tasks.now; left = o.left }
 
 -- a text gained a piece of this kind at its end
 pub record Gained (IsPiece : List ℕ → Type 0) (old new : List ℕ) : Type 0 where

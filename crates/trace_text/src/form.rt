@@ -28,7 +28,7 @@ pub struct Outcome<'a> {
 pub trait LineForm: Drop {
     ghost use Rattle.std.specs.Prelude.{◌≡◌, ℕ, List, OnOk};
     ghost use Rattle.board_trace.specs.Runs.{Line};
-    ghost use Rattle.trace_text.specs.Forms.{Gained, OutcomeState};
+    ghost use Rattle.trace_text.specs.Forms.{Gained, OutcomeState, outcome_state};
 
     /// This is how a line is written.
     ghost is_line: { Line → List ℕ → Type 0 };
@@ -59,13 +59,7 @@ pub trait LineForm: Drop {
     ///
     /// `NoMemory` if memory runs out.
     fn add_end(&mut self, text: &mut Vec<u8>, outcome: &Outcome) -> Result<(), NoMemory>
-        ensures { OnOk result (Gained (is_end (record {
-            time = outcome.now.at.time;
-            step = outcome.now.at.step;
-            how = outcome.now.how.now;
-            tasks = outcome.now.tasks.now;
-            left = outcome.now.left;
-        })) text.old.items text.new.items) };
+        ensures { OnOk result (Gained (is_end (outcome_state outcome.now)) text.old.items text.new.items) };
 }
 
 // The room for the text of one call and its reply.

@@ -2,7 +2,7 @@
 
 ghost use Rattle.std.specs.Prelude.{◌≡◌, ◌<◌, ◌≤◌, ◌+◌, ◌++◌, ◌^◌, ℕ, List, [], true, false, is_some, length, OnOk, IfOk};
 ghost use Rattle.board_trace.specs.Runs.{Line, with_line};
-ghost use Rattle.trace_text.specs.Forms.{Gained, HasLines};
+ghost use Rattle.trace_text.specs.Forms.{Gained, HasLines, outcome_state};
 ghost use Rattle.trace_text.specs.Pages.{Ends, IsGrowing, count_in, count_of, grown, is_instructions, line_of, waiting_line};
 
 use crate::form::{LineForm, Outcome};
@@ -198,13 +198,7 @@ impl<F: LineForm> Page<F> {
 
     /// Adds how the run ended.
     pub fn add_end(&mut self, outcome: &Outcome) -> Result<(), NoMemory>
-        ensures text { OnOk result (Gained (F.is_end (record {
-            time = outcome.now.at.time;
-            step = outcome.now.at.step;
-            how = outcome.now.how.now;
-            tasks = outcome.now.tasks.now;
-            left = outcome.now.left;
-        })) self.old.text self.new.text) }
+        ensures text { OnOk result (Gained (F.is_end (outcome_state outcome.now)) self.old.text self.new.text) }
         ensures growing { OnOk result (self.new.growing ≡ self.old.growing) }
     {
         self.form.add_end(&mut self.text, outcome)
