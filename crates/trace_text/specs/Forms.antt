@@ -13,6 +13,7 @@ pub record OutcomeState : Type 0 where
   pub tasks : List TaskView
   pub left : ℕ
 
+-- how a run ended, as plain data
 abbrev pub outcome_state : Outcome → OutcomeState
 outcome_state o = record { time = o.at.time; step = o.at.step; how = o.how.now; tasks = o.tasks.now; left = o.left }
 
