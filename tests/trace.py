@@ -8,6 +8,8 @@ import sys
 import tempfile
 import xml.dom.minidom
 
+import objects
+
 # Lines of a console and of a tick file, and a line that their trace has to have: a call with its reply, by the table in
 # docs/calls.md, an abort at the prompt, `taskDelay(0)`, or the end of a time slice.
 LINES = [
@@ -86,6 +88,7 @@ def faults(session, windtrace, windplay):
     wanted = session / "events"
     if wanted.exists() and wanted.read_bytes() != events:
         yield "the events are not those of the file"
+    yield from other_objects(session, windtrace)
     try:
         json.loads(run(windtrace, session, "--as", "state")[1])
     except ValueError as error:
@@ -94,6 +97,23 @@ def faults(session, windtrace, windplay):
         xml.dom.minidom.parseString(run(windtrace, session, "--as", "timeline")[1])
     except xml.parsers.expat.ExpatError as error:
         yield f"the timeline is no XML: {error}"
+
+
+def other_objects(session, windtrace, *words):
+    """The first object of a session that isn't the one of its line, if there is one."""
+    lines = run(windtrace, session, *words)[1].splitlines()
+    told = run(windtrace, session, "--as", "json-lines", *words)[1].splitlines()
+    if len(lines) != len(told):
+        yield f"{len(lines)} lines have {len(told)} objects"
+    for line, text in zip(lines, told):
+        try:
+            of_object = objects.without_hex(objects.line_of(json.loads(text)))
+        except (KeyError, ValueError) as error:
+            yield f"{text}: {error}"
+            return
+        if of_object != objects.normal(line):
+            yield f"{line} has the object {text}"
+            return
 
 
 def without_instructions(lines):
@@ -110,6 +130,7 @@ def choices(session, windtrace):
         wanted = [line for line, it in parts if it and has(int(it[1]), it[2], it[3])] + lines[-1:]
         if without_instructions(events.split(b"\n")[:-1]) != without_instructions(wanted):
             yield f"the events of {' '.join(words)} are others"
+        yield from other_objects(session, windtrace, *words)
 
 
 def rectangles(session, windtrace, *words):

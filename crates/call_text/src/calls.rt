@@ -16,8 +16,8 @@ use wind_base::{Gate, OutBuf, gate_table};
 /// The text of a call has at most this many bytes.
 pub const CALL_TEXT_BYTES: u32 = 256;
 
-// The words of a call: at most 15, those of taskSpawn.
-type Words = ArrayVec<Word, 15>;
+/// The words of a call: at most 15, those of taskSpawn.
+pub type Words = ArrayVec<Word, 15>;
 
 // Adds numbers for which there is room.
 fn push_numbers(words: &mut Words, numbers: &[u32])
@@ -94,8 +94,8 @@ macro_rules! all_words {
     };
 }
 
-// The words of a call.
-fn words_of(call: &Call) -> Words
+/// The words of a call, in the order of its arguments.
+pub fn words_of(call: &Call) -> Words
     ensures { result.items ≡ words_of_lem call.now }
 {
     gate_table!(all_words call)

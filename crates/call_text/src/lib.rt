@@ -1,4 +1,4 @@
-//! The texts of a kernel call and of its reply, for a trace: `semTake(2, -1)` and
+//! The words and texts of a kernel call and of its reply, for a trace: `semTake(2, -1)` and
 //! ` = -1 OBJ_TIMEOUT`.
 #![tactic(auto)]
 
@@ -8,5 +8,6 @@ mod replies;
 mod tests;
 mod word;
 
-pub use calls::{CALL_TEXT_BYTES, add_call};
-pub use replies::{REPLY_TEXT_BYTES, add_reply};
+pub use calls::{CALL_TEXT_BYTES, Words, add_call, words_of};
+pub use replies::{REPLY_TEXT_BYTES, add_reply, refused_result, result_word};
+pub use word::Word;

@@ -14,9 +14,9 @@ use wind_base::{Errno, Gate, OutBuf};
 /// The text of a reply has at most this many bytes.
 pub const REPLY_TEXT_BYTES: u32 = 64;
 
-// The result of a gate's call as a word: an address of malloc and memalign, an error number of
-// errnoGet, and otherwise a number.
-fn result_word(gate: Gate, value: u32) -> Word
+/// The result of a gate's call as a word: an address of malloc and memalign, an error number of
+/// errnoGet, and otherwise a number.
+pub fn result_word(gate: Gate, value: u32) -> Word
     ensures { result ≡ result_word_lem gate value }
 {
     match gate {
@@ -34,8 +34,8 @@ fn add_result(out: &mut OutBuf, gate: Gate, value: u32)
     add_word(out, result_word(gate, value));
 }
 
-// The result of a refused call: 0 if nothing is loaded, otherwise the word of the gate.
-fn refused_result(gate: Gate, errno: Errno) -> u32
+/// The result of a refused call: 0 if nothing is loaded, otherwise the word of the gate.
+pub fn refused_result(gate: Gate, errno: Errno) -> u32
     ensures { result ≡ refused_result_lem gate errno }
 {
     match errno {

@@ -9,7 +9,7 @@ use wind_base::text::{add, add_hex, add_signed};
 
 /// A word of a call, by the form in which it is shown.
 #[derive(Clone, Copy, Debug, Default, PartialEq, Eq)]
-pub(crate) enum Word {
+pub enum Word {
     /// An id, a count, a time or another number: signed, in decimal digits.
     Number(u32),
     /// An address or an error number: in hexadecimal digits, after `0x`.

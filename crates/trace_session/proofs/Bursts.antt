@@ -24,10 +24,10 @@ module _ (k : ℕ) (u t : State) (zero_is : k ≡ 0) (steps : SilentSteps k u t)
   pub same_state : t ≡ u
   same_state = let P : ℕ → Type 0 = λ n. SilentSteps n u t in subst P zero_is steps
 
-  pub same_ends : (c : ChoiceState) (page : PageState) (said : Answers) (s : State) (i : ℕ) (given : List ℕ) → Ends given page (chosen_lines c said s i) → Ends given page (chosen_lines c said s (i + k))
-  same_ends c page said s i given ends =
+  pub same_ends : (is_line : Line → List ℕ → Type 0) (c : ChoiceState) (page : PageState) (said : Answers) (s : State) (i : ℕ) (given : List ℕ) → Ends is_line given page (chosen_lines c said s i) → Ends is_line given page (chosen_lines c said s (i + k))
+  same_ends is_line c page said s i given ends =
       let e : i ≡ i + k = omega (arith, zero_is) in
-      subst (λ n. Ends given page (chosen_lines c said s n)) e ends
+      subst (λ n. Ends is_line given page (chosen_lines c said s n)) e ends
 
 -- the line of one or more instructions
 with_some : (c : ChoiceState) (k : ℕ) (u : State) (who : Actor) (made : List Line) → 0 < k
@@ -38,13 +38,13 @@ with_some c (suc k) u who made some = refl
 abbrev line_with : ℕ → ℕ → SnapshotState → Actor → ℕ → Line
 line_with time step views who k = record { time = time; step = step; name = name_of views (subject_actor who); what = told.Instructions who k }
 
-pub lines_burst : SilentLinesLaw → (c : ChoiceState) (k : ℕ) (u t : State) (who : Actor) (time step : ℕ) (views : SnapshotState) (page next : PageState) → 0 < k → last_actor u.world ≡ Some who → SilentSteps k u t → AreAlike c u.steps k
+pub lines_burst : (is_line : Line → List ℕ → Type 0) → SilentLinesLaw → (c : ChoiceState) (k : ℕ) (u t : State) (who : Actor) (time step : ℕ) (views : SnapshotState) (page next : PageState) → 0 < k → last_actor u.world ≡ Some who → SilentSteps k u t → AreAlike c u.steps k
     → time ≡ u.time → step ≡ u.steps + 1 → views ≡ snapshot_of u.world
-    → ((given : List ℕ) (made : List Line) → Ends given page made
-    → Ends given next (with_if (chosen c step (told.Instructions who 1)) (record { time = time; step = step; name = name_of views (subject_actor who); what = told.Instructions who k }) made))
-    → (said : Answers) (s : State) (i : ℕ) (given : List ℕ) → u ≡ after said s i → Ends given page (chosen_lines c said s i) → Ends given next (chosen_lines c said s (i + k))
-lines_burst law c k u t who time step views page next some last steps alike time_is step_is views_are adds said s i given here ends =
+    → ((given : List ℕ) (made : List Line) → Ends is_line given page made
+    → Ends is_line given next (with_if (chosen c step (told.Instructions who 1)) (record { time = time; step = step; name = name_of views (subject_actor who); what = told.Instructions who k }) made))
+    → (said : Answers) (s : State) (i : ℕ) (given : List ℕ) → u ≡ after said s i → Ends is_line given page (chosen_lines c said s i) → Ends is_line given next (chosen_lines c said s (i + k))
+lines_burst is_line law c k u t who time step views page next some last steps alike time_is step_is views_are adds said s i given here ends =
     let lines = chosen_lines c said s i in
-    let P : ℕ → ℕ → SnapshotState → Type 0 = λ a b v. Ends given next (with_if (chosen c b (told.Instructions who 1)) (line_with a b v who k) lines) in
-    subst (Ends given next) (with_some c k u who lines some ∙ sym (law c said s u t who i k here last steps alike))
+    let P : ℕ → ℕ → SnapshotState → Type 0 = λ a b v. Ends is_line given next (with_if (chosen c b (told.Instructions who 1)) (line_with a b v who k) lines) in
+    subst (Ends is_line given next) (with_some c k u who lines some ∙ sym (law c said s u t who i k here last steps alike))
     (subst (λ v. P u.time (u.steps + 1) v) views_are (subst (λ b. P u.time b views) step_is (subst (λ a. P a step views) time_is (adds given lines ends))))

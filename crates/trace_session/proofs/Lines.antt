@@ -54,13 +54,13 @@ lines_read said s t b old before after reply hs read is same from to replied =
     ∙ ap (λ c. map (line_of c (snapshot_of s.world) (snapshot_of t.world)) (happenings_read c (snapshot_of s.world) (step_reply said s) t)) is
 
 -- the page has one line more
-pub added : (c : ChoiceState) (b : BeforeStep) (before after : SnapshotState) (hs : List Happening) (i : ℕ) (h : Happening) (given : List ℕ) (made : List Line) (page : PageState) (name : List ℕ) → i < length hs → h ≡ get_or hs i h
+pub added : (is_line : Line → List ℕ → Type 0) (c : ChoiceState) (b : BeforeStep) (before after : SnapshotState) (hs : List Happening) (i : ℕ) (h : Happening) (given : List ℕ) (made : List Line) (page : PageState) (name : List ℕ) → i < length hs → h ≡ get_or hs i h
     → name ≡ subject_name before after h
-    → Ends given page (with_if (chosen c b.step h) (record { time = b.time; step = b.step; name = name; what = h }) (with_lines (filter (is_chosen c) (map (line_of b before after) (take i hs))) made))
-    → Ends given page (with_lines (filter (is_chosen c) (map (line_of b before after) (take (i + 1) hs))) made)
-added c b before after hs i h given made page name below at name_is ends =
-    let P : List ℕ → Type 0 = λ n. Ends given page (with_if (chosen c b.step h) (record { time = b.time; step = b.step; name = n; what = h }) (with_lines (filter (is_chosen c) (map (line_of b before after) (take i hs))) made)) in
-    subst (Ends given page) (one_more c (line_of b before after) hs i h made below at) (subst P name_is ends)
+    → Ends is_line given page (with_if (chosen c b.step h) (record { time = b.time; step = b.step; name = name; what = h }) (with_lines (filter (is_chosen c) (map (line_of b before after) (take i hs))) made))
+    → Ends is_line given page (with_lines (filter (is_chosen c) (map (line_of b before after) (take (i + 1) hs))) made)
+added is_line c b before after hs i h given made page name below at name_is ends =
+    let P : List ℕ → Type 0 = λ n. Ends is_line given page (with_if (chosen c b.step h) (record { time = b.time; step = b.step; name = n; what = h }) (with_lines (filter (is_chosen c) (map (line_of b before after) (take i hs))) made)) in
+    subst (Ends is_line given page) (one_more c (line_of b before after) hs i h made below at) (subst P name_is ends)
 
 -- ---- everything
 all_in : (s t : State) (hs : List Happening) → filter (is_chosen everything) (map (line_in s t) hs) ≡ map (line_in s t) hs

@@ -10,7 +10,7 @@ use Rattle.trace_session.specs.Choice.{ChoiceState, everything}
 use Rattle.trace_session.specs.Kinds.{kind_named}
 use Rattle.trace_session.specs.declared.choice.Kind.{Kind}
 use Rattle.trace_session.specs.declared.forms.Form.{Form}
-use Rattle.trace_session.specs.declared.forms.Form.TheVariants.{Events, Timeline, State}
+use Rattle.trace_session.specs.declared.forms.Form.TheVariants.{Events, JsonLines, Timeline, State}
 
 -- a command: the form in which a session is told, what is told of it, and the session
 pub record TraceState : Type 0 where
@@ -22,6 +22,7 @@ pub record TraceState : Type 0 where
 abbrev pub form_named : Text → Option Form
 form_named name =
     if bytes_eq name (codes "events") then Some Events
+    else if bytes_eq name (codes "json-lines") then Some JsonLines
     else if bytes_eq name (codes "timeline") then Some Timeline
     else if bytes_eq name (codes "state") then Some State
     else None
@@ -91,6 +92,7 @@ has_defaults rows =
 -- the form is told of a choice
 abbrev pub has_choice : Form → Bool
 has_choice Events = true
+has_choice JsonLines = true
 has_choice Timeline = true
 has_choice State = false
 

@@ -15,7 +15,9 @@ use Rattle.trace_session.specs.declared.traced.Product.TheVariants as products
 use Rattle.trace_session.specs.Shown.{shown_areas}
 use Rattle.trace_session.specs.Spans.{part_after, part_of}
 use Rattle.trace_state.specs.Board.{IsTextOf, board_data}
+use Rattle.trace_json.specs.Lines.{end_data, line_data}
 use Rattle.trace_text.specs.Ending.{last_line}
+use Rattle.trace_text.specs.Forms.{HasLines, Joins, OutcomeState}
 use Rattle.trace_text.specs.Lines.{lines_text}
 use Rattle.trace_text.specs.Pages.{Ends, PageState, count_in}
 
@@ -48,20 +50,51 @@ TellsEvents c result s old new said k end = IsPutOf (events_text c end said s k)
 abbrev pub TellsPart : ChoiceState → State → Option (List ℕ) → Option (List ℕ) → Answers → ℕ → RunEnd → Type 0
 TellsPart c s old new said k end = (j : ℕ) × (j ≤ k) × AppendedPrefix old new (lines_text (chosen_lines c said s j))
 
+-- ---- lines in any form
+-- how a run ended in this state
+abbrev pub outcome_of : RunEnd → State → OutcomeState
+outcome_of end s = record { time = s.time; step = s.steps; how = how_text end; tasks = (snapshot_of s.world).tasks; left = length s.left }
+
+-- the sink gained a prefix of a text of these lines; the newest lines may be missing in that text
+pub record HoldsSome (is_line : Line → List ℕ → Type 0) (old new : Option (List ℕ)) (lines : List Line) : Type 0 where
+  pub newer : List Line
+  pub older : List Line
+  pub lines_are : lines ≡ newer ++ older
+  pub text : List ℕ
+  pub has_lines : HasLines is_line older text
+  pub gained : AppendedPrefix old new text
+
+-- the chosen lines of a run were put in a form, and after them how the run ended; or a prefix, because a put failed
+abbrev pub TellsLines : (Line → List ℕ → Type 0) → (OutcomeState → List ℕ → Type 0) → ChoiceState → RunEnd → State → Option (List ℕ) → Option (List ℕ) → Answers → ℕ → RunEnd → Type 0
+TellsLines is_line is_end c result s old new said k end =
+    ((text : List ℕ) × Joins (HasLines is_line (chosen_lines c said s k)) (is_end (outcome_of end (after said s k))) text × IsPutOf text result end old new)
+    ⊎ ((result ≡ ends.WriteFault) × HoldsSome is_line old new (chosen_lines c said s k))
+
+-- memory ran out for the trace: a prefix of the chosen lines of the first j of k steps was put
+abbrev pub TellsSome : (Line → List ℕ → Type 0) → ChoiceState → State → Option (List ℕ) → Option (List ℕ) → Answers → ℕ → RunEnd → Type 0
+TellsSome is_line c s old new said k end = (j : ℕ) × (j ≤ k) × HoldsSome is_line old new (chosen_lines c said s j)
+
+-- the text and a newline; the text reads back as the object of a line, or of the end of a run
+abbrev pub IsObjectOf : Line → List ℕ → Type 0
+IsObjectOf l text = IsTextOf text (line_data l)
+
+abbrev pub IsLastObject : OutcomeState → List ℕ → Type 0
+IsLastObject e text = IsTextOf text (end_data e)
+
 -- ---- a run under way
--- the sink gained a text, and that text with the page's is the text of these lines
-pub record HoldsLines (old new : Option (List ℕ)) (page : PageState) (lines : List Line) : Type 0 where
+-- the sink gained a text, and that text with the page's is a text of these lines
+pub record HoldsLines (is_line : Line → List ℕ → Type 0) (old new : Option (List ℕ)) (page : PageState) (lines : List Line) : Type 0 where
   pub given : List ℕ
   pub gained : Appended old new given
-  pub ends : Ends given page lines
+  pub ends : Ends is_line given page lines
 
 -- the same of the lines of the first k steps that are chosen
-abbrev pub HoldsSteps : ChoiceState → Option (List ℕ) → Option (List ℕ) → PageState → Answers → State → ℕ → Type 0
-HoldsSteps c old new page said s k = HoldsLines old new page (chosen_lines c said s k)
+abbrev pub HoldsSteps : (Line → List ℕ → Type 0) → ChoiceState → Option (List ℕ) → Option (List ℕ) → PageState → Answers → State → ℕ → Type 0
+HoldsSteps is_line c old new page said s k = HoldsLines is_line old new page (chosen_lines c said s k)
 
--- the sink gained a prefix of the text of these lines
-abbrev pub HoldsPart : ChoiceState → Option (List ℕ) → Option (List ℕ) → Answers → State → ℕ → Type 0
-HoldsPart c old new said s k = AppendedPrefix old new (lines_text (chosen_lines c said s k))
+-- the sink gained a prefix of a text of some of them
+abbrev pub HoldsPart : (Line → List ℕ → Type 0) → ChoiceState → Option (List ℕ) → Option (List ℕ) → Answers → State → ℕ → Type 0
+HoldsPart is_line c old new said s k = HoldsSome is_line old new (chosen_lines c said s k)
 
 -- the snapshot is that of this state, and no more instructions wait than steps were made
 abbrev pub IsReady : SnapshotState → PageState → State → Type 0

@@ -32,7 +32,7 @@ pub struct TraceCommand<'a> {
 pub(crate) const PROGRAM: &str = "windtrace";
 
 // The message for an invalid form.
-const BAD_FORM: &str = "'--as <FORM>' takes events, timeline or state";
+const BAD_FORM: &str = "'--as <FORM>' takes events, json-lines, timeline or state";
 
 // The form with this name.
 fn form_named(name: &str) -> Option<Form>
@@ -40,6 +40,7 @@ fn form_named(name: &str) -> Option<Form>
 {
     match name {
         "events" => Some(Form::Events),
+        "json-lines" => Some(Form::JsonLines),
         "timeline" => Some(Form::Timeline),
         "state" => Some(Form::State),
         _ => None,
@@ -57,7 +58,7 @@ fn app<'a>(alloc: Global) -> Result<clap::Command<'a>, AllocError>
         "as",
         "FORM",
         "events",
-        "What is told: events, timeline or state",
+        "What is told: events, json-lines, timeline or state",
     );
     let command = command_line(alloc, PROGRAM, about).arg(form)?;
     let command = with_choice_options(alloc, command)?;

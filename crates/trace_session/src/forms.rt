@@ -10,7 +10,7 @@ ghost use Rattle.trace_session.specs.Choice.{choice_state};
 ghost use Rattle.trace_session.specs.Forms.{TellsForm, TellsLess};
 
 use crate::choice::Choice;
-use crate::events::tell_events;
+use crate::lines::{tell_events, tell_objects};
 use crate::state::show_state;
 use crate::timeline::draw_timeline;
 use crate::traced::TracedRun;
@@ -24,6 +24,8 @@ use wind_session::Board;
 pub enum Form {
     /// One line for each thing that happened, and a last line.
     Events,
+    /// The same, as JSON.
+    JsonLines,
     /// A picture.
     Timeline,
     /// The board that is left.
@@ -64,6 +66,7 @@ pub fn trace_board<F: Folder, O: Sink>(
 {
     match form {
         Form::Events => tell_events(alloc, choice, board, folder, modules, out, limit),
+        Form::JsonLines => tell_objects(alloc, choice, board, folder, modules, out, limit),
         Form::Timeline => draw_timeline(alloc, choice, board, folder, modules, out, limit),
         Form::State => show_state(alloc, board, folder, modules, out, limit),
     }

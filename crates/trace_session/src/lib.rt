@@ -10,6 +10,7 @@ mod events;
 mod forms;
 mod kinds;
 mod laws;
+mod lines;
 mod observer;
 mod playing;
 mod program;

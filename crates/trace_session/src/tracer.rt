@@ -13,36 +13,36 @@ ghost use Rattle.board_trace.specs.Runs.{Line, with_lines};
 ghost use Rattle.board_trace.specs.Snapshots.{snapshot_of};
 ghost use Rattle.board_trace.specs.Subjects.{name_of, subject_actor};
 ghost use Rattle.board_trace.specs.Views.{snapshot_state};
-ghost use Rattle.trace_text.specs.Lines.{lines_text};
+ghost use Rattle.trace_text.specs.Forms.{HasLines, Joins};
 ghost use Rattle.trace_text.specs.Pages.{Ends, count_in, count_of};
 ghost use Rattle.trace_session.specs.Choice.{choice_state, chosen, chosen_in, is_chosen, with_if};
 ghost use Rattle.trace_session.specs.Steps.{line_of};
-ghost use Rattle.trace_session.specs.Traced.{how_text, last_line_of};
+ghost use Rattle.trace_session.specs.Traced.{how_text, outcome_of};
 
 use crate::choice::Choice;
 use crate::reader::StepReader;
 use board_trace::{BeforeStep, Happening, Snapshot, actor_name, subject_name};
 use kernel_world::Actor;
 use std::alloc::Global;
-use trace_text::Page;
+use trace_text::{LineForm, Moment, Outcome, Page};
 use wind_base::NoMemory;
 use wind_outside::Device;
 use wind_session::{Board, RunEnd};
 
 /// What a trace keeps between steps.
 #[derive(Drop)]
-pub(crate) struct Tracer<'a> {
+pub(crate) struct Tracer<'a, L> {
     /// What of the run is told.
     pub(crate) choice: &'a Choice,
     /// The lines that were not put yet.
-    pub(crate) page: Page,
+    pub(crate) page: Page<L>,
     /// What reads the next step.
     pub(crate) reader: StepReader,
 }
 
 // Adds the line of a happening, if it is chosen.
-fn add_chosen(
-    page: &mut Page,
+fn add_chosen<L: LineForm>(
+    page: &mut Page<L>,
     choice: &Choice,
     before_step: &BeforeStep,
     name: &[u8],
@@ -50,8 +50,8 @@ fn add_chosen(
 ) -> Result<(), NoMemory>
     requires fits { count_in page.old.growing + count_of happening.now < 2 ^ 64 }
     requires short { length name.now ≤ 31 }
-    ensures lines { OnOk result ((given : List ℕ) (made : List Line) → Ends given page.old made → Ends given page.new
-        (with_if (chosen (choice_state choice.now) before_step.now.step happening.now) (record {
+    ensures lines { OnOk result ((given : List ℕ) (made : List Line) → Ends L.is_line given page.old made
+        → Ends L.is_line given page.new (with_if (chosen (choice_state choice.now) before_step.now.step happening.now) (record {
           time = before_step.now.time;
           step = before_step.now.step;
           name = name.now;
@@ -66,8 +66,8 @@ fn add_chosen(
 }
 
 // Adds the lines of what happened in a step that are chosen.
-fn add_lines(
-    page: &mut Page,
+fn add_lines<L: LineForm>(
+    page: &mut Page<L>,
     choice: &Choice,
     list: &[Happening],
     before_step: &BeforeStep,
@@ -75,8 +75,8 @@ fn add_lines(
     after: &Snapshot,
 ) -> Result<(), NoMemory>
     requires { count_in page.old.growing + sum_by count_of list.now < 2 ^ 64 }
-    ensures lines { OnOk result ((given : List ℕ) (made : List Line) → Ends given page.old made → Ends given page.new
-        (with_lines (filter (is_chosen (choice_state choice.now))
+    ensures lines { OnOk result ((given : List ℕ) (made : List Line) → Ends L.is_line given page.old made
+        → Ends L.is_line given page.new (with_lines (filter (is_chosen (choice_state choice.now))
         (map (line_of before_step.now (snapshot_state before.now) (snapshot_state after.now)) list.now)) made)) }
     ensures waits { OnOk result (count_in page.new.growing ≤ count_in page.old.growing + sum_by count_of list.now) }
 {
@@ -100,19 +100,20 @@ fn how(end: RunEnd) -> &'static [u8]
     }
 }
 
-impl<'a> Tracer<'a> {
-    /// A trace of a board before its first step.
+impl<'a, L: LineForm> Tracer<'a, L> {
+    /// A trace of a board before its first step, with lines in this form.
     pub(crate) fn new(
         alloc: Global,
+        form: L,
         choice: &'a Choice,
         board: &Board,
-    ) -> Result<Tracer<'a>, NoMemory>
+    ) -> Result<Tracer<'a, L>, NoMemory>
         ensures choice { IfOk result (λ t. t.choice ≡ choice.entry) }
         ensures page { IfOk result (λ t. t.page ≡ record { text = []; growing = None }) }
         ensures before { IfOk result (λ t. snapshot_state t.reader.before
             ≡ snapshot_of (seen ⟦<dyn Device as Device>⟧ board.now).world) }
     {
-        let page = Page::new(alloc)?;
+        let page = Page::new(alloc, form);
         let reader = StepReader::new(alloc, board)?;
         Ok(Tracer {
             choice,
@@ -132,8 +133,8 @@ impl<'a> Tracer<'a> {
         step: u64,
     ) -> Result<(), NoMemory>
         requires { count_in self.old.page.growing + count < 2 ^ 64 }
-        ensures lines { OnOk result ((given : List ℕ) (made : List Line) → Ends given self.old.page made
-            → Ends given self.new.page (with_if
+        ensures lines { OnOk result ((given : List ℕ) (made : List Line) → Ends L.is_line given self.old.page made
+            → Ends L.is_line given self.new.page (with_if
             (chosen (choice_state self.old.choice.now) step (Happening.Instructions who.now 1)) (record {
               time = time;
               step = step;
@@ -165,7 +166,7 @@ impl<'a> Tracer<'a> {
         ensures lines { OnOk result ((said : FileSaid) (s : State) (given : List ℕ) (made : List Line)
             → before_step.now ≡ before_step_lem s → snapshot_state self.old.reader.before ≡ snapshot_of s.world
             → last_reply board.now ≡ step_reply said s
-            → Ends given self.old.page made → Ends given self.new.page
+            → Ends L.is_line given self.old.page made → Ends L.is_line given self.new.page
             (with_lines (chosen_in (choice_state self.old.choice.now) said s
             (seen ⟦<dyn Device as Device>⟧ board.now)) made)) }
         ensures choice { OnOk result (self.new.choice ≡ self.old.choice) }
@@ -191,13 +192,20 @@ impl<'a> Tracer<'a> {
     pub(crate) fn tell_end(&mut self, board: &Board, end: RunEnd) -> Result<(), NoMemory>
         requires { snapshot_state self.old.reader.before
             ≡ snapshot_of (seen ⟦<dyn Device as Device>⟧ board.now).world }
-        ensures { OnOk result ((given : List ℕ) (made : List Line) → Ends given self.old.page made
-            → given ++ self.new.page.text
-            ≡ lines_text made ++ last_line_of end (seen ⟦<dyn Device as Device>⟧ board.now)) }
+        ensures { OnOk result ((given : List ℕ) (made : List Line) → Ends L.is_line given self.old.page made
+            → Joins (HasLines L.is_line made) (L.is_end (outcome_of end (seen ⟦<dyn Device as Device>⟧ board.now)))
+            (given ++ self.new.page.text)) }
     {
         self.page.finish()?;
-        let (time, steps, left) = (board.time(), board.steps(), board.left().len() as u64);
-        self.page
-            .add_last(time, steps, how(end), &self.reader.before.tasks, left)
+        let outcome = Outcome {
+            at: Moment {
+                time: board.time(),
+                step: board.steps(),
+            },
+            how: how(end),
+            tasks: &self.reader.before.tasks,
+            left: board.left().len() as u64,
+        };
+        self.page.add_end(&outcome)
     }
 }

@@ -5,8 +5,8 @@ use Rattle.std.proofs.lemmas.List.{append-nil}
 use Rattle.board_trace.specs.Runs.{Line, joined, joined_or, with_line}
 use Rattle.board_trace.specs.declared.happening.Happening.{Happening}
 use Rattle.board_trace.specs.declared.happening.Happening.TheVariants as told
-use Rattle.trace_text.specs.Lines.{line_text, lines_text}
-use Rattle.trace_text.specs.Pages.{EndsBy, growing_text, grown, is_instructions, joined_line, may_grow}
+use Rattle.trace_text.specs.Forms.{Gained, HasLines}
+use Rattle.trace_text.specs.Pages.{EndsBy, IsGrowing, grown, is_instructions, joined_line, may_grow}
 
 -- ---- only instructions are joined, and only with instructions
 joined_first : (h g : Happening) → is_instructions h ≡ false → joined h g ≡ None
@@ -35,30 +35,39 @@ not_joined : (j : Option Happening) (l newest : Line) (older : List Line) → is
 not_joined None l newest older e = refl
 not_joined (Some h) l newest older e = absurd (cc)
 
--- instructions that don't join those that wait are a line of their own
-pub apart : (text : List ℕ) (growing : Option Line) (l : Line) (made : List Line) → EndsBy text growing made → is_some (grown growing l.what) ≡ false → with_line l made ≡ l ∷ made
-apart text None l made ends e = alone_after l made ends.1
-apart text (Some newest) l made ends e =
-    let P : List Line → Type 0 = λ lines. with_line l lines ≡ l ∷ lines in
-    subst P (sym ends.lines_are) (not_joined (joined newest.what l.what) l newest ends.older e)
+module _ (is_line : Line → List ℕ → Type 0) where
+  -- instructions that don't join those that wait are a line of their own
+  pub apart : (text : List ℕ) (growing : Option Line) (l : Line) (made : List Line) → EndsBy is_line text growing made → is_some (grown growing l.what) ≡ false → with_line l made ≡ l ∷ made
+  apart text None l made ends e = alone_after l made ends.1
+  apart text (Some newest) l made ends e =
+      let P : List Line → Type 0 = λ lines. with_line l lines ≡ l ∷ lines in
+      subst P (sym ends.lines_are) (not_joined (joined newest.what l.what) l newest ends.older e)
 
--- ---- the page after instructions that were joined with those that wait
+  -- after what was given, a text gained a piece
+  gained_after : (P : List ℕ → Type 0) (given old new : List ℕ) → Gained P old new → Gained P (given ++ old) (given ++ new)
+  gained_after P given old new gained = record {
+    piece = gained.piece;
+    text_is = ap (λ t. given ++ t) gained.text_is ∙ sym (append_assoc given old gained.piece);
+    is_piece = gained.is_piece;
+  }
 
--- ---- the page after its line that waits got its text
-pub finished : (given text : List ℕ) (growing : Option Line) (made : List Line) → EndsBy (given ++ text) growing made → given ++ (text ++ growing_text growing) ≡ lines_text made
-finished given text None made ends = ap (λ t. given ++ t) (append-nil text) ∙ ends.0
-finished given text (Some newest) made ends =
-    sym (append_assoc given text (line_text newest)) ∙ ap (λ t. t ++ line_text newest) ends.text_is ∙ ap lines_text (sym ends.lines_are)
+  -- the page after its line that waits was written
+  pub finished : (given old new : List ℕ) (growing : Option Line) (made : List Line) → EndsBy is_line (given ++ old) growing made → Gained (IsGrowing is_line growing) old new → HasLines is_line made (given ++ new)
+  finished given old new None made ends gained =
+      subst (HasLines is_line made) (ap (λ t. given ++ t) (sym (gained.text_is ∙ ap (λ t. old ++ t) gained.is_piece ∙ append-nil old))) ends.0
+  finished given old new (Some newest) made ends gained =
+      let P : List Line → Type 0 = λ lines. HasLines is_line lines (given ++ new) in
+      subst P (sym ends.lines_are) (record {
+        before = given ++ old;
+        is_text = ends.text_is;
+        gained = gained_after (is_line newest) given old new gained;
+      })
 
--- a line of anything but instructions follows
-other_after : (given text : List ℕ) (l : Line) (made : List Line) → given ++ text ≡ lines_text made → is_instructions l.what ≡ false → EndsBy (given ++ (text ++ line_text l)) None (with_line l made)
-other_after given text l made e other =
-    let P : List Line → Type 0 = λ lines. EndsBy (given ++ (text ++ line_text l)) None lines in
-    subst P (sym (alone l made other)) (sym (append_assoc given text (line_text l)) ∙ ap (λ t. t ++ line_text l) e, other)
-
-pub ends_other : (given text new : List ℕ) (growing : Option Line) (l : Line) (made : List Line) → given ++ text ≡ lines_text made → growing ≡ None → new ≡ text ++ line_text l → is_instructions l.what ≡ false
-    → EndsBy (given ++ new) growing (with_line l made)
-ends_other given text new growing l made e none same other =
-    let P : List ℕ → Type 0 = λ t. EndsBy (given ++ t) growing (with_line l made) in
-    let Q : Option Line → Type 0 = λ g. EndsBy (given ++ (text ++ line_text l)) g (with_line l made) in
-    subst P (sym same) (subst Q (sym none) (other_after given text l made e other))
+  -- a line of anything but instructions follows
+  pub ends_other : (given text new : List ℕ) (growing : Option Line) (l : Line) (made : List Line) → HasLines is_line made (given ++ text) → growing ≡ None → Gained (is_line l) text new → is_instructions l.what ≡ false
+      → EndsBy is_line (given ++ new) growing (with_line l made)
+  ends_other given text new growing l made has none gained other =
+      let P : List Line → Type 0 = λ lines. EndsBy is_line (given ++ new) None lines in
+      let Q : Option Line → Type 0 = λ g. EndsBy is_line (given ++ new) g (with_line l made) in
+      subst Q (sym none)
+      (subst P (sym (alone l made other)) (record { before = given ++ text; is_text = has; gained = gained_after (is_line l) given text new gained }, other))

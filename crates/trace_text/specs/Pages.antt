@@ -3,7 +3,7 @@ use Rattle.std.specs.Prelude.{◌≡◌, ℕ, Bool, true, false, List, ◌∷◌
 use Rattle.board_trace.specs.Runs.{Line, joined}
 use Rattle.board_trace.specs.declared.happening.Happening.{Happening}
 use Rattle.board_trace.specs.declared.happening.Happening.TheVariants as told
-use Rattle.trace_text.specs.Lines.{line_text, lines_text}
+use Rattle.trace_text.specs.Forms.{HasLines}
 use Rattle.trace_text.specs.declared.page.Instructions.{Instructions}
 
 -- its text, and the instructions that wait; their line may still grow
@@ -29,19 +29,19 @@ may_grow [] = false
 may_grow (newest ∷ older) = is_instructions newest.what
 
 -- the newest line waits: it is of instructions, and the others have a text
-pub record Waits (newest : Line) (lines : List Line) (text : List ℕ) : Type 0 where
+pub record Waits (is_line : Line → List ℕ → Type 0) (newest : Line) (lines : List Line) (text : List ℕ) : Type 0 where
   pub older : List Line
   pub lines_are : lines ≡ newest ∷ older
   pub grows : is_instructions newest.what ≡ true
-  pub text_is : text ≡ lines_text older
+  pub text_is : HasLines is_line older text
 
--- the earlier output and then the page are the text of these lines, newest first
-abbrev pub EndsBy : List ℕ → Option Line → List Line → Type 0
-EndsBy text None lines = (text ≡ lines_text lines) × (may_grow lines ≡ false)
-EndsBy text (Some newest) lines = Waits newest lines text
+-- the earlier output and then the page are a text of these lines, newest first, in a form
+abbrev pub EndsBy : (Line → List ℕ → Type 0) → List ℕ → Option Line → List Line → Type 0
+EndsBy is_line text None lines = HasLines is_line lines text × (may_grow lines ≡ false)
+EndsBy is_line text (Some newest) lines = Waits is_line newest lines text
 
-abbrev pub Ends : List ℕ → PageState → List Line → Type 0
-Ends given page lines = EndsBy (given ++ page.text) (waiting_line page.growing) lines
+abbrev pub Ends : (Line → List ℕ → Type 0) → List ℕ → PageState → List Line → Type 0
+Ends is_line given page lines = EndsBy is_line (given ++ page.text) (waiting_line page.growing) lines
 
 -- how many instructions wait
 abbrev pub count_of : Happening → ℕ
@@ -61,7 +61,7 @@ abbrev pub grown : Option Line → Happening → Option Line
 grown None h = None
 grown (Some l) h = joined_line (joined l.what h) l
 
--- the text of the line that waits
-abbrev pub growing_text : Option Line → List ℕ
-growing_text None = []
-growing_text (Some l) = line_text l
+-- a text of the line that waits, or no text
+abbrev pub IsGrowing : (Line → List ℕ → Type 0) → Option Line → List ℕ → Type 0
+IsGrowing is_line None text = text ≡ []
+IsGrowing is_line (Some l) text = is_line l text

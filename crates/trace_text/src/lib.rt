@@ -3,6 +3,7 @@
 
 mod changes;
 mod ending;
+mod form;
 mod happenings;
 mod laws;
 mod lines;
@@ -10,6 +11,8 @@ mod page;
 mod pieces;
 
 pub use changes::add_awaited;
+pub use form::{LineForm, Outcome, TextLines};
 pub use laws::joining_law;
+pub use lines::Moment;
 pub use page::Page;
 pub use pieces::{add, add_decimal, add_escaped, add_wide};

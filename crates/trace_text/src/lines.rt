@@ -18,13 +18,13 @@ const STEP_BYTES: usize = 9;
 
 const WHO_BYTES: usize = 16;
 
-/// When a step begins, in board time, and its number.
-#[derive(Clone, Copy)]
-pub(crate) struct Moment {
+/// When a step begins, in board time, and its number, counted from 1.
+#[derive(Clone, Copy, Debug, PartialEq, Eq)]
+pub struct Moment {
     /// The board time.
-    pub(crate) time: u128,
+    pub time: u128,
     /// The number of the step.
-    pub(crate) step: u64,
+    pub step: u64,
 }
 
 // Blanks: as many as a column may need.

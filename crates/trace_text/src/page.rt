@@ -2,22 +2,16 @@
 
 ghost use Rattle.std.specs.Prelude.{◌≡◌, ◌<◌, ◌≤◌, ◌+◌, ◌++◌, ◌^◌, ℕ, List, [], true, false, is_some, length, OnOk, IfOk};
 ghost use Rattle.board_trace.specs.Runs.{Line, with_line};
-ghost use Rattle.wind_base.specs.OutBuf.{KeepsSpace};
-ghost use Rattle.trace_text.specs.Ending.{last_line};
-ghost use Rattle.trace_text.specs.Lines.{lines_text};
-ghost use Rattle.trace_text.specs.Pages.{Ends, count_in, count_of, growing_text, grown, is_instructions, line_of, waiting_line};
+ghost use Rattle.trace_text.specs.Forms.{Gained, HasLines, outcome_state};
+ghost use Rattle.trace_text.specs.Pages.{Ends, IsGrowing, count_in, count_of, grown, is_instructions, line_of, waiting_line};
 
-use crate::ending::add_last_line;
-use crate::lines::{Moment, add_line};
-use board_changes::TaskView;
+use crate::form::{LineForm, Outcome};
+use crate::lines::Moment;
 use board_trace::{Happening, same_actor};
 use kernel_world::Actor;
 use std::alloc::Global;
 use std::marker::Model;
-use wind_base::{NoMemory, OutBuf, ShortName};
-
-// The room for the text of one call and its reply.
-const SCRATCH_BYTES: u32 = 320;
+use wind_base::{NoMemory, ShortName};
 
 // Consecutive instructions of one task or routine, with the time and the number of the step that
 // made the first.
@@ -30,25 +24,21 @@ struct Instructions {
     name: ShortName,
 }
 
-/// The end of the text of a run's lines. Instructions wait for further ones of the same task or
-/// routine before they are a line.
+/// The end of the text of a run's lines, in a form. Instructions wait for further ones of the same
+/// task or routine before they are a line.
 #[derive(Drop)]
-pub struct Page {
-    alloc: Global,
+pub struct Page<F> {
+    form: F,
     text: Vec<u8>,
-    scratch: OutBuf,
     growing: Option<Instructions>,
 }
 
-impl Model for Page {
-    ghost use Rattle.std.specs.Prelude.{◌≤◌, ◌+◌, length};
+impl<F> Model for Page<F> {
     ghost use Rattle.trace_text.specs.Pages.{PageState};
 
     ghost Value = { PageState };
 
     ghost view = { λ p. record { text = p.text.items; growing = p.growing } };
-
-    ghost invariant = { λ p. 320 ≤ p.scratch.room + length p.scratch.bytes };
 }
 
 // Instructions that wait from now on.
@@ -87,15 +77,12 @@ fn grow(growing: &mut Option<Instructions>, who: &Actor, count: u64) -> bool
 }
 
 // Adds the line of instructions that waited.
-fn add_waiting(
-    alloc: Global,
+fn add_waiting<F: LineForm>(
+    form: &mut F,
     text: &mut Vec<u8>,
-    scratch: &mut OutBuf,
     waiting: Option<Instructions>,
 ) -> Result<(), NoMemory>
-    requires { 320 ≤ scratch.old.room + length scratch.old.bytes }
-    ensures text { OnOk result (text.new.items ≡ text.old.items ++ growing_text (waiting_line waiting)) }
-    ensures room { KeepsSpace scratch.old scratch.new }
+    ensures { OnOk result (Gained (IsGrowing F.is_line (waiting_line waiting)) text.old.items text.new.items) }
 {
     let Some(waiting) = waiting else {
         return Ok(());
@@ -108,21 +95,19 @@ fn add_waiting(
         time: waiting.time,
         step: waiting.step,
     };
-    add_line(alloc, text, scratch, at, waiting.name.bytes(), &happening)
+    form.add_line(text, at, waiting.name.bytes(), &happening)
 }
 
-impl Page {
+impl<F: LineForm> Page<F> {
     /// An empty page.
-    pub fn new(alloc: Global) -> Result<Page, NoMemory>
-        ensures { IfOk result (λ page. page ≡ record { text = []; growing = None }) }
+    pub fn new(alloc: Global, form: F) -> Page<F>
+        ensures { result ≡ record { text = []; growing = None } }
     {
-        let scratch = OutBuf::reserved(alloc, SCRATCH_BYTES)?;
-        Ok(Page {
-            alloc,
+        Page {
+            form,
             text: Vec::new(alloc),
-            scratch,
             growing: None,
-        })
+        }
     }
 
     /// The text of the page.
@@ -141,32 +126,24 @@ impl Page {
 
     /// Ends the waiting for further instructions: those that wait are a line of the page.
     pub fn finish(&mut self) -> Result<(), NoMemory>
-        ensures lines { OnOk result ((given : List ℕ) (made : List Line) → Ends given self.old made
-            → given ++ self.new.text ≡ lines_text made) }
+        ensures lines { OnOk result ((given : List ℕ) (made : List Line) → Ends F.is_line given self.old made
+            → HasLines F.is_line made (given ++ self.new.text)) }
         ensures growing { OnOk result (self.new.growing ≡ None) }
     {
         let waiting = self.growing.take();
-        add_waiting(self.alloc, &mut self.text, &mut self.scratch, waiting)
+        add_waiting(&mut self.form, &mut self.text, waiting)
     }
 
     // Adds the line of anything but instructions.
     fn add_other(&mut self, at: Moment, name: &[u8], happening: &Happening) -> Result<(), NoMemory>
         requires { is_instructions happening.now ≡ false }
-        ensures lines { OnOk result ((given : List ℕ) (made : List Line) → Ends given self.old made
-            → Ends given self.new
+        ensures lines { OnOk result ((given : List ℕ) (made : List Line) → Ends F.is_line given self.old made
+            → Ends F.is_line given self.new
             (with_line (record { time = at.time; step = at.step; name = name.now; what = happening.now }) made)) }
         ensures growing { OnOk result (self.new.growing ≡ None) }
     {
         self.finish()?;
-        add_line(
-            self.alloc,
-            &mut self.text,
-            &mut self.scratch,
-            at,
-            name,
-            happening,
-        )?;
-        Ok(())
+        self.form.add_line(&mut self.text, at, name, happening)
     }
 
     /// Adds instructions of a task or routine. They wait for further ones, joined with those that
@@ -181,8 +158,8 @@ impl Page {
     ) -> Result<(), NoMemory>
         requires fits { count_in self.old.growing + count < 2 ^ 64 }
         requires short { length name.now ≤ 31 }
-        ensures lines { OnOk result ((given : List ℕ) (made : List Line) → Ends given self.old made
-            → Ends given self.new (with_line
+        ensures lines { OnOk result ((given : List ℕ) (made : List Line) → Ends F.is_line given self.old made
+            → Ends F.is_line given self.new (with_line
             (record { time = time; step = step; name = name.now; what = Happening.Instructions who count }) made)) }
         ensures count { OnOk result (count_in self.new.growing ≤ count_in self.old.growing + count) }
     {
@@ -205,8 +182,8 @@ impl Page {
     ) -> Result<(), NoMemory>
         requires fits { count_in self.old.growing + count_of happening.now < 2 ^ 64 }
         requires short { length name.now ≤ 31 }
-        ensures lines { OnOk result ((given : List ℕ) (made : List Line) → Ends given self.old made
-            → Ends given self.new
+        ensures lines { OnOk result ((given : List ℕ) (made : List Line) → Ends F.is_line given self.old made
+            → Ends F.is_line given self.new
             (with_line (record { time = time; step = step; name = name.now; what = happening.now }) made)) }
         ensures count { OnOk result
             (count_in self.new.growing ≤ count_in self.old.growing + count_of happening.now) }
@@ -219,20 +196,11 @@ impl Page {
         }
     }
 
-    /// Adds the last line: how the run ended, what each task does, and how many bytes of the console
-    /// file are left.
-    pub fn add_last(
-        &mut self,
-        time: u128,
-        step: u64,
-        how: &[u8],
-        views: &[TaskView],
-        left: u64,
-    ) -> Result<(), NoMemory>
-        ensures text { OnOk result (self.new.text ≡ self.old.text ++ last_line time step how.now views.now left) }
+    /// Adds how the run ended.
+    pub fn add_end(&mut self, outcome: &Outcome) -> Result<(), NoMemory>
+        ensures text { OnOk result (Gained (F.is_end (outcome_state outcome.now)) self.old.text self.new.text) }
         ensures growing { OnOk result (self.new.growing ≡ self.old.growing) }
     {
-        let at = Moment { time, step };
-        add_last_line(self.alloc, &mut self.text, at, how, views, left)
+        self.form.add_end(&mut self.text, outcome)
     }
 }

@@ -14,7 +14,7 @@ returns-in_default-clause-lines g c =
     let old = state c.args.board.now in
     let new = state c.burst-count.new.self in
     let none = none_made c.burst-count.result old new (ap last_actor (sym c.world.ensures) ∙ sym c.last_actor-who.ensures ∙ c.in_default.is) c.burst-count.ensures.made in
-    λ said s i given here ends. same_ends c.burst-count.result old new none c.burst-count.ensures.made _ _ said s i given ends
+    λ said s i given here ends. same_ends c.burst-count.result old new none c.burst-count.ensures.made g.L.LineForm.is_line _ _ said s i given ends
 
 pub returns-in_default-clause-before : goal.returns-in_default-clause-before
 returns-in_default-clause-before g c =
@@ -31,7 +31,7 @@ returns-clause-lines g c =
     let old = state c.args.board.now in
     let new = state c.burst-count.new.self in
     let some : 0 < c.burst-count.result = omega arith in
-    lines_burst c.silent_lines_law.ensures (choice_state c.args.tracer.now.choice.now) c.burst-count.result old new _ _ _ _ _ _ some (ap last_actor (sym c.world.ensures) ∙ sym c.last_actor-who.ensures ∙ c.in-Some.is) c.burst-count.ensures.made
+    lines_burst g.L.LineForm.is_line c.silent_lines_law.ensures (choice_state c.args.tracer.now.choice.now) c.burst-count.result old new _ _ _ _ _ _ some (ap last_actor (sym c.world.ensures) ∙ sym c.last_actor-who.ensures ∙ c.in-Some.is) c.burst-count.ensures.made
     (λ j below. subst (λ n. is_step (choice_state c.args.tracer.now.choice.now) (n + j + 1) ≡ is_step (choice_state c.args.tracer.now.choice.now) (n + 1)) c.steps-2.ensures (c.most_alike.ensures.alike j (omega (arith, below, c.burst-count.ensures.within))))
     c.time-time.ensures (ap (λ n. n + 1) c.steps.ensures) c.requires.before c.in_ok-tell_instructions.ensures.lines
 

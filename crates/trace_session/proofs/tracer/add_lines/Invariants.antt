@@ -9,9 +9,9 @@ use Rattle.trace_session.proofs.tracer.add_lines.Given as goal
 
 -- the first happenings have their lines
 abbrev pub invariant-loop-happening : goal.invariant-loop-happening
-invariant-loop-happening l =
+invariant-loop-happening g l =
     let first = take l.happening-index l.list in
     record {
-      lines : (given : List ℕ) (made : List Line) → Ends given l.fn.page made → Ends given l.page (with_lines (filter (is_chosen (choice_state l.choice)) (map (line_of l.before_step (snapshot_state l.before) (snapshot_state l.after)) first)) made);
+      lines : (given : List ℕ) (made : List Line) → Ends g.L.LineForm.is_line given l.fn.page made → Ends g.L.LineForm.is_line given l.page (with_lines (filter (is_chosen (choice_state l.choice)) (map (line_of l.before_step (snapshot_state l.before) (snapshot_state l.after)) first)) made);
       waits : count_in l.page.growing ≤ count_in l.fn.page.growing + sum_by count_of first;
     }

@@ -13,7 +13,7 @@ returns-clause-tells g c =
     with_scope c.burst.result _ _ c.burst.ensures.choice (λ k stays lines first now said s i here holds. record {
       given = holds.given;
       gained = holds.gained;
-      ends = subst (λ (x : Bor Choice). Ends holds.given c.burst.new.tracer.page (chosen_lines (choice_state x.now) said s (i + k))) (sym stays) (lines said s i holds.given here holds.ends);
+      ends = subst (λ (x : Bor Choice). Ends g.L.LineForm.is_line holds.given c.burst.new.tracer.page (chosen_lines (choice_state x.now) said s (i + k))) (sym stays) (lines said s i holds.given here holds.ends);
     }) c.burst.ensures.lines
 
 pub returns-clause-ready : goal.returns-clause-ready

@@ -32,7 +32,7 @@ pub returns-clause-lines : goal.returns-clause-lines
 returns-clause-lines g c =
     let state = board_by (λ d. (goal.Device-dyn g (d.vtable, d.value)).kind_of d.value) (λ d. (goal.Device-dyn g (d.vtable, d.value)).words_of d.value) in
     λ said s given made is from replied ends.
-    let P : List Line → Type 0 = λ ls. Ends given c.add_lines.new.page (with_lines (filter (is_chosen (choice_state c.args.self.now.choice.now)) ls) made) in
+    let P : List Line → Type 0 = λ ls. Ends g.L.LineForm.is_line given c.add_lines.new.page (with_lines (filter (is_chosen (choice_state c.args.self.now.choice.now)) ls) made) in
     subst P
     (lines_read said s (state c.args.board.now) _ _ _ _ _ _ (c.deref.ensures.value ∙ c.in_ok-read.ensures.list) is (ap snapshot_state c.in_ok-read.ensures.before) from c.in_ok-read.ensures.after replied)
     (c.in_ok-add_lines.ensures.lines given made ends)
