@@ -1,0 +1,12 @@
+//! Which words of the loaded modules a run executes.
+#![tactic(auto)]
+
+mod coverage;
+mod covered;
+mod executed;
+mod laws;
+mod table;
+mod text;
+
+pub use coverage::Coverage;
+pub use laws::coverage_law;
