@@ -41,8 +41,15 @@ CHOICES = [
 ]
 # Options that are refused.
 REFUSED = [("--from", "0"), ("--to", "x"), ("--tasks", ""), ("--tasks", "1,,2"), ("--kinds", "none"),
-           ("--as", "state", "--from", "2"), ("--as", "timeline", "--kinds", "calls")]
+           ("--as", "state", "--from", "2"), ("--as", "none")]
+# Kinds of a timeline, and the classes of its rectangles.
+SHOWN = {
+    "runs": {b"running", b"ready"}, "waits": {b"waiting", b"sleeping"}, "tasks": {b"suspended"},
+    "priorities": {b"inherits"}, "waits,owners": {b"waiting", b"sleeping", b"owned"}, "calls": set(),
+}
+RECTANGLE = re.compile(rb'<rect class="(\w+)"[^>]*><title>([^<]*), (\d+) to (\d+)</title>')
 LINE = re.compile(rb"^ *\d+ +(\d+)  (.{16})  (.*)$")
+LINE_START = re.compile(rb"^ *(\d+) +(\d+)  ")
 WRITES = re.compile(rb'^ *\d+ +\d+  .{16}  writes "(.*)"$')
 ESCAPED = re.compile(rb"\\x([0-9a-f]{2})")
 
@@ -105,6 +112,33 @@ def choices(session, windtrace):
             yield f"the events of {' '.join(words)} are others"
 
 
+def rectangles(session, windtrace, *words):
+    """The rectangles of a session's timeline: class, title, and from when to when. Those of the interrupt level are left out."""
+    svg = run(windtrace, session, "--as", "timeline", *words)[1]
+    return [it for it in RECTANGLE.findall(svg) if it[1] != b"interrupt routine"]
+
+
+def pictures(session, windtrace):
+    """The choices of a session's timeline that are wrong."""
+    whole = rectangles(session, windtrace)
+    for kinds, classes in SHOWN.items():
+        found = {it[0] for it in rectangles(session, windtrace, "--kinds", kinds)}
+        if found != {it[0] for it in whole} & classes:
+            yield f"the timeline of --kinds {kinds} has others"
+    if any(not it[1].startswith(b"1 ") for it in rectangles(session, windtrace, "--tasks", "1", "--kinds", "runs,waits")):
+        yield "the timeline of --tasks 1 has another task"
+    if rectangles(session, windtrace, "--from", "1", "--to", "1000000000000") != whole:
+        yield "the timeline of all steps is another one"
+    if b"no step of the run is chosen" not in run(windtrace, session, "--as", "timeline", "--from", "1000000000000")[1]:
+        yield "the timeline of no step doesn't say so"
+    lines = [it for it in map(LINE_START.match, run(windtrace, session)[1].split(b"\n")) if it]
+    begin = max((int(it[1]) for it in lines if int(it[2]) <= 5), default=0)
+    end = min((int(it[1]) for it in lines if int(it[2]) > 40), default=1 << 64)
+    for _, _, since, until in rectangles(session, windtrace, "--from", "5", "--to", "40"):
+        if int(since) < begin or int(until) > end:
+            yield f"the timeline of steps 5 to 40 has {int(since)} to {int(until)}"
+
+
 def missing(windtrace):
     """The consoles whose trace doesn't have its line."""
     for console, ticks, wanted in LINES:
@@ -122,7 +156,7 @@ def main():
     sessions = sorted(it.parent for it in folder.glob("*/stdout"))
     wrong = 0
     for session in sessions:
-        found = [*faults(session, windtrace, windplay), *choices(session, windtrace)]
+        found = [*faults(session, windtrace, windplay), *choices(session, windtrace), *pictures(session, windtrace)]
         wrong += bool(found)
         for fault in found:
             print(f"{session.name}: {fault}")

@@ -16,7 +16,7 @@ use Rattle.wind_session.specs.declared.run.RunEnd.TheVariants as ends
 use Rattle.wind_session.specs.declared.ending.Status.{Status}
 use Rattle.wind_session.specs.declared.ending.Status.TheVariants as status
 use Rattle.wind_session.proofs.InputLemmas.{made_there}
-use Rattle.trace_picture.specs.declared.areas.Area.{Area}
+use Rattle.trace_session.specs.declared.traced.Product.{Product}
 use Rattle.trace_session.specs.Choice.{ChoiceState}
 use Rattle.trace_session.specs.Forms.{TellsForm, TellsLess}
 use Rattle.trace_session.specs.declared.forms.Form.{Form}
@@ -38,16 +38,16 @@ status_known ends.ReadFault = λ e. cc
 status_known ends.WriteFault = λ e. cc
 status_known ends.NoMemory = λ e. cc
 
-module _ (form : Form) (choice : ChoiceState) (areas : Option (List Area)) (s : Status) (shelf : Shelf) (start : State) (limit : ℕ) (board : State) (old new : Outside) where
+module _ (form : Form) (choice : ChoiceState) (product : Product) (s : Status) (shelf : Shelf) (start : State) (limit : ℕ) (board : State) (old new : Outside) where
   -- without a fault, the session was played
   pub complete_left : (c : CommandState) (before after : Around) → (s ≡ status.ReadFault → FolderFailed before after) → (s ≡ status.WriteFault → SinkFailed before after)
-      → IsLeft form choice areas s shelf start limit board old new → IsComplete s (Some c) before after
+      → IsLeft form choice product s shelf start limit board old new → IsComplete s (Some c) before after
   complete_left c before after read write (inl (end, is, traced)) =
       λ there fine out_fine. subst IsPlayed (sym is) (status_played end (FolderFailed before after) (SinkFailed before after) (λ e. read (is ∙ e)) (λ e. write (is ∙ e)) fine out_fine)
   complete_left c before after read write (inr (is, traced)) = λ there fine out_fine. subst IsPlayed (sym is) tt
 
   -- the arguments were a command
-  pub known_left : IsLeft form choice areas s shelf start limit board old new → s ≢ status.Usage
+  pub known_left : IsLeft form choice product s shelf start limit board old new → s ≢ status.Usage
   known_left (inl (end, is, traced)) = λ e. status_known end (sym is ∙ e)
   known_left (inr (is, traced)) = λ e. let never : status.NoMemory ≡ status.Usage = sym is ∙ e in cc
 
@@ -70,17 +70,17 @@ module _ (first : List Request) (old : Outside) (mid : Option (List Request)) (g
     tells = traced.tells;
   }
 
-  left_there : (form : Form) (choice : ChoiceState) (areas : Option (List Area)) (s : Status) (shelf : Shelf) (start : State) (limit : ℕ) (board : State) (new : Outside)
-      → IsLeft form choice areas s shelf start limit board here new → IsLeft form choice areas s shelf start limit board there new
-  left_there form choice areas s shelf start limit board new (inl (result, is, traced)) =
-      inl (result, is, traced_there (TellsForm form choice areas result start old.bytes new.bytes) shelf start limit board new.requests traced)
-  left_there form choice areas s shelf start limit board new (inr (is, traced)) =
+  left_there : (form : Form) (choice : ChoiceState) (product : Product) (s : Status) (shelf : Shelf) (start : State) (limit : ℕ) (board : State) (new : Outside)
+      → IsLeft form choice product s shelf start limit board here new → IsLeft form choice product s shelf start limit board there new
+  left_there form choice product s shelf start limit board new (inl (result, is, traced)) =
+      inl (result, is, traced_there (TellsForm form choice product result start old.bytes new.bytes) shelf start limit board new.requests traced)
+  left_there form choice product s shelf start limit board new (inr (is, traced)) =
       inr (is, traced_there (TellsLess form choice start old.bytes new.bytes) shelf start limit board new.requests traced)
 
   -- the folder keeps its files, and the board begins as the plan says
-  pub left_after : (form : Form) (choice : ChoiceState) (areas : Option (List Area)) (s : Status) (held files : Option Files) (name : List ℕ) (opened start : State) (limit : ℕ) (board : State) (new : Outside) → held ≡ files → opened ≡ start
-      → IsLeft form choice areas s (record { files = held; name = name }) opened limit board here new → IsLeft form choice areas s (record { files = files; name = name }) start limit board there new
-  left_after form choice areas s held files name opened start limit board new same_files same_start left =
-      left_there form choice areas s (record { files = files; name = name }) start limit board new
-      (subst (λ (f : Option Files). IsLeft form choice areas s (record { files = f; name = name }) start limit board here new) same_files
-      (subst (λ (u : State). IsLeft form choice areas s (record { files = held; name = name }) u limit board here new) same_start left))
+  pub left_after : (form : Form) (choice : ChoiceState) (product : Product) (s : Status) (held files : Option Files) (name : List ℕ) (opened start : State) (limit : ℕ) (board : State) (new : Outside) → held ≡ files → opened ≡ start
+      → IsLeft form choice product s (record { files = held; name = name }) opened limit board here new → IsLeft form choice product s (record { files = files; name = name }) start limit board there new
+  left_after form choice product s held files name opened start limit board new same_files same_start left =
+      left_there form choice product s (record { files = files; name = name }) start limit board new
+      (subst (λ (f : Option Files). IsLeft form choice product s (record { files = f; name = name }) start limit board here new) same_files
+      (subst (λ (u : State). IsLeft form choice product s (record { files = held; name = name }) u limit board here new) same_start left))

@@ -8,8 +8,8 @@ use Rattle.wind_machine.specs.LiveLoadingSaid.{FileSaid}
 use Rattle.wind_machine.specs.State.{State}
 use Rattle.wind_machine.specs.Replies.{step_reply}
 use Rattle.board_trace.specs.Before.{before_step}
-use Rattle.wind_machine.specs.Run.{after}
-use Rattle.board_trace.specs.Runs.{Line, line_in, step_lines, with_lines}
+use Rattle.wind_machine.specs.Run.{Answers, after}
+use Rattle.board_trace.specs.Runs.{Line, line_in, lines_of, step_lines, with_lines}
 use Rattle.board_trace.specs.Snapshots.{snapshot_of}
 use Rattle.board_trace.specs.Steps.{happenings}
 use Rattle.board_trace.specs.Subjects.{subject_name}
@@ -17,7 +17,7 @@ use Rattle.board_trace.specs.Views.{SnapshotState}
 use Rattle.board_trace.specs.declared.happening.Happening.{Happening}
 use Rattle.board_trace.specs.declared.moment.BeforeStep.{BeforeStep}
 use Rattle.trace_text.specs.Pages.{Ends, PageState}
-use Rattle.trace_session.specs.Choice.{ChoiceState, EverythingLaw, chosen, everything, is_chosen, with_if}
+use Rattle.trace_session.specs.Choice.{ChoiceState, chosen, chosen_lines, everything, is_chosen, with_if}
 use Rattle.trace_session.specs.Steps.{happenings_read, line_of}
 
 -- a line that is told or not, before others
@@ -69,7 +69,7 @@ all_in s t (h ∷ hs) =
     let rest = filter (is_chosen everything) (map (line_in s t) hs) in
     ap (λ b. cond ((b && true) && true) (line_in s t h ∷ rest) rest) (le-leb 1 (s.steps + 1) (omega arith)) ∙ ap (λ ls. line_in s t h ∷ ls) (all_in s t hs)
 
-pub all_lines : EverythingLaw
+pub all_lines : (said : Answers) (s : State) (k : ℕ) → chosen_lines everything said s k ≡ lines_of said s k
 all_lines said s zero = refl
 all_lines said s (suc k) =
     ap₂ with_lines (all_in (after said s k) (after said s (suc k)) (happenings (said k) (after said s k) (after said s (suc k)))) (all_lines said s k)

@@ -15,18 +15,18 @@ use Rattle.wind_session.specs.declared.ending.Status.{Status}
 use Rattle.wind_session.specs.declared.ending.Status.TheVariants as status
 use Rattle.wind_session.proofs.PlanLemmas.{some_plan}
 use Rattle.wind_session.proofs.ProgramLemmas.{complete_unmade, unplayed}
-use Rattle.trace_picture.specs.declared.areas.Area.{Area}
+use Rattle.trace_session.specs.declared.traced.Product.{Product}
 use Rattle.trace_session.specs.Command.{TraceState, session_of}
 use Rattle.trace_session.specs.Headline.{IsTraced, Leaves}
 use Rattle.trace_session.specs.Program.{Session, TracedOn}
 
 -- what a session leaves, without its board
-pub left_on : {I : Type 0} {X : I → Type 0} (state : Board I X → State) (s : Status) (stand : Stand I X) (areas : Option (List Area)) (plan : Plan) (command : Option TraceState) (slots : Vec (Option (DynBox I Global X)) Global)
-    (devices other : List (Option DeviceState)) (before after : Around) → Leaves state s stand areas plan command slots devices before after → IsKept state stand → devices ≡ other
+pub left_on : {I : Type 0} {X : I → Type 0} (state : Board I X → State) (s : Status) (stand : Stand I X) (product : Product) (plan : Plan) (command : Option TraceState) (slots : Vec (Option (DynBox I Global X)) Global)
+    (devices other : List (Option DeviceState)) (before after : Around) → Leaves state s stand product plan command slots devices before after → IsKept state stand → devices ≡ other
     → IsNotPlayed s plan (session_of command) before after ⊎ TracedOn s plan command other before after
-left_on state s (stands.NotBooted back) areas plan command slots devices other before after leaves kept same = inl leaves.1
-left_on state s (stands.Booted board) areas plan command slots devices other before after leaves kept same =
-    inr (record { board = state board; areas = areas; traced = subst (λ d. IsTraced s plan command areas d (state board) before after) same leaves; good = kept.0; instant = kept.1 })
+left_on state s (stands.NotBooted back) product plan command slots devices other before after leaves kept same = inl leaves.1
+left_on state s (stands.Booted board) product plan command slots devices other before after leaves kept same =
+    inr (record { board = state board; product = product; traced = subst (λ d. IsTraced s plan command product d (state board) before after) same leaves; good = kept.0; instant = kept.1 })
 
 -- memory ran out before a session
 pub session_unmade : (command : Option TraceState) (now : Around) → Session status.NoMemory command now now

@@ -10,45 +10,57 @@ use Rattle.wind_session.specs.declared.run.RunEnd.{RunEnd}
 use Rattle.wind_session.specs.declared.run.RunEnd.TheVariants as ends
 use Rattle.wind_session.proofs.RunLemmas.{stopped}
 use Rattle.board_changes.specs.Spans.{SpanState, closed}
-use Rattle.trace_picture.specs.Areas.{areas_of}
+use Rattle.trace_session.specs.Choice.{ChoiceState}
+use Rattle.trace_session.specs.Shown.{shown_areas}
+use Rattle.trace_session.specs.Spans.{part_after}
 use Rattle.trace_picture.specs.declared.areas.Area.{Area}
 use Rattle.trace_state.specs.Board.{IsTextOf, board_data}
-use Rattle.trace_session.specs.Traced.{IsPutOf, SeesSteps, TellsAreas, TellsNothing, TellsState}
+use Rattle.trace_session.specs.declared.traced.Product.{Product}
+use Rattle.trace_session.specs.declared.traced.Product.TheVariants as products
+use Rattle.trace_session.specs.Traced.{Alone, IsPutOf, SeesSteps, TellsAreas, TellsNothing, TellsState}
 use Rattle.trace_session.proofs.Telling.{lost_if, tells_unless}
 
 -- nothing is told of the run
 pub untold : (shelf : Shelf) (said : Answers) (s u : State) (n i : ℕ) (old mid : Option (List Request)) → After shelf said s n i u old mid → Told TellsNothing shelf s n u old mid
 untold shelf said s u n i old mid run = record { said = said; k = i; end = ends.WriteFault; made = stopped shelf said s u n i old mid run; tells = tt }
 
+-- a text was put, and nothing else is left
+pub alone : (product : Product) (Tells : Answers → ℕ → RunEnd → Type 0) (shelf : Shelf) (s t : State) (n : ℕ) (old new : Option (List Request)) → product ≡ products.Text → Told Tells shelf s n t old new → Told (Alone product Tells) shelf s n t old new
+alone product Tells shelf s t n old new none ran = record { said = ran.said; k = ran.k; end = ran.end; made = ran.made; tells = (none, ran.tells) }
+
 -- the spans of a run, and no put was lost
-abbrev pub Sees : RunEnd → SpanState → State → Answers → ℕ → RunEnd → Type 0
-Sees end spans s = IsTold (SeesSteps spans) (λ said t k. ⊥) end s
+abbrev pub Sees : ChoiceState → RunEnd → SpanState → State → Answers → ℕ → RunEnd → Type 0
+Sees c end spans s = IsTold (SeesSteps c spans) (λ said t k. ⊥) end s
 
 module _ (shelf : Shelf) (s t : State) (n : ℕ) (old new : Option (List Request)) where
   -- whatever was told of a run, nothing is left of it
   pub unseen : (Tells : Answers → ℕ → RunEnd → Type 0) → Told Tells shelf s n t old new → Told TellsNothing shelf s n t old new
   unseen Tells ran = record { said = ran.said; k = ran.k; end = ran.end; made = ran.made; tells = tt }
 
-  module _ (spans : SpanState) (end : RunEnd) (ran : Told (Sees end spans s) shelf s n t old new) where
+  module _ (c later : ChoiceState) (stays : later ≡ c) (spans : SpanState) (end : RunEnd) (ran : Told (Sees later end spans s) shelf s n t old new) where
     none_lost : ran.end ≢ ends.WriteFault
-    none_lost e = lost_if (SeesSteps spans) (λ said u k. ⊥) ran.said s ran.k ran.end e ran.tells.1
+    none_lost e = lost_if (SeesSteps later spans) (λ said u k. ⊥) ran.said s ran.k ran.end e ran.tells.1
 
     pub not_lost : end ≢ ends.WriteFault
     not_lost e = none_lost (sym ran.tells.0 ∙ e)
 
+    shown : spans ≡ part_after c ran.said s ran.k
+    shown = subst (λ x. SeesSteps x spans ran.said s ran.k) stays (tells_unless (SeesSteps later spans) (λ said u k. ⊥) ran.said s ran.k ran.end none_lost ran.tells.1)
+
     -- the spans ended with the run, and these are their areas
-    pub areas_told : (last : SpanState) (areas : List Area) (result : RunEnd) (time : ℕ) → last ≡ closed spans time → time ≡ t.time → areas ≡ areas_of last.done
-        → (result ≡ end) ⊎ (result ≡ ends.WriteFault) → Told (TellsAreas result areas s) shelf s n t old new
-    areas_told last areas result time closed_is time_is areas_are put = record {
+    pub areas_told : (last : SpanState) (areas : List Area) (product : Product) (result : RunEnd) → product ≡ products.Picture areas
+        → areas ≡ shown_areas c last.done → last ≡ closed spans t.time
+        → (result ≡ end) ⊎ (result ≡ ends.WriteFault) → Told (TellsAreas c product result s) shelf s n t old new
+    areas_told last areas product result product_is areas_are closed_is put = record {
       said = ran.said;
       k = ran.k;
       end = ran.end;
       made = ran.made;
       tells = (
         subst (λ e. (result ≡ e) ⊎ (result ≡ ends.WriteFault)) ran.tells.0 put,
-        areas_are ∙ ap (λ (x : SpanState). areas_of x.done)
-            (closed_is ∙ ap (closed spans) (time_is ∙ ap (λ (v : State). v.time) ran.made.state)
-            ∙ ap (λ x. closed x (after ran.said s ran.k).time) (tells_unless (SeesSteps spans) (λ said u k. ⊥) ran.said s ran.k ran.end none_lost ran.tells.1)),
+        product_is
+            ∙ ap products.Picture (areas_are ∙ ap (λ (x : SpanState). shown_areas c x.done)
+            (closed_is ∙ ap (closed spans) (ap (λ (v : State). v.time) ran.made.state) ∙ ap (λ x. closed x (after ran.said s ran.k).time) shown)),
       );
     }
 

@@ -1,5 +1,5 @@
 -- A silent step is one instruction: it is told in one line, which is joined with that of the instructions before it.
-use Rattle.std.proofs.Common.{◌≡◌, ℕ, zero, suc, ◌+◌, Bool, true, false, not, ◌||◌, ◌&&◌, if◌then◌else◌, ◌<◌, List, [], ◌∷◌, ◌++◌, map, Option, None, Some, refl, sym, ap, ap₂, ◌∙◌, arith, add-one}
+use Rattle.std.proofs.Common.{◌≡◌, ℕ, zero, suc, ◌+◌, Bool, true, false, not, ◌||◌, ◌&&◌, if◌then◌else◌, ◌<◌, ◌≤◌, ◌-◌, List, [], ◌∷◌, ◌++◌, map, Option, None, Some, refl, sym, ap, ap₂, ◌∙◌, arith, add-one}
 use Rattle.std.specs.Prelude.{cond, is_none, is_some}
 use Rattle.std.specs.List.{filter}
 use Rattle.board_trace.specs.Subjects.{subject_of}
@@ -26,7 +26,8 @@ use Rattle.trace_text.specs.Joining.{JoiningLaw}
 use Rattle.wind_session.proofs.Continuing.{burst_counted}
 use Rattle.trace_session.specs.Choice.{AreAlike, ChoiceState, chosen_in, chosen_lines, is_chosen, is_of, is_among, is_step, kind_of, with_if}
 use Rattle.trace_session.specs.Bursts.{SilentLinesLaw, instructions_line, with_instructions}
-use Rattle.trace_session.specs.Spans.{looked_at, observed_in, spans_after}
+use Rattle.board_changes.specs.Spans.{SpanState, closed}
+use Rattle.trace_session.specs.Spans.{looked_at, looked_by, observed_in, opening_spans, part_after}
 
 -- ---- one silent step
 -- no other task runs
@@ -144,16 +145,27 @@ module _ (law : SilentLaw) (said : Answers) (s u : State) (i : ℕ) (here : u �
         ∙ ap (with_if (told_at (u.steps + 1)) (instructions_line v who 1)) (lines_on joins v k last steps.1 (λ j h. alike j (omega (arith, h))))
         ∙ joined_on joins k u v who (told_at (u.steps + 1)) (chosen_lines c said s i) steps.1
 
-  -- they leave the spans as they are
-  pub spans_on : (k : ℕ) (t : State) → SilentSteps k u t → spans_after said s (i + k) ≡ spans_after said s i
-  spans_on zero t steps = let end : i + 0 ≡ i = omega arith in ap (spans_after said s) end
-  spans_on (suc k) t steps =
-      let v = steps.0 in
-      let n = i + k in
-      ap (spans_after said s) (at_end k)
-      ∙ ap₂ (λ (a b : State). looked_at (before_step a) (spans_after said s n) b) (sym (there k v steps.1)) (sym (next_there k t steps))
-      ∙ ap (λ b. if b then spans_after said s n else observed_in (spans_after said s n) t) (is_one_instruction v t steps.2)
-      ∙ spans_on k v steps.1
+  -- they leave the spans as they are, if the step after them is like them
+  module _ (c : ChoiceState) (m : ℕ) (alike : AreAlike c u.steps m) where
+    unchanged : (b : Bool) (v t : State) (part : SpanState) → is_instruction (before_step v) t.world.output ≡ true
+        → (if b then (if b then looked_at (before_step v) part t else closed (looked_at (before_step v) part t) t.time) else (if b then opening_spans t else part)) ≡ part
+    unchanged true v t part one = ap (λ x. if x then part else observed_in part t) one
+    unchanged false v t part one = refl
+
+    pub part_on : (k : ℕ) (t : State) → SilentSteps k u t → k ≤ m - 1 → part_after c said s (i + k) ≡ part_after c said s i
+    part_on zero t steps few = let end : i + 0 ≡ i = omega arith in ap (part_after c said s) end
+    part_on (suc k) t steps few =
+        let v = steps.0 in
+        let n = i + k in
+        let part = part_after c said s n in
+        let now : v.steps + 1 ≡ u.steps + k + 1 = omega (arith, burst_counted law u v k steps.1) in
+        let next : v.steps + 1 + 1 ≡ u.steps + suc k + 1 = omega (arith, burst_counted law u v k steps.1) in
+        ap (part_after c said s) (at_end k)
+        ∙ ap₂ (λ (a b : State). looked_by c (before_step a) part b) (sym (there k v steps.1)) (sym (next_there k t steps))
+        ∙ ap₂ (λ x y. if x then (if y then looked_at (before_step v) part t else closed (looked_at (before_step v) part t) t.time) else (if y then opening_spans t else part))
+        (ap (is_step c) now ∙ alike k (omega (arith, few))) (ap (is_step c) next ∙ alike (suc k) (omega (arith, few)))
+        ∙ unchanged (is_step c (u.steps + 1)) v t part (is_one_instruction v t steps.2)
+        ∙ part_on k v steps.1 (omega (arith, few))
 
 pub silent_lines : JoiningLaw → SilentLaw → SilentLinesLaw
 silent_lines joins law c said s u t who i k here last steps alike = lines_on law said s u i here c who joins t k last steps alike ∙ as_either c k u who (chosen_lines c said s i)

@@ -22,7 +22,7 @@ use Rattle.board_trace.specs.Views.{SnapshotState}
 use Rattle.trace_text.specs.Lines.{lines_text}
 use Rattle.trace_text.specs.Pages.{Ends, PageState, count_in}
 use Rattle.trace_session.specs.Choice.{ChoiceState, chosen_in, chosen_lines}
-use Rattle.trace_session.specs.Spans.{looked_at, spans_after}
+use Rattle.trace_session.specs.Spans.{looked_by, part_after}
 use Rattle.trace_session.specs.Traced.{HoldsLines, HoldsPart, HoldsSteps, IsPutOf, TellsEvents, TellsPart, last_line_of}
 use Rattle.trace_session.proofs.Puts.{prefix_more, prefix_put}
 
@@ -37,11 +37,11 @@ same_lines c a b s (suc k) same =
     ∙ ap (λ said. with_lines (chosen_in c said (after b s k) (after b s (suc k))) (chosen_lines c a s k)) (same k (omega arith))
     ∙ ap (with_lines (chosen_in c (b k) (after b s k) (after b s (suc k)))) (same_lines c a b s k (shorter a b k same))
 
-same_spans : (a b : Answers) (s : State) (k : ℕ) → Agree a b k → spans_after a s k ≡ spans_after b s k
-same_spans a b s zero same = refl
-same_spans a b s (suc k) same =
-    ap₂ (λ (u v : State). looked_at (before_step u) (spans_after a s k) v) (same_after a b s k (shorter a b k same)) (same_after a b s (suc k) same)
-    ∙ ap (λ spans. looked_at (before_step (after b s k)) spans (after b s (suc k))) (same_spans a b s k (shorter a b k same))
+same_part : (c : ChoiceState) (a b : Answers) (s : State) (k : ℕ) → Agree a b k → part_after c a s k ≡ part_after c b s k
+same_part c a b s zero same = refl
+same_part c a b s (suc k) same =
+    ap₂ (λ (u v : State). looked_by c (before_step u) (part_after c a s k) v) (same_after a b s k (shorter a b k same)) (same_after a b s (suc k) same)
+    ∙ ap (λ spans. looked_by c (before_step (after b s k)) spans (after b s (suc k))) (same_part c a b s k (shorter a b k same))
 
 -- ---- one step more
 module _ (said next : Answers) (s u t : State) (reply : Option Reply) (i : ℕ) (on : GoesOn said next s u t reply i) where
@@ -51,11 +51,11 @@ module _ (said next : Answers) (s u t : State) (reply : Option Reply) (i : ℕ) 
       ∙ ap (with_lines (chosen_in c (next i) (after next s i) (after next s (suc i)))) (same_lines c said next s i on.same)
       ∙ ap (chosen_lines c next s) (sym (add-one i))
 
-  pub spans_now : looked_at (before_step u) (spans_after said s i) t ≡ spans_after next s (i + 1)
-  spans_now =
-      ap₂ (λ (a b : State). looked_at (before_step a) (spans_after said s i) b) (state_before said next s u t reply i on) (state_after said next s u t reply i on)
-      ∙ ap (λ spans. looked_at (before_step (after next s i)) spans (after next s (suc i))) (same_spans said next s i on.same)
-      ∙ ap (spans_after next s) (sym (add-one i))
+  pub part_now : (c : ChoiceState) → looked_by c (before_step u) (part_after c said s i) t ≡ part_after c next s (i + 1)
+  part_now c =
+      ap₂ (λ (a b : State). looked_by c (before_step a) (part_after c said s i) b) (state_before said next s u t reply i on) (state_after said next s u t reply i on)
+      ∙ ap (λ spans. looked_by c (before_step (after next s i)) spans (after next s (suc i))) (same_part c said next s i on.same)
+      ∙ ap (part_after c next s) (sym (add-one i))
 
 -- ---- by how the run ended
 module _ (Tells Lost : Answers → State → ℕ → Type 0) (said : Answers) (s : State) (k : ℕ) where

@@ -11,7 +11,7 @@ use Rattle.wind_session.specs.Plan.{Plan, Start, IsPlanOf}
 use Rattle.wind_session.specs.Program.{opening_devices}
 use Rattle.wind_session.specs.Status.{status_number}
 use Rattle.wind_session.specs.declared.ending.Status.{Status}
-use Rattle.trace_picture.specs.declared.areas.Area.{Area}
+use Rattle.trace_session.specs.declared.traced.Product.{Product}
 use Rattle.session_promises.specs.Promises.{PromiseLaw}
 use Rattle.session_promises.specs.Sessions.{IsAsPromised, PlaysAsPromised, Promised}
 use Rattle.session_promises.proofs.Promised.{plays_as_promised}
@@ -20,13 +20,13 @@ use Rattle.trace_session.specs.Headline.{IsLeft}
 use Rattle.trace_session.specs.Program.{Session, TracedOn}
 
 module _ (law : PromiseLaw) where
-  by_left : (s : Status) (plan : Plan) (c : TraceState) (areas : Option (List Area)) (board : State) (before after : Around) → IsPlanOf c.session.source before.files c.session plan
+  by_left : (s : Status) (plan : Plan) (c : TraceState) (product : Product) (board : State) (before after : Around) → IsPlanOf c.session.source before.files c.session plan
       → (console : List ℕ) (schedule : Timetable) → plan ≡ Start console schedule
-      → IsLeft c.form c.choice areas s (shelf_of before.files c.session) (opening console schedule opening_devices c.session.profile c.session.board) c.session.limit board (with_inputs c.session before.logged) after.logged
+      → IsLeft c.form c.choice product s (shelf_of before.files c.session) (opening console schedule opening_devices c.session.profile c.session.board) c.session.limit board (with_inputs c.session before.logged) after.logged
       → PlaysAsPromised plan c.session before after
-  by_left s plan c areas board before after planned console schedule starts (inl told) =
+  by_left s plan c product board before after planned console schedule starts (inl told) =
       plays_as_promised law plan c.session before after planned console schedule starts told.2.said told.2.k told.2.end board told.2.made
-  by_left s plan c areas board before after planned console schedule starts (inr told) =
+  by_left s plan c product board before after planned console schedule starts (inr told) =
       plays_as_promised law plan c.session before after planned console schedule starts told.1.said told.1.k told.1.end board told.1.made
 
   by_leaves : (s : Status) (plan : Plan) (c : TraceState) (before after : Around) → IsPlanOf c.session.source before.files c.session plan
@@ -34,7 +34,7 @@ module _ (law : PromiseLaw) where
   by_leaves s plan c before after planned (inl unplayed) = inl unplayed
   by_leaves s plan c before after planned (inr on) =
       let t = on.traced in
-      inr (by_left s plan c on.areas on.board before after planned t.console t.schedule t.planned t.left)
+      inr (by_left s plan c on.product on.board before after planned t.console t.schedule t.planned t.left)
 
   unplayed : (s : Status) (plan : Plan) (before after : Around) → IsNotPlayed s plan None before after ⊎ TracedOn s plan None opening_devices before after → IsNotPlayed s plan None before after
   unplayed s plan before after (inl h) = h

@@ -8,7 +8,7 @@ use Rattle.wind_machine.specs.State.{State}
 use Rattle.wind_machine.specs.Run.{Answers, after}
 use Rattle.board_changes.specs.declared.change.Change.{Change}
 use Rattle.board_changes.specs.declared.change.Change.TheVariants as changes
-use Rattle.board_trace.specs.Runs.{Line, lines_of, step_lines, with_line, with_lines}
+use Rattle.board_trace.specs.Runs.{Line, step_lines, with_line, with_lines}
 use Rattle.board_trace.specs.Subjects.{subject_of}
 use Rattle.board_trace.specs.declared.happening.Happening.{Happening}
 use Rattle.board_trace.specs.declared.happening.Happening.TheVariants as told
@@ -123,7 +123,3 @@ with_if b next made = if b then with_line next made else made
 -- the steps after the first n, up to n + k, are all among those of the choice, or none is
 abbrev pub AreAlike : ChoiceState → ℕ → ℕ → Type 0
 AreAlike c n k = (j : ℕ) → j < k → is_step c (n + j + 1) ≡ is_step c (n + 1)
-
--- if everything is told, the lines are those of the run
-abbrev pub EverythingLaw : Type 0
-EverythingLaw = (said : Answers) (s : State) (k : ℕ) → chosen_lines everything said s k ≡ lines_of said s k

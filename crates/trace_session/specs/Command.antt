@@ -1,5 +1,5 @@
 -- What the arguments of the command line ask for.
-use Rattle.std.specs.Prelude.{ℕ, Bool, ◌&&◌, ◌==◌, List, [], ◌∷◌, Option, Some, None, if◌then◌else◌, codes}
+use Rattle.std.specs.Prelude.{ℕ, Bool, true, false, ◌&&◌, ◌==◌, List, [], ◌∷◌, Option, Some, None, if◌then◌else◌, codes}
 use Rattle.std.specs.Option.{option_map}
 use Rattle.std.specs.List.{slice_split}
 use Rattle.std.specs.Str.{bytes_eq}
@@ -107,11 +107,18 @@ has_defaults rows =
     && (bytes_eq (value_of (codes "to") rows) (codes "last")
     && (bytes_eq (value_of (codes "tasks") rows) (codes "all") && bytes_eq (value_of (codes "kinds") rows) (codes "all")))
 
--- events are told of a choice, other forms of everything
+-- the form is told of a choice
+abbrev pub has_choice : Form → Bool
+has_choice Events = true
+has_choice Timeline = true
+has_choice State = false
+
+-- other forms are told of everything
 abbrev pub choice_for : Form → List Row → Option ChoiceState
-choice_for Events rows = choice_of_rows rows
-choice_for Timeline rows = if has_defaults rows then Some everything else None
-choice_for State rows = if has_defaults rows then Some everything else None
+choice_for form rows =
+    if has_choice form then choice_of_rows rows
+    else if has_defaults rows then Some everything
+    else None
 
 -- ---- the command
 -- the command line, as clap reads it

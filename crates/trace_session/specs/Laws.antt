@@ -5,6 +5,10 @@ use Rattle.wind_machine.specs.Run.{Answers, after, text}
 use Rattle.board_trace.specs.Runs.{Line, lines_of, step_lines}
 use Rattle.board_trace.specs.declared.happening.Happening.{Happening}
 use Rattle.board_trace.specs.declared.happening.Happening.TheVariants as told
+use Rattle.trace_picture.specs.Areas.{areas_of}
+use Rattle.trace_session.specs.Choice.{chosen_lines, everything}
+use Rattle.trace_session.specs.Shown.{shown_areas}
+use Rattle.trace_session.specs.Spans.{part_of, spans_of}
 use Rattle.trace_text.specs.Pages.{count_of, is_instructions}
 
 -- how many instructions these lines tell of
@@ -43,3 +47,8 @@ pub record LinesLaw : Type 0 where
   pub instructions : (said : Answers) (s : State) (k : ℕ) → instructions_in (lines_of said s k) ≡ instructions_in (single_lines said s k)
   pub others : (said : Answers) (s : State) (k : ℕ) → others_in (lines_of said s k) ≡ others_in (single_lines said s k)
   pub written : (said : Answers) (s : State) (k : ℕ) → written_in (lines_of said s k) ≡ text said s k
+
+-- if everything is chosen, the lines are those of the run, and a picture shows all areas of its spans
+pub record EverythingLaw : Type 0 where
+  pub lines : (said : Answers) (s : State) (k : ℕ) → chosen_lines everything said s k ≡ lines_of said s k
+  pub areas : (said : Answers) (s : State) (k : ℕ) → shown_areas everything (part_of everything said s k).done ≡ areas_of (spans_of said s k).done

@@ -2,6 +2,7 @@ pub mod Bursts
 pub mod Choice
 pub mod Forms
 pub mod Laws
+pub mod Shown
 pub mod Spans
 pub mod Steps
 pub mod Traced

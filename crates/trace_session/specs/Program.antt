@@ -10,15 +10,15 @@ use Rattle.wind_session.specs.Plan.{Plan, IsPlan}
 use Rattle.wind_session.specs.Program.{EndsAs, opening_devices}
 use Rattle.wind_session.specs.declared.ending.Status.{Status}
 use Rattle.wind_session.specs.declared.ending.Status.TheVariants as status
-use Rattle.trace_picture.specs.declared.areas.Area.{Area}
+use Rattle.trace_session.specs.declared.traced.Product.{Product}
 use Rattle.trace_session.specs.Command.{TraceState, session_of}
 use Rattle.trace_session.specs.Headline.{IsTraced}
 
 -- a board with these devices was played for a trace, and has its invariant and what holds at each instant
 pub record TracedOn (s : Status) (plan : Plan) (command : Option TraceState) (devices : List (Option DeviceState)) (before after : Around) : Type 0 where
   pub board : State
-  pub areas : Option (List Area)
-  pub traced : IsTraced s plan command areas devices board before after
+  pub product : Product
+  pub traced : IsTraced s plan command product devices board before after
   pub good : Good board
   pub instant : IsInstant board.world
 

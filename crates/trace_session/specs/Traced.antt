@@ -10,9 +10,10 @@ use Rattle.board_trace.specs.Snapshots.{snapshot_of}
 use Rattle.board_trace.specs.Views.{SnapshotState}
 use Rattle.board_changes.specs.Spans.{SpanState}
 use Rattle.trace_session.specs.Choice.{ChoiceState, chosen_lines}
-use Rattle.trace_session.specs.Spans.{spans_after, spans_of}
-use Rattle.trace_picture.specs.Areas.{areas_of}
-use Rattle.trace_picture.specs.declared.areas.Area.{Area}
+use Rattle.trace_session.specs.declared.traced.Product.{Product}
+use Rattle.trace_session.specs.declared.traced.Product.TheVariants as products
+use Rattle.trace_session.specs.Shown.{shown_areas}
+use Rattle.trace_session.specs.Spans.{part_after, part_of}
 use Rattle.trace_state.specs.Board.{IsTextOf, board_data}
 use Rattle.trace_text.specs.Ending.{last_line}
 use Rattle.trace_text.specs.Lines.{lines_text}
@@ -67,9 +68,9 @@ abbrev pub IsReady : SnapshotState → PageState → State → Type 0
 IsReady before page u = (before ≡ snapshot_of u.world) × (count_in page.growing ≤ u.steps)
 
 -- ---- spans under way
--- the spans are those of the first k steps
-abbrev pub SeesSteps : SpanState → Answers → State → ℕ → Type 0
-SeesSteps spans said s k = spans ≡ spans_after said s k
+-- the spans are those of a choice's steps among the first k
+abbrev pub SeesSteps : ChoiceState → SpanState → Answers → State → ℕ → Type 0
+SeesSteps c spans said s k = spans ≡ part_after c said s k
 
 -- ---- the other forms
 -- nothing is told of the run
@@ -84,6 +85,10 @@ TellsState result s old new said k end = (text : List ℕ) × IsTextOf text (boa
 abbrev pub IsPutAfter : RunEnd → Answers → ℕ → RunEnd → Type 0
 IsPutAfter result said k end = (result ≡ end) ⊎ (result ≡ ends.WriteFault)
 
--- the same, and these are the areas of the spans of the run
-abbrev pub TellsAreas : RunEnd → List Area → State → Answers → ℕ → RunEnd → Type 0
-TellsAreas result areas s said k end = IsPutAfter result said k end × (areas ≡ areas_of (spans_of said s k).done)
+-- the same, and a picture is left: the areas of the spans of the run that are chosen
+abbrev pub TellsAreas : ChoiceState → Product → RunEnd → State → Answers → ℕ → RunEnd → Type 0
+TellsAreas c product result s said k end = IsPutAfter result said k end × (product ≡ products.Picture (shown_areas c (part_of c said s k).done))
+
+-- this is told, and nothing is left besides the text
+abbrev pub Alone : Product → (Answers → ℕ → RunEnd → Type 0) → Answers → ℕ → RunEnd → Type 0
+Alone product Tells said k end = (product ≡ products.Text) × Tells said k end

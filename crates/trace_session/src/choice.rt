@@ -138,8 +138,8 @@ impl Choice {
         }
     }
 
-    // The steps have this number among them.
-    fn has_step(&self, step: u64) -> bool
+    /// The steps have this number among them.
+    pub(crate) fn has_step(&self, step: u64) -> bool
         ensures { result ≡ is_step (choice_state self.now) step }
     {
         let is_up_to = match self.last {
@@ -149,8 +149,8 @@ impl Choice {
         self.first <= step && is_up_to
     }
 
-    // The tasks have this one among them.
-    fn has_subject(&self, who: Subject) -> bool
+    /// The tasks have this one among them.
+    pub(crate) fn has_subject(&self, who: Subject) -> bool
         ensures { result ≡ is_of_lem (choice_state self.now).tasks who }
     {
         match &self.tasks {
@@ -159,8 +159,8 @@ impl Choice {
         }
     }
 
-    // The kinds have this one among them.
-    fn has_kind(&self, kind: Kind) -> bool
+    /// The kinds have this one among them.
+    pub(crate) fn has_kind(&self, kind: Kind) -> bool
         ensures { result ≡ is_among_lem (choice_state self.now).kinds kind }
     {
         match &self.kinds {

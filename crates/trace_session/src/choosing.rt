@@ -6,7 +6,7 @@ ghost use Rattle.clap.specs.Words.{app_of, found_of, rows_of};
 ghost use Rattle.wind_session.specs.Command.{number_value};
 ghost use Rattle.wind_session.specs.declared.command.CommandErr.TheVariants as errors;
 ghost use Rattle.trace_session.specs.Choice.{choice_state};
-ghost use Rattle.trace_session.specs.Command.{choice_for as choice_for_lem, choice_of_rows, each, first_value, has_defaults as has_defaults_lem, with_choice_options as with_choice_options_lem, kind_named as kind_named_lem, kinds_value, last_value, most_id, parts, step_of_number, step_value, tasks_value};
+ghost use Rattle.trace_session.specs.Command.{choice_for as choice_for_lem, choice_of_rows, each, first_value, has_choice as has_choice_lem, has_defaults as has_defaults_lem, with_choice_options as with_choice_options_lem, kind_named as kind_named_lem, kinds_value, last_value, most_id, parts, step_of_number, step_value, tasks_value};
 
 use crate::choice::{Choice, Kind};
 use crate::forms::Form;
@@ -30,7 +30,7 @@ const BAD_KINDS: &str = "\
     owners, messages, waits, tasks, priorities, watchdogs, modules, routines, output or \
     instructions";
 
-const ONLY_EVENTS: &str = "only '--as events' takes --from, --to, --tasks and --kinds";
+const NO_CHOICE: &str = "this form takes none of --from, --to, --tasks and --kinds";
 
 /// A command line with the options that choose what is told.
 pub(crate) fn with_choice_options<'a>(
@@ -223,7 +223,17 @@ fn has_defaults(matches: &ArgMatches) -> bool
         && value_of(matches, "kinds") == "all"
 }
 
-/// The choice for a form: events are told of the options' choice, other forms of everything.
+// The form is told of a choice.
+fn has_choice(form: Form) -> bool
+    ensures { result ≡ has_choice_lem form }
+{
+    match form {
+        Form::Events | Form::Timeline => true,
+        Form::State => false,
+    }
+}
+
+/// The choice for a form: some forms are told of the options' choice, others of everything.
 pub(crate) fn choice_for(
     alloc: Global,
     app: &mut clap::Command<'_>,
@@ -234,15 +244,13 @@ pub(crate) fn choice_for(
     ensures usage { IfErr result (λ e. e ≢ errors.NoMemory
         → choice_for_lem form (rows_of (found_of matches.now)) ≡ None) }
 {
-    match form {
-        Form::Events => choice_of(alloc, app, matches),
-        Form::Timeline | Form::State => {
-            let everything = if has_defaults(matches) {
-                Some(Choice::everything())
-            } else {
-                None
-            };
-            valid(alloc, app, everything, ONLY_EVENTS)
-        }
+    if has_choice(form) {
+        return choice_of(alloc, app, matches);
     }
+    let everything = if has_defaults(matches) {
+        Some(Choice::everything())
+    } else {
+        None
+    };
+    valid(alloc, app, everything, NO_CHOICE)
 }

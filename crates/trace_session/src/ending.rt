@@ -1,6 +1,6 @@
 //! How a traced session ended.
 
-use trace_picture::Areas;
+use crate::traced::Product;
 use wind_session::{Stand, Status};
 
 /// How a traced session ended, and what it left.
@@ -10,6 +10,6 @@ pub struct TraceEnding {
     pub status: Status,
     /// The board, or the devices if there is none.
     pub stand: Stand,
-    /// The areas of the picture, if a timeline was asked for and memory sufficed.
-    pub areas: Option<Areas>,
+    /// What the form leaves besides its text; the text is all if there is no board or memory ran out.
+    pub product: Product,
 }

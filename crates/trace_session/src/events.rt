@@ -5,15 +5,17 @@ ghost use Rattle.wind_base.specs.Limits.{most_steps};
 ghost use Rattle.wind_outside.specs.{Appending.{Appended, AppendedPrefix}, Counts.Rose};
 ghost use Rattle.wind_outside.specs.declared.sink.Put.TheVariants as puts;
 ghost use Rattle.wind_machine.specs.{State.State, Run.{Answers, after}, Silent.SilentSteps};
+ghost use Rattle.wind_session.specs.{Keeping.KeepsFiles, Telling.Told};
 ghost use Rattle.wind_session.specs.BoardPlayerSeen.{seen};
 ghost use Rattle.board_trace.specs.{Runs.Line, Snapshots.snapshot_of, Views.snapshot_state};
 ghost use Rattle.trace_text.specs.{Lines.lines_text, Pages.{Ends, count_in}};
 ghost use Rattle.wind_session.specs.declared.run.RunEnd.TheVariants as ends;
 ghost use Rattle.trace_session.specs.Choice.{choice_state, chosen_lines};
-ghost use Rattle.trace_session.specs.Traced.{HoldsLines, IsPutOf, last_line_of};
+ghost use Rattle.trace_session.specs.Traced.{Alone, HoldsLines, IsPutOf, TellsEvents, TellsPart, last_line_of};
 
 use crate::choice::Choice;
 use crate::laws::silent_lines_law;
+use crate::traced::TracedRun;
 use crate::tracer::Tracer;
 use board_trace::BeforeStep;
 use std::alloc::Global;
@@ -21,8 +23,8 @@ use trace_state::{last_actor, look_before};
 use trace_text::Page;
 use wind_base::NoMemory;
 use wind_machine::silent_law;
-use wind_outside::{Device, Put, Sink};
-use wind_session::{Board, RunEnd, Teller};
+use wind_outside::{Device, Folder, Put, Sink};
+use wind_session::{Board, RunEnd, Teller, tell_run};
 
 // A page is put once it has this many bytes.
 const PAGE_BYTES: usize = 65_536;
@@ -139,8 +141,8 @@ impl<'a> Teller for Tracer<'a> {
     }
 }
 
-/// Tells how a run ended, and puts the lines that were not put yet.
-pub(crate) fn tell_end<O: Sink>(
+// Tells how a run ended, and puts the lines that were not put yet.
+fn tell_end<O: Sink>(
     board: &Board,
     out: &mut O,
     end: RunEnd,
@@ -162,5 +164,47 @@ pub(crate) fn tell_end<O: Sink>(
     match put_page(&mut tracer.page, out) {
         Put::Done => Ok(end),
         Put::Failed => Ok(RunEnd::WriteFault),
+    }
+}
+
+/// Makes steps, at most `limit`, and puts a line for each thing that happened in them and is chosen,
+/// and a last line. The modules that the steps need are fetched from the folder.
+///
+/// # Errors
+///
+/// `NoMemory` if memory runs out for the lines. Then the run is given up.
+pub(crate) fn tell_events<F: Folder, O: Sink>(
+    alloc: Global,
+    choice: &Choice,
+    board: &mut Board,
+    folder: &mut F,
+    modules: &str,
+    out: &mut O,
+    limit: u64,
+) -> Result<TracedRun, NoMemory>
+    requires fresh { (seen ⟦<dyn Device as Device>⟧ board.old).steps ≡ 0 }
+    requires bound { limit ≤ most_steps }
+    ensures told { IfOk result (λ t. Told
+        (Alone t.product (TellsEvents (choice_state choice.now) t.end (seen ⟦<dyn Device as Device>⟧ board.old)
+        (O.bytes out.old) (O.bytes out.new)))
+        (record { files = F.files folder.old; name = modules.now }) (seen ⟦<dyn Device as Device>⟧ board.old) limit
+        (seen ⟦<dyn Device as Device>⟧ board.new) (F.requests folder.old) (F.requests folder.new)) }
+    ensures given_up { OnErr result (Told
+        (TellsPart (choice_state choice.now) (seen ⟦<dyn Device as Device>⟧ board.old)
+        (O.bytes out.old) (O.bytes out.new))
+        (record { files = F.files folder.old; name = modules.now }) (seen ⟦<dyn Device as Device>⟧ board.old) limit
+        (seen ⟦<dyn Device as Device>⟧ board.new) (F.requests folder.old) (F.requests folder.new)) }
+    ensures read_fault { IfOk result (λ t. t.end ≡ ends.ReadFault → Rose (F.faults folder.old) (F.faults folder.new)) }
+    ensures fault { IfOk result (λ t. t.end ≡ ends.WriteFault → Rose (O.faults out.old) (O.faults out.new)) }
+    ensures keeps { KeepsFiles ⟦<F as Folder>⟧ ⟦<O as Sink>⟧ folder.old out.old folder.new out.new }
+{
+    let mut tracer = Tracer::new(alloc, choice, board)?;
+    let end = tell_run(alloc, board, folder, modules, out, limit, &mut tracer)?;
+    match end {
+        RunEnd::WriteFault => Ok(TracedRun::text(end)),
+        _ => {
+            let last = tell_end(board, out, end, &mut tracer)?;
+            Ok(TracedRun::text(last))
+        }
     }
 }

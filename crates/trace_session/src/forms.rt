@@ -10,16 +10,14 @@ ghost use Rattle.trace_session.specs.Choice.{choice_state};
 ghost use Rattle.trace_session.specs.Forms.{TellsForm, TellsLess};
 
 use crate::choice::Choice;
-use crate::events::tell_end;
-use crate::observer::Observer;
-use crate::timeline::put_text;
-use crate::tracer::Tracer;
+use crate::events::tell_events;
+use crate::state::show_state;
+use crate::timeline::draw_timeline;
+use crate::traced::TracedRun;
 use std::alloc::Global;
-use trace_picture::{Areas, areas_of};
-use trace_state::state_text;
 use wind_base::NoMemory;
 use wind_outside::{Device, Folder, Sink};
-use wind_session::{Board, RunEnd, count_board, tell_run};
+use wind_session::Board;
 
 /// The form in which a run is told.
 #[derive(Clone, Copy, Debug, PartialEq, Eq)]
@@ -32,17 +30,8 @@ pub enum Form {
     State,
 }
 
-/// A run that was told.
-#[derive(Drop)]
-pub struct TracedRun {
-    /// How the run ended, or that a put failed.
-    pub end: RunEnd,
-    /// The areas of the picture, in a timeline.
-    pub areas: Option<Areas>,
-}
-
-/// Makes steps, at most `limit`, and puts what happened in them in this form. Events are told of
-/// the choice alone. The modules that the steps need are fetched from the folder.
+/// Makes steps, at most `limit`, and puts what happened in them in this form. Of events and spans
+/// only those of the choice are told. The modules that the steps need are fetched from the folder.
 ///
 /// # Errors
 ///
@@ -60,7 +49,7 @@ pub fn trace_board<F: Folder, O: Sink>(
     requires fresh { (seen ⟦<dyn Device as Device>⟧ board.old).steps ≡ 0 }
     requires bound { limit ≤ most_steps }
     ensures told { IfOk result (λ t. Told
-        (TellsForm form (choice_state choice.now) t.areas t.end
+        (TellsForm form (choice_state choice.now) t.product t.end
         (seen ⟦<dyn Device as Device>⟧ board.old) (O.bytes out.old) (O.bytes out.new))
         (record { files = F.files folder.old; name = modules.now }) (seen ⟦<dyn Device as Device>⟧ board.old) limit
         (seen ⟦<dyn Device as Device>⟧ board.new) (F.requests folder.old) (F.requests folder.new)) }
@@ -74,38 +63,8 @@ pub fn trace_board<F: Folder, O: Sink>(
     ensures keeps { KeepsFiles ⟦<F as Folder>⟧ ⟦<O as Sink>⟧ folder.old out.old folder.new out.new }
 {
     match form {
-        Form::Events => {
-            let mut tracer = Tracer::new(alloc, choice, board)?;
-            let end = tell_run(alloc, board, folder, modules, out, limit, &mut tracer)?;
-            match end {
-                RunEnd::WriteFault => Ok(TracedRun { end, areas: None }),
-                _ => {
-                    let last = tell_end(board, out, end, &mut tracer)?;
-                    Ok(TracedRun {
-                        end: last,
-                        areas: None,
-                    })
-                }
-            }
-        }
-        Form::Timeline => {
-            let mut observer = Observer::new(alloc, board)?;
-            let end = tell_run(alloc, board, folder, modules, out, limit, &mut observer)?;
-            observer.close(board)?;
-            let areas = areas_of(alloc, observer.spans.done())?;
-            let mut text = Vec::new(alloc);
-            observer
-                .scene
-                .draw(alloc, &mut text, areas.list(), board.time())?;
-            let end = put_text(out, &text, end);
-            let areas = Some(areas);
-            Ok(TracedRun { end, areas })
-        }
-        Form::State => {
-            let end = count_board(alloc, board, folder, modules, out, limit).end;
-            let text = state_text(alloc, board)?;
-            let end = put_text(out, &text, end);
-            Ok(TracedRun { end, areas: None })
-        }
+        Form::Events => tell_events(alloc, choice, board, folder, modules, out, limit),
+        Form::Timeline => draw_timeline(alloc, choice, board, folder, modules, out, limit),
+        Form::State => show_state(alloc, board, folder, modules, out, limit),
     }
 }

@@ -1,8 +1,7 @@
 //! Laws of the lines of a run, each as the clause of a function.
 
 ghost use Rattle.trace_session.specs.Bursts.{SilentLinesLaw};
-ghost use Rattle.trace_session.specs.Choice.{EverythingLaw};
-ghost use Rattle.trace_session.specs.Laws.{LinesLaw};
+ghost use Rattle.trace_session.specs.Laws.{EverythingLaw, LinesLaw};
 
 use trace_text::joining_law;
 use wind_machine::silent_law;
@@ -21,7 +20,7 @@ pub fn lines_law()
     ensures { LinesLaw }
 {}
 
-/// If everything is told, the lines are those of the run.
+/// If everything is chosen, the lines are those of the run, and a picture shows all its areas.
 pub fn everything_law()
     ensures { EverythingLaw }
 {}

@@ -1,17 +1,22 @@
 //! What a picture of a run needs of each step: the spans of the tasks, and its scene.
 
-ghost use Rattle.std.specs.Prelude.{◌≡◌, OnOk, IfOk};
+ghost use Rattle.std.specs.Prelude.{◌≡◌, ◌+◌, ◌<◌, ◌^◌, OnOk, IfOk};
 ghost use Rattle.wind_session.specs.BoardPlayerSeen.{seen};
 ghost use Rattle.board_trace.specs.Snapshots.{snapshot_of};
 ghost use Rattle.board_trace.specs.Views.{snapshot_state};
 ghost use Rattle.board_changes.specs.Spans.{closed};
-ghost use Rattle.trace_session.specs.Spans.{looked_at, observed_in, opening_spans};
+ghost use Rattle.trace_session.specs.Choice.{choice_state, is_step};
+ghost use Rattle.trace_session.specs.Shown.{shown_areas};
+ghost use Rattle.trace_session.specs.Spans.{first_spans, looked_at, looked_by, looked_in, observed_in, opening_spans};
 
+use crate::choice::Choice;
 use crate::reader::StepReader;
-use crate::scene::Scene;
+use crate::scene::{Moment, Scene};
+use crate::shown::add_spans;
 use board_changes::Spans;
 use board_trace::{BeforeStep, is_instruction};
 use std::alloc::Global;
+use trace_picture::Areas;
 use trace_state::running_task;
 use wind_base::NoMemory;
 use wind_outside::Device;
@@ -19,7 +24,10 @@ use wind_session::Board;
 
 /// What is kept of a run for its picture.
 #[derive(Drop)]
-pub(crate) struct Observer {
+pub(crate) struct Observer<'a> {
+    alloc: Global,
+    /// What of the run is shown.
+    pub(crate) choice: &'a Choice,
     reader: StepReader,
     /// The spans of the tasks.
     pub(crate) spans: Spans,
@@ -27,60 +35,140 @@ pub(crate) struct Observer {
     pub(crate) scene: Scene,
 }
 
-impl Observer {
+impl<'a> Observer<'a> {
     /// Looks at a board before its first step.
-    pub(crate) fn new(alloc: Global, board: &Board) -> Result<Observer, NoMemory>
-        ensures { IfOk result (λ o. o.spans ≡ opening_spans (seen ⟦<dyn Device as Device>⟧ board.now)) }
+    pub(crate) fn new(
+        alloc: Global,
+        choice: &'a Choice,
+        board: &Board,
+    ) -> Result<Observer<'a>, NoMemory>
+        requires { (seen ⟦<dyn Device as Device>⟧ board.now).steps + 1 < 2 ^ 64 }
+        ensures choice { IfOk result (λ o. o.choice ≡ choice.entry) }
+        ensures spans { IfOk result (λ o. o.spans
+            ≡ first_spans (choice_state choice.now) (seen ⟦<dyn Device as Device>⟧ board.now)) }
     {
-        let reader = StepReader::new(alloc, board)?;
-        let mut spans = Spans::new(alloc);
-        spans.observe(
-            board.time(),
-            &reader.before.tasks,
-            running_task(board.world()),
-        )?;
-        let scene = Scene::new(alloc, &reader.before)?;
-        Ok(Observer {
-            reader,
-            spans,
-            scene,
-        })
+        let mut observer = Observer {
+            alloc,
+            choice,
+            reader: StepReader::new(alloc, board)?,
+            spans: Spans::new(alloc),
+            scene: Scene::new(alloc),
+        };
+        if choice.has_step(board.steps() + 1) {
+            observer.open(board)?;
+        }
+        Ok(observer)
+    }
+
+    // The next step is the first that is shown: looks at the tasks.
+    fn open(&mut self, board: &Board) -> Result<(), NoMemory>
+        ensures choice { OnOk result (self.new.choice ≡ self.old.choice) }
+        ensures spans { OnOk result (self.new.spans ≡ opening_spans (seen ⟦<dyn Device as Device>⟧ board.now)) }
+    {
+        self.reader.restart(board)?;
+        self.spans = Spans::new(self.alloc);
+        let (time, runner) = (board.time(), running_task(board.world()));
+        self.spans.observe(time, &self.reader.before.tasks, runner)?;
+        self.scene.open(board, &self.reader.before)
     }
 
     // Looks at the tasks after a step.
     fn look_at_tasks(&mut self, board: &Board) -> Result<(), NoMemory>
         requires { snapshot_state self.old.reader.after ≡ snapshot_of (seen ⟦<dyn Device as Device>⟧ board.now).world }
-        ensures { OnOk result (self.new.spans ≡ observed_in self.old.spans (seen ⟦<dyn Device as Device>⟧ board.now)) }
+        ensures choice { OnOk result (self.new.choice ≡ self.old.choice) }
+        ensures spans { OnOk result (self.new.spans
+            ≡ observed_in self.old.spans (seen ⟦<dyn Device as Device>⟧ board.now)) }
     {
+        let (time, runner) = (board.time(), running_task(board.world()));
         let views = &self.reader.after.tasks;
-        self.spans
-            .observe(board.time(), views, running_task(board.world()))
+        self.spans.observe(time, views, runner)
     }
 
-    /// Looks at a board after a step. An instruction changes nothing that a picture shows.
-    pub(crate) fn look(&mut self, board: &Board, before_step: &BeforeStep) -> Result<(), NoMemory>
-        ensures { OnOk result (self.new.spans
+    // Looks at a board after a step. An instruction changes nothing that a picture shows.
+    fn look_at(&mut self, board: &Board, before_step: &BeforeStep) -> Result<(), NoMemory>
+        ensures choice { OnOk result (self.new.choice ≡ self.old.choice) }
+        ensures spans { OnOk result (self.new.spans
             ≡ looked_at before_step.now self.old.spans (seen ⟦<dyn Device as Device>⟧ board.now)) }
     {
         if is_instruction(before_step, board.output()) {
             return Ok(());
         }
         self.reader.read(board, before_step)?;
-        self.scene.look(board)?;
         let reader = &self.reader;
-        self.scene.note_all(&reader.list, before_step.time, board.time(), &reader.after)?;
+        let moment = Moment {
+            choice: self.choice,
+            before_step,
+            time: board.time(),
+            after: &reader.after,
+        };
+        self.scene.look(board)?;
+        self.scene.note_all(&reader.list, &moment)?;
         self.look_at_tasks(board)?;
         self.reader.go_on();
         Ok(())
     }
 
-    /// The run has ended, and so do the spans.
+    // Looks at a board after a step that is shown. After the last one, all spans end.
+    fn look_in(
+        &mut self,
+        board: &Board,
+        before_step: &BeforeStep,
+        goes_on: bool,
+    ) -> Result<(), NoMemory>
+        requires { goes_on ≡ is_step (choice_state self.old.choice.now) (before_step.now.step + 1) }
+        ensures choice { OnOk result (self.new.choice ≡ self.old.choice) }
+        ensures spans { OnOk result (self.new.spans
+            ≡ looked_in (choice_state self.old.choice.now) before_step.now self.old.spans
+            (seen ⟦<dyn Device as Device>⟧ board.now)) }
+    {
+        self.look_at(board, before_step)?;
+        if goes_on {
+            return Ok(());
+        }
+        self.close(board)
+    }
+
+    /// Looks at a board after a step.
+    pub(crate) fn look(&mut self, board: &Board, before_step: &BeforeStep) -> Result<(), NoMemory>
+        requires { before_step.now.step + 1 < 2 ^ 64 }
+        ensures choice { OnOk result (self.new.choice ≡ self.old.choice) }
+        ensures spans { OnOk result (self.new.spans
+            ≡ looked_by (choice_state self.old.choice.now) before_step.now self.old.spans
+            (seen ⟦<dyn Device as Device>⟧ board.now)) }
+    {
+        let is_next = self.choice.has_step(before_step.step + 1);
+        if self.choice.has_step(before_step.step) {
+            return self.look_in(board, before_step, is_next);
+        }
+        if is_next {
+            return self.open(board);
+        }
+        Ok(())
+    }
+
+    /// No further step is shown: all spans end.
     pub(crate) fn close(&mut self, board: &Board) -> Result<(), NoMemory>
-        ensures { OnOk result (self.new.spans
+        ensures choice { OnOk result (self.new.choice ≡ self.old.choice) }
+        ensures spans { OnOk result (self.new.spans
             ≡ closed self.old.spans (seen ⟦<dyn Device as Device>⟧ board.now).time) }
     {
         let end = board.time();
-        self.spans.close(end)?;
-        self.scene.close(end)
+        self.scene.close(end)?;
+        self.spans.close(end)
+    }
+
+    /// The areas of the spans that have ended and are shown.
+    pub(crate) fn areas(&self) -> Result<Areas, NoMemory>
+        ensures { IfOk result (λ areas. areas ≡ shown_areas (choice_state self.now.choice.now) self.now.spans.done) }
+    {
+        let mut areas = Areas::new(self.alloc);
+        add_spans(&mut areas, self.choice, self.spans.done())?;
+        Ok(areas)
+    }
+
+    /// Adds the picture with these areas.
+    pub(crate) fn draw(&mut self, text: &mut Vec<u8>, areas: &Areas) -> Result<(), NoMemory> {
+        self.scene.note_waits(self.choice, self.spans.done())?;
+        self.scene.draw(self.alloc, text, self.choice, areas.list())
     }
 }

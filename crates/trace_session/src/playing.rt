@@ -6,13 +6,14 @@ ghost use Rattle.wind_outside.specs.{Counts.Rose, Devices.slots_of};
 ghost use Rattle.wind_session.specs.{Command.HasFewRounds, Keeping.{KeepsFiles, around, messages}, BoardPlayerSeen.seen, Headline.{IsComplete, IsKept}, Outside.outside, Texts.Tells};
 ghost use Rattle.wind_session.specs.declared.ending.Stand.TheVariants as stands;
 ghost use Rattle.wind_session.specs.declared.ending.Status.TheVariants as status;
+ghost use Rattle.trace_session.specs.declared.traced.Product.TheVariants as products;
 ghost use Rattle.trace_session.specs.{Choice.choice_state, Command.{command_of, session_of}, Headline.{IsLeft, Traces}, Words.{trace_state as trace_state_lem}};
 
 use crate::command::{PROGRAM, TraceCommand, trace_command_of};
 use crate::ending::TraceEnding;
 use crate::trace_board;
+use crate::traced::Product;
 use std::alloc::Global;
-use trace_picture::Areas;
 use wind_base::NoMemory;
 use wind_outside::{Device, Folder, Sink, Slots};
 use wind_session::{
@@ -22,20 +23,20 @@ use wind_session::{
 
 // The ending of a session without a board.
 fn refusal(status: Status, devices: Slots) -> TraceEnding
-    ensures { result ≡ record { status = status; stand = stands.NotBooted devices; areas = None } }
+    ensures { result ≡ record { status = status; stand = stands.NotBooted devices; product = products.Text } }
 {
     TraceEnding {
         status,
         stand: Stand::NotBooted(devices),
-        areas: None,
+        product: Product::Text,
     }
 }
 
-// What is left of a run: its status, and the areas of its picture.
+// What is left of a run: its status, and what its form leaves.
 #[derive(Drop)]
 struct Outcome {
     status: Status,
-    areas: Option<Areas>,
+    product: Product,
 }
 
 // Plays the board of a session.
@@ -48,7 +49,7 @@ fn play_board<F: Folder, O: Sink>(
 ) -> Outcome
     requires fresh { (seen ⟦<dyn Device as Device>⟧ board.old).steps ≡ 0 }
     requires limit { command.now.session.limit ≤ most_steps }
-    ensures left { IsLeft command.now.form (choice_state command.now.choice) result.areas result.status
+    ensures left { IsLeft command.now.form (choice_state command.now.choice) result.product result.status
         (record { files = F.files folder.old; name = command.now.session.modules.now })
         (seen ⟦<dyn Device as Device>⟧ board.old) command.now.session.limit (seen ⟦<dyn Device as Device>⟧ board.new)
         (outside (F.requests folder.old) (O.bytes out.old) (O.pieces out.old))
@@ -70,11 +71,11 @@ fn play_board<F: Folder, O: Sink>(
     ) {
         Ok(tracing) => Outcome {
             status: Status::from(tracing.end),
-            areas: tracing.areas,
+            product: tracing.product,
         },
         Err(NoMemory) => Outcome {
             status: Status::NoMemory,
-            areas: None,
+            product: Product::Text,
         },
     }
 }
@@ -90,7 +91,7 @@ fn session<F: Folder, O: Sink>(
     requires devices { length devices.items ≤ most_slots }
     requires limit { command.now.session.limit ≤ most_steps }
     requires rounds { HasFewRounds command.now.session.source }
-    ensures machine { Traces (seen ⟦<dyn Device as Device>⟧) result.status result.stand result.areas
+    ensures machine { Traces (seen ⟦<dyn Device as Device>⟧) result.status result.stand result.product
         (Some (trace_state_lem command.now)) devices (slots_of kind_of words_of devices.items)
         (around ⟦<F as Folder>⟧ ⟦<O as Sink>⟧ folder.old out.old)
         (around ⟦<F as Folder>⟧ ⟦<O as Sink>⟧ folder.new out.new) }
@@ -119,7 +120,7 @@ fn session<F: Folder, O: Sink>(
     TraceEnding {
         status: outcome.status,
         stand: Stand::Booted(board),
-        areas: outcome.areas,
+        product: outcome.product,
     }
 }
 
@@ -135,7 +136,7 @@ pub fn trace<'a, F: Folder, O: Sink, E: Sink>(
     devices: Slots,
 ) -> TraceEnding
     requires { length devices.items ≤ most_slots }
-    ensures machine { Traces (seen ⟦<dyn Device as Device>⟧) result.status result.stand result.areas
+    ensures machine { Traces (seen ⟦<dyn Device as Device>⟧) result.status result.stand result.product
         (command_of (map (λ w. w.now) words.now)) devices (slots_of kind_of words_of devices.items)
         (around ⟦<F as Folder>⟧ ⟦<O as Sink>⟧ folder.old out.old)
         (around ⟦<F as Folder>⟧ ⟦<O as Sink>⟧ folder.new out.new) }

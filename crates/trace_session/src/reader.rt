@@ -37,15 +37,23 @@ impl StepReader {
         ensures { IfOk result (λ r. snapshot_state r.before
             ≡ snapshot_of (seen ⟦<dyn Device as Device>⟧ board.now).world) }
     {
-        let mut before = empty_snapshot(alloc)?;
-        take_snapshot(&mut before, board.world())?;
-        Ok(StepReader {
+        let mut reader = StepReader {
             alloc,
-            before,
+            before: empty_snapshot(alloc)?,
             after: empty_snapshot(alloc)?,
             list: Vec::new(alloc),
             changes: Vec::new(alloc),
-        })
+        };
+        reader.restart(board)?;
+        Ok(reader)
+    }
+
+    /// Begins again: the next step is made from this board.
+    pub(crate) fn restart(&mut self, board: &Board) -> Result<(), NoMemory>
+        ensures { OnOk result (snapshot_state self.new.before
+            ≡ snapshot_of (seen ⟦<dyn Device as Device>⟧ board.now).world) }
+    {
+        take_snapshot(&mut self.before, board.world())
     }
 
     /// Instructions of a task or routine were made at once. Of what a snapshot shows they changed at

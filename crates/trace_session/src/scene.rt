@@ -1,18 +1,24 @@
 //! What a picture shows of a run besides what the tasks did: ticks, routines, marks, who owns mutexes,
 //! and how long queues are.
 
-use board_changes::{Change, TaskView};
-use board_trace::{Happening, Snapshot, view_of};
+use crate::choice::{Choice, Kind as HappeningKind};
+use board_changes::{Awaited, Change, Span, TaskView};
+use board_trace::{BeforeStep, Happening, Snapshot, Subject, view_of};
 use id_table::Ident;
 use kernel_world::Actor;
 use std::alloc::Global;
-use trace_picture::{Area, Kind, Mark, Ownership, Picture, QueueLength, RowName, add_picture};
+use trace_picture::{
+    Area, Kind, Mark, Ownership, Picture, QueueLength, RowName, add_empty_picture, add_picture,
+};
 use wind_base::NoMemory;
 use wind_session::Board;
 
 /// What a picture needs of a run besides what the tasks did.
 #[derive(Drop)]
 pub(crate) struct Scene {
+    // when it begins and ends, in board time; it begins with the first step that is shown
+    start: Option<u128>,
+    end: Option<u128>,
     rows: Vec<RowName>,
     ticks: Vec<u128>,
     marks: Vec<Mark>,
@@ -25,6 +31,22 @@ pub(crate) struct Scene {
     // the lengths of queues, and each queue with its length
     lengths: Vec<QueueLength>,
     queues: Vec<(u32, u32)>,
+    // the mutexes and queues that a task waited for
+    awaited_mutexes: Vec<u32>,
+    awaited_queues: Vec<u32>,
+}
+
+/// A moment after a step that is shown.
+#[derive(Clone, Copy)]
+pub(crate) struct Moment<'a> {
+    /// What of the run is shown.
+    pub(crate) choice: &'a Choice,
+    /// What was read before the step.
+    pub(crate) before_step: &'a BeforeStep,
+    /// Board time.
+    pub(crate) time: u128,
+    /// The snapshot.
+    pub(crate) after: &'a Snapshot,
 }
 
 // Adds an item.
@@ -72,15 +94,26 @@ fn next_length(queues: &mut Vec<(u32, u32)>, queue: u32, is_more: bool) -> Resul
     Ok(entry.1)
 }
 
+// Adds an id to these, unless it is one of them.
+fn note_id(ids: &mut Vec<u32>, id: u32) -> Result<(), NoMemory> {
+    if ids.last() == Some(&id) || ids.contains(&id) {
+        return Ok(());
+    }
+    push(ids, id)
+}
+
+// These items if they are shown, else none.
+fn shown<T>(is_shown: bool, items: &[T]) -> &[T] {
+    if is_shown { items } else { &items[..0] }
+}
+
 impl Scene {
-    /// A picture with nothing on it but the rows of these tasks.
-    pub(crate) fn new(alloc: Global, views: &Snapshot) -> Result<Scene, NoMemory> {
-        let mut rows = Vec::new(alloc);
-        for view in &views.tasks {
-            add_row(&mut rows, view)?;
-        }
-        Ok(Scene {
-            rows,
+    /// A picture with nothing on it, which hasn't begun.
+    pub(crate) fn new(alloc: Global) -> Scene {
+        Scene {
+            start: None,
+            end: None,
+            rows: Vec::new(alloc),
             ticks: Vec::new(alloc),
             marks: Vec::new(alloc),
             routines: Vec::new(alloc),
@@ -89,7 +122,47 @@ impl Scene {
             owned: Vec::new(alloc),
             lengths: Vec::new(alloc),
             queues: Vec::new(alloc),
-        })
+            awaited_mutexes: Vec::new(alloc),
+            awaited_queues: Vec::new(alloc),
+        }
+    }
+
+    /// The picture begins: with the tasks of this snapshot, the owners of mutexes, and the lengths of
+    /// queues.
+    pub(crate) fn open(&mut self, board: &Board, views: &Snapshot) -> Result<(), NoMemory> {
+        self.start = Some(board.time());
+        for view in &views.tasks {
+            add_row(&mut self.rows, view)?;
+        }
+        self.open_mutexes(board)?;
+        self.open_queues(board)?;
+        self.look(board)
+    }
+
+    // Notes who owns mutexes.
+    fn open_mutexes(&mut self, board: &Board) -> Result<(), NoMemory> {
+        let mutexes = board.world().objects.mutexes.table();
+        for place in 0..mutexes.len() {
+            if let Some(owner) = mutexes.value_at(place).owner {
+                self.own(mutexes.id_at(place).get(), owner.get(), board.time())?;
+            }
+        }
+        Ok(())
+    }
+
+    // Notes how many messages queues hold.
+    fn open_queues(&mut self, board: &Board) -> Result<(), NoMemory> {
+        let queues = board.world().objects.queues.table();
+        for place in 0..queues.len() {
+            let length = QueueLength {
+                queue: queues.id_at(place).get(),
+                time: board.time(),
+                messages: queues.value_at(place).count(),
+            };
+            push(&mut self.queues, (length.queue, length.messages))?;
+            push(&mut self.lengths, length)?;
+        }
+        Ok(())
     }
 
     /// Looks at the interrupt level.
@@ -143,40 +216,58 @@ impl Scene {
         push(&mut self.lengths, length)
     }
 
-    // Notes what happened in a step that began at `start`, which a picture shows. This is board time and
-    // the snapshot after it.
-    fn note(
-        &mut self,
-        happening: &Happening,
-        start: u128,
-        time: u128,
-        after: &Snapshot,
-    ) -> Result<(), NoMemory> {
+    // Notes what changes the rows, owners and queues of a picture, whatever it shows.
+    fn follow(&mut self, happening: &Happening, moment: &Moment) -> Result<(), NoMemory> {
         match happening {
             Happening::Changed(Change::Spawned { who, .. }) => {
-                add_spawned(&mut self.rows, after, *who)
+                add_spawned(&mut self.rows, moment.after, *who)
             }
-            Happening::Tick { .. } => push(&mut self.ticks, start),
-            Happening::Exception { who, .. } => self.mark(*who, start, Kind::Exception),
-            Happening::Abort => self.mark(Actor::Task(Ident::shell()), start, Kind::Abort),
-            Happening::Owned { mutex, owner } => self.own(*mutex, *owner, time),
-            Happening::Freed { mutex, .. } => self.free(*mutex, time),
-            Happening::Queued { queue, .. } => self.count(*queue, true, time),
-            Happening::Taken { queue, .. } => self.count(*queue, false, time),
+            Happening::Owned { mutex, owner } => self.own(*mutex, *owner, moment.time),
+            Happening::Freed { mutex, .. } => self.free(*mutex, moment.time),
+            Happening::Queued { queue, .. } => self.count(*queue, true, moment.time),
+            Happening::Taken { queue, .. } => self.count(*queue, false, moment.time),
             _ => Ok(()),
         }
     }
 
-    /// Notes what happened in a step that began at `start`. This is board time and the snapshot after it.
-    pub(crate) fn note_all(
-        &mut self,
-        list: &[Happening],
-        start: u128,
-        time: u128,
-        after: &Snapshot,
-    ) -> Result<(), NoMemory> {
+    // Notes what is shown at the beginning of the step in which it happened.
+    fn note(&mut self, happening: &Happening, start: u128) -> Result<(), NoMemory> {
+        match happening {
+            Happening::Tick { .. } => push(&mut self.ticks, start),
+            Happening::Exception { who, .. } => self.mark(*who, start, Kind::Exception),
+            Happening::Abort => self.mark(Actor::Task(Ident::shell()), start, Kind::Abort),
+            _ => Ok(()),
+        }
+    }
+
+    /// Notes what happened in the step before this moment.
+    pub(crate) fn note_all(&mut self, list: &[Happening], moment: &Moment) -> Result<(), NoMemory> {
         for happening in list {
-            self.note(happening, start, time, after)?;
+            self.follow(happening, moment)?;
+            if moment.choice.has(moment.before_step.step, happening) {
+                self.note(happening, moment.before_step.time)?;
+            }
+        }
+        Ok(())
+    }
+
+    // Notes what a task waited for, if it is a mutex or a queue.
+    fn note_wait(&mut self, object: &Option<Awaited>) -> Result<(), NoMemory> {
+        match object {
+            Some(Awaited::Mutex(id)) => note_id(&mut self.awaited_mutexes, id.get()),
+            Some(Awaited::Receiving(id) | Awaited::Sending(id)) => {
+                note_id(&mut self.awaited_queues, id.get())
+            }
+            _ => Ok(()),
+        }
+    }
+
+    /// Notes what the tasks of a choice waited for in spans.
+    pub(crate) fn note_waits(&mut self, choice: &Choice, spans: &[Span]) -> Result<(), NoMemory> {
+        for span in spans {
+            if choice.has_subject(Subject::Task(span.who.get())) {
+                self.note_wait(&span.look.object)?;
+            }
         }
         Ok(())
     }
@@ -190,31 +281,44 @@ impl Scene {
         Ok(())
     }
 
-    /// The run has ended at this board time.
+    /// No step after this board time is shown. If the picture has ended, it stays as it is.
     pub(crate) fn close(&mut self, end: u128) -> Result<(), NoMemory> {
+        if self.end.is_some() {
+            return Ok(());
+        }
+        self.end = Some(end);
         if let Some(from) = self.active {
             push(&mut self.routines, (from, end))?;
         }
         self.close_owned(end)
     }
 
-    /// Adds the picture of a run that ended at this time, with these areas.
+    /// Adds the picture of a choice, with these areas.
     pub(crate) fn draw(
         &self,
         alloc: Global,
         text: &mut Vec<u8>,
+        choice: &Choice,
         areas: &[Area],
-        end: u128,
     ) -> Result<(), NoMemory> {
+        let (Some(start), Some(end)) = (self.start, self.end) else {
+            return add_empty_picture(text);
+        };
+        let has_owners = choice.has_kind(HappeningKind::Owners);
+        let has_messages = choice.has_kind(HappeningKind::Messages);
+        let has_level = choice.has_subject(Subject::Interrupt)
+            && choice.has_kind(HappeningKind::Routines);
         let picture = Picture {
             rows: &self.rows,
             areas,
-            routines: &self.routines,
+            routines: shown(has_level, &self.routines),
             owners: &self.owners,
             lengths: &self.lengths,
+            mutexes: shown(has_owners, &self.awaited_mutexes),
+            queues: shown(has_messages, &self.awaited_queues),
             ticks: &self.ticks,
             marks: &self.marks,
-            start: 0,
+            start,
             end,
         };
         add_picture(alloc, text, &picture)

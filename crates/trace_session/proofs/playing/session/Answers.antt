@@ -26,7 +26,7 @@ returns-clause-machine g c =
         planned = refl;
         left =
             left_after (source_requests session.source (command_state session)) outside_now (g.F.Folder.requests c.inputs_of.new.folder) c.in-Ok.ensures.found
-            c.args.command.now.form (choice_state c.args.command.now.choice) c.play_board-outcome.result.areas c.play_board-outcome.result.status _ _ session.modules.now _ _ _ _
+            c.args.command.now.form (choice_state c.args.command.now.choice) c.play_board-outcome.result.product c.play_board-outcome.result.status _ _ session.modules.now _ _ _ _
             (outside (g.F.Folder.requests c.play_board-outcome.new.folder) (g.O.Sink.bytes c.play_board-outcome.new.out) (g.O.Sink.pieces c.play_board-outcome.new.out))
             c.inputs_of.ensures.keeps.0 c.in-Ok-boot.ensures.ok c.play_board-outcome.ensures.left;
       };

@@ -1,17 +1,27 @@
-use Rattle.std.proofs.Common.{◌∙◌, ap}
+use Rattle.std.proofs.Common.{◌≡◌, Bor, ◌+◌, ◌∙◌, ap, arith, sym}
 use Rattle.wind_session.specs.BoardPlayerSeen.{board_by}
 use Rattle.board_trace.specs.declared.moment.BeforeStep.{BeforeStep}
 use Rattle.board_changes.specs.Spans.{SpanState}
 use Rattle.board_trace.specs.Before.{before_step}
-use Rattle.trace_session.specs.Spans.{looked_at}
-use Rattle.trace_session.proofs.Telling.{spans_now}
+use Rattle.trace_session.specs.Choice.{choice_state}
+use Rattle.trace_session.specs.Spans.{looked_by, part_after}
+use Rattle.trace_session.specs.declared.choice.Choice.{Choice}
+use Rattle.trace_session.proofs.Telling.{part_now}
 use Rattle.trace_session.proofs.timeline.ObserverTeller.tell.Goals as goal
+
+-- the step has a number
+pub look-requires : goal.look-requires
+look-requires g c =
+    let is : c.args.before.now.step ≡ c.requires.told.0.steps + 1 = ap (λ (b : BeforeStep). b.step) c.requires.told.1 in
+    omega (arith, is, c.requires.told.2, c.requires.few)
 
 pub returns-clause-tells : goal.returns-clause-tells
 returns-clause-tells g c = λ done first said next s u i is ready on spans.
     let state = board_by (λ d. (goal.Device-dyn g (d.vtable, d.value)).kind_of d.value) (λ d. (goal.Device-dyn g (d.vtable, d.value)).words_of d.value) in
     let new = state c.args.board.now in
-    c.in_ok-look.ensures
-    ∙ ap (λ (b : BeforeStep). looked_at b c.args.self.now.spans new) is
-    ∙ ap (λ (seen : SpanState). looked_at (before_step u) seen new) spans
-    ∙ spans_now said next s u new _ i on
+    let choice = choice_state c.args.self.now.choice.now in
+    c.in_ok-look.ensures.spans
+    ∙ ap (λ (b : BeforeStep). looked_by choice b c.args.self.now.spans new) is
+    ∙ ap (λ (seen : SpanState). looked_by choice (before_step u) seen new) spans
+    ∙ part_now said next s u new _ i on choice
+    ∙ ap (λ (x : Bor Choice). part_after (choice_state x.now) next s (i + 1)) (sym c.in_ok-look.ensures.choice)
