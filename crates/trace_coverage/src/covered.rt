@@ -1,7 +1,7 @@
 //! A module, and which of its words were executed.
 
-ghost use Rattle.std.specs.Prelude.{◌≡◌, IfOk, length};
-ghost use Rattle.trace_coverage.specs.Covered.{unexecuted, with_word};
+ghost use Rattle.std.specs.Prelude.{◌≡◌, ◌≤◌, ◌^◌, ◌-◌, ◌/◌, ◌==◌, ◌&&◌, IfOk, Some, None, length, if◌then◌else◌};
+ghost use Rattle.trace_coverage.specs.Covered.{is_word_among, text_start, text_words, unexecuted, with_word};
 
 use id_table::Ident;
 use module_loader::LoadedModule;
@@ -38,13 +38,12 @@ impl Covered {
         ensures { IfOk result (λ m. m ≡ unexecuted (id, module.now)) }
     {
         let text = module.segments[0];
-        let (start, size) = (text.addr, text.size);
-        let executed = vec![in alloc; false; (size / WORD_BYTES) as usize]?;
+        let words = (text.size / WORD_BYTES) as usize;
         Ok(Covered {
             id,
             name: module.name.copied(alloc)?,
-            start,
-            executed,
+            start: text.addr,
+            executed: vec![in alloc; false; words]?,
         })
     }
 
@@ -77,15 +76,37 @@ impl Covered {
         &self.executed
     }
 
+    /// A module has its text segment.
+    pub(crate) fn has_text_of(&self, module: &LoadedModule) -> bool
+        ensures { result ≡ (text_start module.now == self.now.start
+            && text_words module.now == length self.now.executed) }
+    {
+        let text = module.segments[0];
+        text.addr == self.start && (text.size / WORD_BYTES) as usize == self.executed.len()
+    }
+
+    // The place of the word at this address, if it is one of its words.
+    fn place_of(&self, at: u32) -> Option<usize>
+        ensures { result ≡ (if is_word_among self.now.start (length self.now.executed) at
+            then Some ((at - self.now.start) / 4) else None) }
+    {
+        if at < self.start {
+            return None;
+        }
+        let offset = at - self.start;
+        let place = (offset / WORD_BYTES) as usize;
+        if offset % WORD_BYTES == 0 && place < self.executed.len() {
+            Some(place)
+        } else {
+            None
+        }
+    }
+
     /// The word at this address was executed, if it is one of its words.
     pub(crate) fn execute(&mut self, at: u32)
         ensures { self.new ≡ with_word at self.old }
     {
-        let Some(offset) = at.checked_sub(self.start) else {
-            return;
-        };
-        let place = (offset / WORD_BYTES) as usize;
-        if offset % WORD_BYTES == 0 && place < self.executed.len() {
+        if let Some(place) = self.place_of(at) {
             self.executed[place] = true;
         }
     }

@@ -1,0 +1,5 @@
+pub mod Counting
+pub mod Lists
+pub mod Rows
+pub mod Tables
+pub mod Words
