@@ -2,9 +2,10 @@
 use Rattle.std.specs.Prelude.{ℕ, Bool, false, if◌then◌else◌, List, Option, None, Some, is_some}
 use Rattle.ppc_word.specs.Rows.{row_of}
 use Rattle.module_loader.specs.declared.module.LoadedModule.{LoadedModule}
-use Rattle.board_trace.specs.Before.{at_of, word_of}
+use Rattle.board_trace.specs.Before.{before_step}
 use Rattle.board_trace.specs.WindMachineState.{State}
 use Rattle.board_trace.specs.WindMachineRun.{Answers, after}
+use Rattle.board_trace.specs.declared.moment.BeforeStep.{BeforeStep}
 use Rattle.trace_coverage.specs.Covered.{CoverageState}
 use Rattle.trace_coverage.specs.Listed.{ListsExecuted, covered}
 
@@ -13,10 +14,14 @@ abbrev pub is_instruction : Option ℕ → Bool
 is_instruction None = false
 is_instruction (Some word) = is_some (row_of word)
 
--- the address of the instruction that the next step of a state executes: a task or routine is at no gate, and the word at
--- its program counter can be fetched and is an instruction. A load that faults, a trap and a system call count
+-- the address of the instruction that a step executes: a task or routine is at no gate, and the word at its program counter
+-- can be fetched and is an instruction. A load that faults, a trap and a system call count
+abbrev pub executed_by : BeforeStep → Option ℕ
+executed_by b = if is_instruction b.word then b.at else None
+
+-- the same of the next step of a state
 abbrev pub executed_at : State → Option ℕ
-executed_at s = if is_instruction (word_of s) then at_of s else None
+executed_at s = executed_by (before_step s)
 
 -- the modules after the first j steps from s, and the instruction that the next step executes
 abbrev pub modules_after : Answers → State → ℕ → List (ℕ × LoadedModule)

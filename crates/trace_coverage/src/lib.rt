@@ -9,4 +9,5 @@ mod table;
 mod text;
 
 pub use coverage::Coverage;
+pub use executed::executed_next;
 pub use laws::coverage_law;

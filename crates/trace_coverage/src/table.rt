@@ -44,8 +44,9 @@ fn add_if_new(
     if is_among(list, id, module) {
         return Ok(());
     }
-    let covered = Covered::new(alloc, id, module)?;
-    new.push(covered)?;
+    if new.push(Covered::new(alloc, id, module)?).is_err() {
+        return Err(NoMemory);
+    }
     Ok(())
 }
 
@@ -91,10 +92,10 @@ pub(crate) fn drop_gone(list: &mut Vec<Covered>, modules: &Modules)
 }
 
 /// The word at this address was executed.
-pub(crate) fn execute(list: &mut Vec<Covered>, at: u32)
-    ensures { list.new.items ≡ map (with_word at) list.old.items }
+pub(crate) fn execute(list: &mut [Covered], at: u32)
+    ensures { list.new ≡ map (with_word at) list.old }
 {
-    for covered in list.iter_mut() {
-        covered.execute(at);
+    for place in 0..list.len() {
+        list[place].execute(at);
     }
 }
