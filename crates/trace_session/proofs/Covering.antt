@@ -2,7 +2,7 @@
 use Rattle.std.proofs.Common.{◌≡◌, ◌≢◌, ℕ, zero, suc, ◌+◌, ◌<◌, List, Option, refl, sym, ap, ap₂, subst, ◌∙◌, arith, add-one}
 use Rattle.wind_outside.specs.Requests.{Request}
 use Rattle.kernel_world.specs.declared.reply.Reply.{Reply}
-use Rattle.module_loader.specs.declared.module.LoadedModule.{LoadedModule}
+use Rattle.kernel_world.specs.State.{WorldState}
 use Rattle.wind_machine.specs.State.{State}
 use Rattle.wind_machine.specs.Run.{Answers, after}
 use Rattle.wind_session.specs.Modules.{Shelf}
@@ -39,11 +39,11 @@ module _ (said next : Answers) (s u t : State) (reply : Option Reply) (i : ℕ) 
       ∙ ap (coverage_after next s) (sym (add-one i))
 
   -- the coverage after a step, whose instruction and table were read
-  pub held_now : (coverage : Coverage) (at : Option ℕ) (rows : List (ℕ × LoadedModule)) → at ≡ executed_at u → rows ≡ t.world.modules.rows
-      → Holds coverage (with_table rows (with_executed at (coverage_after said s i))) → Holds coverage (coverage_after next s (i + 1))
-  held_now coverage at rows at_is rows_are holds =
+  pub held_now : (coverage : Coverage) (at : Option ℕ) (w : WorldState) → at ≡ executed_at u → w ≡ t.world
+      → Holds coverage (with_table w.modules.rows (with_executed at (coverage_after said s i))) → Holds coverage (coverage_after next s (i + 1))
+  held_now coverage at w at_is world_is holds =
       subst (Holds coverage)
-      (ap₂ (λ (rs : List (ℕ × LoadedModule)) (o : Option ℕ). with_table rs (with_executed o (coverage_after said s i))) rows_are at_is ∙ coverage_now)
+      (ap₂ (λ (x : WorldState) (o : Option ℕ). with_table x.modules.rows (with_executed o (coverage_after said s i))) world_is at_is ∙ coverage_now)
       holds
 
 -- the text of the coverage was put, or that put failed
