@@ -1,5 +1,5 @@
 -- Tests of the elements of lists.
-use Rattle.std.proofs.Common.{◌≡◌, Bool, true, false, not, ◌&&◌, ◌||◌, cond, List, [], ◌∷◌, ◌++◌, map, inl, inr, refl, sym, ap, ap₂, ◌∙◌}
+use Rattle.std.proofs.Common.{◌≡◌, ℕ, zero, suc, ◌+◌, ◌<◌, Bool, true, false, not, ◌&&◌, ◌||◌, cond, List, [], ◌∷◌, ◌++◌, drop, get_or, length, map, set, take, inl, inr, refl, sym, ap, ap₂, ◌∙◌, arith, add-one}
 use Rattle.std.specs.List.{filter, list_any}
 use Rattle.std.proofs.lemmas.Bool.{or_cases, or_from, or_left, or_right}
 
@@ -86,3 +86,22 @@ module _ {X : Type 0} where
   any_more p q r f false each [] = refl
   any_more p q r f b each (x ∷ xs) =
       ap₂ (λ v w. v || w) (each x) (any_more p q r f b each xs) ∙ swap_or (q x) b (r x) (list_any q xs) (list_any r xs)
+
+  -- ---- one element after another is replaced
+  -- the next one is as it was
+  pub next_is : (f : X → X) (xs : List X) (i : ℕ) (d : X) → get_or (map f (take i xs) ++ drop i xs) i d ≡ get_or xs i d
+  next_is f [] zero d = refl
+  next_is f [] (suc i) d = refl
+  next_is f (x ∷ xs) zero d = refl
+  next_is f (x ∷ xs) (suc i) d = next_is f xs i d
+
+  one_set : (f : X → X) (xs : List X) (i : ℕ) (y d : X) → i < length xs → y ≡ f (get_or xs i d)
+      → set (map f (take i xs) ++ drop i xs) i y ≡ map f (take (suc i) xs) ++ drop (suc i) xs
+  one_set f [] i y d less e = absurd (omega (arith, less))
+  one_set f (x ∷ xs) zero y d less e = ap (λ v. v ∷ xs) e
+  one_set f (x ∷ xs) (suc i) y d less e = ap (λ ys. f x ∷ ys) (one_set f xs i y d (omega (arith, less)) e)
+
+  -- the next one is replaced
+  pub next_set : (f : X → X) (xs : List X) (i : ℕ) (y d : X) → i < length xs → y ≡ f (get_or xs i d)
+      → set (map f (take i xs) ++ drop i xs) i y ≡ map f (take (i + 1) xs) ++ drop (i + 1) xs
+  next_set f xs i y d less e = one_set f xs i y d less e ∙ ap (λ n. map f (take n xs) ++ drop n xs) (sym (add-one i))

@@ -8,14 +8,14 @@ use Rattle.id_table.specs.Records.{Rising}
 use Rattle.id_table.specs.Rows.{object_of, row_id, row_object}
 use Rattle.trace_coverage.proofs.Lists.{or_false}
 
+other : (a b : ℕ) → a < b → b ≡ a → ⊥
+other a b less e = omega arith
+
 module _ {X : Type 0} where
   -- an object that is found passes a test
   abbrev pub passes : (X → Bool) → Option X → Bool
   passes q None = false
   passes q (Some x) = q x
-
-  other : (a b : ℕ) → a < b → b ≡ a → ⊥
-  other a b less e = omega arith
 
   no_later : (rs : List (ℕ × X)) (id : ℕ) (q : X → Bool) → ((j : ℕ) (d : ℕ × X) → j < length rs → id < (get_or rs j d).0) → list_any (λ r. r.0 == id && q r.1) rs ≡ false
   no_later [] id q up = refl

@@ -1,7 +1,7 @@
 -- The words of a module that are executed.
 use Rattle.std.proofs.Common.{◌≡◌, ◌≢◌, ℕ, ◌+◌, ◌-◌, ◌*◌, ◌/◌, ◌%◌, ◌<◌, ◌≤◌, ◌==◌, Bool, true, false, ◌&&◌, ◌||◌, cond, List, length, get_or, replicate, inl, inr, refl, sym, ap, ◌∙◌, arith}
 use Rattle.std.specs.Prelude.{nat_le, nat_lt, slice_set}
-use Rattle.std.proofs.lemmas.Bool.{and_parts, cases_Bool, cases_lt, cond-false, cond-true, eqb-true, leb-true, ltb-true}
+use Rattle.std.proofs.lemmas.Bool.{and_parts, and_right, cases_Bool, cases_lt, cond-false, cond-true, eqb-true, leb-true, ltb-true}
 use Rattle.std.proofs.lemmas.Bool.Decides.{eqb_tells}
 use Rattle.std.proofs.lemmas.List.{get_or-set_other, get_or-set_same, get_or-replicate, get_or_past, length-set, length-replicate}
 use Rattle.trace_coverage.specs.Covered.{CoveredState, is_word_among, with_word}
@@ -14,11 +14,7 @@ or_true true = refl
 or_true false = refl
 
 nowhere : (e w h : Bool) → w ≡ false → ((w && h) || (e && w)) ≡ false
-nowhere true true h p = p
-nowhere true false h p = refl
-nowhere false true true p = p
-nowhere false true false p = refl
-nowhere false false h p = refl
+nowhere e w h p = ap (λ v. (v && h) || (e && v)) p ∙ and_right e false refl
 
 both_more : (d x h e w : Bool) → x ≡ (h || (e && w)) → (d && x) ≡ ((d && h) || (e && (d && w)))
 both_more true x h e w p = p

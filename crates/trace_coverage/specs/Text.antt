@@ -22,11 +22,11 @@ ended_at None at = []
 ended_at (Some from) at = record { from = from; to = at } ∷ []
 
 -- the longest ranges among these words, of which the first is at this address; the words before it that were executed
--- began at `open`
+-- began at `begun`
 abbrev pub ranges_from : Option ℕ → ℕ → List Bool → List Range
-ranges_from open at [] = ended_at open at
-ranges_from open at (true ∷ words) = ranges_from (Some (begun_at open at)) (at + 4) words
-ranges_from open at (false ∷ words) = ended_at open at ++ ranges_from None (at + 4) words
+ranges_from begun at [] = ended_at begun at
+ranges_from begun at (true ∷ words) = ranges_from (Some (begun_at begun at)) (at + 4) words
+ranges_from begun at (false ∷ words) = ended_at begun at ++ ranges_from None (at + 4) words
 
 abbrev pub ranges_of : CoveredState → List Range
 ranges_of m = ranges_from None m.start m.executed

@@ -37,12 +37,12 @@ impl Covered {
     pub(crate) fn new(alloc: Global, id: Ident, module: &LoadedModule) -> Result<Covered, NoMemory>
         ensures { IfOk result (λ m. m ≡ unexecuted (id, module.now)) }
     {
-        let text = module.segments[0];
-        let words = (text.size / WORD_BYTES) as usize;
+        let start = module.segments[0].addr;
+        let words = (module.segments[0].size / WORD_BYTES) as usize;
         Ok(Covered {
             id,
             name: module.name.copied(alloc)?,
-            start: text.addr,
+            start,
             executed: vec![in alloc; false; words]?,
         })
     }

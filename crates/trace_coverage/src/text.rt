@@ -38,20 +38,20 @@ fn add_range(text: &mut Vec<u8>, from: u64, to: u64) -> Result<(), NoMemory>
 }
 
 // Where the range began that has a word at this address.
-fn begun_at(open: Option<u64>, at: u64) -> u64
-    ensures { result ≡ begun_at_lem open at }
+fn begun_at(begun: Option<u64>, at: u64) -> u64
+    ensures { result ≡ begun_at_lem begun at }
 {
-    match open {
+    match begun {
         Some(from) => from,
         None => at,
     }
 }
 
 // Adds the line of the range that ends before this address, if one does.
-fn add_ended(text: &mut Vec<u8>, open: Option<u64>, at: u64) -> Result<(), NoMemory>
-    ensures { OnOk result (text.new.items ≡ text.old.items ++ range_lines (ended_at open at)) }
+fn add_ended(text: &mut Vec<u8>, begun: Option<u64>, at: u64) -> Result<(), NoMemory>
+    ensures { OnOk result (text.new.items ≡ text.old.items ++ range_lines (ended_at begun at)) }
 {
-    match open {
+    match begun {
         Some(from) => add_range(text, from, at),
         None => Ok(()),
     }
@@ -61,17 +61,17 @@ fn add_ended(text: &mut Vec<u8>, open: Option<u64>, at: u64) -> Result<(), NoMem
 // where the range began that goes on, if one does.
 fn add_word(
     text: &mut Vec<u8>,
-    open: Option<u64>,
+    begun: Option<u64>,
     at: u64,
     is_executed: bool,
 ) -> Result<Option<u64>, NoMemory>
     ensures { IfOk result (λ o. (words : List Bool) → text.new.items ++ range_lines (ranges_from o (at + 4) words)
-        ≡ text.old.items ++ range_lines (ranges_from open at (is_executed ∷ words))) }
+        ≡ text.old.items ++ range_lines (ranges_from begun at (is_executed ∷ words))) }
 {
     if is_executed {
-        return Ok(Some(begun_at(open, at)));
+        return Ok(Some(begun_at(begun, at)));
     }
-    add_ended(text, open, at)?;
+    add_ended(text, begun, at)?;
     Ok(None)
 }
 
@@ -82,12 +82,12 @@ fn add_ranges(text: &mut Vec<u8>, start: u32, words: &[bool]) -> Result<(), NoMe
         ≡ text.old.items ++ range_lines (ranges_from None start words.now)) }
 {
     let mut at = u64::from(start);
-    let mut open = None;
+    let mut begun = None;
     for is_executed in words {
-        open = add_word(text, open, at, *is_executed)?;
+        begun = add_word(text, begun, at, *is_executed)?;
         at += WORD_BYTES;
     }
-    add_ended(text, open, at)
+    add_ended(text, begun, at)
 }
 
 // Adds how many of how many words were executed.

@@ -1,5 +1,6 @@
 use Rattle.std.proofs.Common.{◌≡◌, ◌==◌, ◌&&◌, Bool, Some, ap, sym, ◌∙◌, length}
 use Rattle.std.specs.Prelude.{option_copied}
+use Rattle.id_table.specs.Rows.{object_of}
 use Rattle.module_loader.specs.declared.module.LoadedModule.{LoadedModule}
 use Rattle.trace_coverage.specs.Covered.{CoveredState, text_start, text_words}
 use Rattle.trace_coverage.proofs.Rows.{of_id, passes}
@@ -13,12 +14,14 @@ returns-in-Some c =
     let m = c.args.covered.now in
     let rows = c.args.modules.now.rows in
     c.has_text_of.ensures
-    ∙ ap (passes (has_text m)) (sym (ap option_copied c.in-Some.is) ∙ c.get.ensures)
+    ∙ ap (passes (has_text m)) (sym (ap option_copied c.in-Some.is) ∙ c.get-2.ensures)
+    ∙ ap (λ i. passes (has_text m) (object_of rows i)) (c.get.ensures.same ∙ c.id-id.ensures)
     ∙ sym (of_id rows m.id (has_text m) c.facts.ensures.rising)
 
 pub returns-in-None : goal.returns-in-None
 returns-in-None c =
     let m = c.args.covered.now in
     let rows = c.args.modules.now.rows in
-    ap (passes (has_text m)) (sym (ap option_copied c.in-None.is) ∙ c.get.ensures)
+    ap (passes (has_text m)) (sym (ap option_copied c.in-None.is) ∙ c.get-2.ensures)
+    ∙ ap (λ i. passes (has_text m) (object_of rows i)) (c.get.ensures.same ∙ c.id-id.ensures)
     ∙ sym (of_id rows m.id (has_text m) c.facts.ensures.rising)

@@ -1,8 +1,9 @@
-use Rattle.std.proofs.Common.{◌≡◌, ◌++◌, ◌∷◌, [], Some, ap, sym, ◌∙◌, map, not, arith}
+use Rattle.std.proofs.Common.{◌≡◌, ℕ, Bool, ◌++◌, ◌∷◌, [], Some, ap, sym, ◌∙◌, map, not, arith}
 use Rattle.std.specs.List.{filter}
 use Rattle.std.specs.Prelude.{option_copied}
 use Rattle.id_table.specs.Rows.{ids}
 use Rattle.trace_state.proofs.Rows.{all_above, found_above, is_there, next_rows, no_rows, rows_above}
+use Rattle.module_loader.specs.declared.module.LoadedModule.{LoadedModule}
 use Rattle.trace_coverage.specs.Covered.{is_among, unexecuted}
 use Rattle.trace_coverage.proofs.Rows.{no_row, one_row}
 use Rattle.trace_coverage.proofs.table.new_modules.Goals as goal
@@ -11,7 +12,7 @@ use Rattle.trace_coverage.proofs.table.new_modules.Goals as goal
 pub loop-id-init : goal.loop-id-init
 loop-id-init c =
     let rows = c.args.modules.now.rows in
-    let test = λ r. not (is_among c.args.list.now r) in
+    let test : ℕ × LoadedModule → Bool = λ r. not (is_among c.args.list.now r) in
     ap (λ vs. vs ++ map unexecuted (filter test (rows_above 0 rows))) c.new-new.ensures
     ∙ ap (λ rs. map unexecuted (filter test rs)) (all_above 0 rows (λ j d less. (c.facts.ensures.ranged j d less).0))
 
@@ -29,7 +30,7 @@ unreachable-requires c =
 pub loop-id-preserved : goal.loop-id-preserved
 loop-id-preserved c =
     let rows = c.args.modules.now.rows in
-    let test = λ r. not (is_among c.args.list.now r) in
+    let test : ℕ × LoadedModule → Bool = λ r. not (is_among c.args.list.now r) in
     let id = c.get-last.result in
     let m = c.in-Some-get.module.now in
     one_row unexecuted test c.loop-id.new.items c.add_if_new.new.new.items (map unexecuted (filter test rows)) (rows_above c.loop-id.last rows) (rows_above id rows) (id, m)
@@ -40,6 +41,6 @@ loop-id-preserved c =
 pub returns : goal.returns
 returns c =
     let rows = c.args.modules.now.rows in
-    let test = λ r. not (is_among c.args.list.now r) in
+    let test : ℕ × LoadedModule → Bool = λ r. not (is_among c.args.list.now r) in
     no_row unexecuted test c.loop-id.new.items (map unexecuted (filter test rows)) (rows_above c.loop-id.last rows)
     (no_rows rows c.loop-id.last (sym c.next_after.ensures ∙ c.in_default.is)) c.loop-id.invariant

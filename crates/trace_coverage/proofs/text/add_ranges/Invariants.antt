@@ -7,6 +7,6 @@ abbrev pub invariant-loop-is_executed : goal.invariant-loop-is_executed
 invariant-loop-is_executed l = record {
   place : l.at ≡ l.fn.start + 4 * l.is_executed-index;
   lines :
-      l.text.items ++ range_lines (ranges_from l.open l.at (drop l.is_executed-index l.words))
+      l.text.items ++ range_lines (ranges_from l.begun l.at (drop l.is_executed-index l.words))
       ≡ l.initial.text.items ++ range_lines (ranges_from None l.fn.start l.words);
 }

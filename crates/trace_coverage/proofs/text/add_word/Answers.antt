@@ -9,7 +9,7 @@ returns-then-is_executed c = λ words.
     let text = c.args.text.now.items in
     let at = c.args.at in
     ap (λ from. text ++ range_lines (ranges_from (Some from) (at + 4) words)) c.begun_at.ensures
-    ∙ ap (λ b. text ++ range_lines (ranges_from c.args.open at (b ∷ words))) (sym c.if-is_executed.true)
+    ∙ ap (λ b. text ++ range_lines (ranges_from c.args.begun at (b ∷ words))) (sym c.if-is_executed.true)
 
 -- it ends one, or belongs to none
 pub returns : goal.returns
@@ -18,6 +18,6 @@ returns c = λ words.
     let at = c.args.at in
     let rest = ranges_from None (at + 4) words in
     ap (λ t. t ++ range_lines rest) c.in_ok-add_ended.ensures
-    ∙ append_assoc text (range_lines (ended_at c.args.open at)) (range_lines rest)
-    ∙ ap (λ t. text ++ t) (sym (lines_append (ended_at c.args.open at) rest))
-    ∙ ap (λ b. text ++ range_lines (ranges_from c.args.open at (b ∷ words))) (sym c.if-is_executed.false)
+    ∙ append_assoc text (range_lines (ended_at c.args.begun at)) (range_lines rest)
+    ∙ ap (λ t. text ++ t) (sym (lines_append (ended_at c.args.begun at) rest))
+    ∙ ap (λ b. text ++ range_lines (ranges_from c.args.begun at (b ∷ words))) (sym c.if-is_executed.false)
