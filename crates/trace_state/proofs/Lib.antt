@@ -1,4 +1,4 @@
-mod Rows
+pub mod Rows
 mod Shallow
 mod Nesting
 mod Depth
