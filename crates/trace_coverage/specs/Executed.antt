@@ -3,8 +3,8 @@ use Rattle.std.specs.Prelude.{ℕ, Bool, false, if◌then◌else◌, List, Optio
 use Rattle.ppc_word.specs.Rows.{row_of}
 use Rattle.module_loader.specs.declared.module.LoadedModule.{LoadedModule}
 use Rattle.board_trace.specs.Before.{before_step}
-use Rattle.board_trace.specs.WindMachineState.{State}
-use Rattle.board_trace.specs.WindMachineRun.{Answers, after}
+use Rattle.wind_machine.specs.State.{State}
+use Rattle.wind_machine.specs.Run.{Answers, after}
 use Rattle.board_trace.specs.declared.moment.BeforeStep.{BeforeStep}
 use Rattle.trace_coverage.specs.Covered.{CoverageState}
 use Rattle.trace_coverage.specs.Listed.{ListsExecuted, covered}

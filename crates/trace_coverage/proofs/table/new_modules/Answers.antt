@@ -13,7 +13,7 @@ pub loop-id-init : goal.loop-id-init
 loop-id-init c =
     let rows = c.args.modules.now.rows in
     let test : ℕ × LoadedModule → Bool = λ r. not (is_among c.args.list.now r) in
-    ap (λ vs. vs ++ map unexecuted (filter test (rows_above 0 rows))) c.new-new.ensures
+    ap (λ vs. vs ++ map unexecuted (filter test (rows_above 0 rows))) c.new-new.ensures.items
     ∙ ap (λ rs. map unexecuted (filter test rs)) (all_above 0 rows (λ j d less. (c.facts.ensures.ranged j d less).0))
 
 pub loop-id-smaller : goal.loop-id-smaller
