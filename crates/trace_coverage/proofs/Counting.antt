@@ -1,9 +1,9 @@
 -- Which words the coverage of a run lists.
-use Rattle.std.proofs.Common.{◌≡◌, ◌↔◌, ℕ, zero, suc, ◌<◌, ◌≤◌, ◌==◌, Bool, true, false, ◌&&◌, ◌||◌, List, [], Option, None, Some, inl, inr, refl, sym, ap, ap₂, subst, ◌∙◌, arith}
+use Rattle.std.proofs.Common.{◌≡◌, ℕ, zero, suc, ◌<◌, ◌≤◌, ◌==◌, Bool, true, false, ◌&&◌, ◌||◌, List, [], Option, None, Some, inl, inr, refl, sym, ap, subst, ◌∙◌, arith}
 use Rattle.std.specs.List.{list_any}
 use Rattle.std.proofs.lemmas.Bool.{and_from, and_parts, both_ways, cases_lt, eq-eqb, eqb-true, or_cases, or_left, or_right}
 use Rattle.module_loader.specs.declared.module.LoadedModule.{LoadedModule}
-use Rattle.trace_coverage.specs.Covered.{CoverageState, with_executed, with_table}
+use Rattle.trace_coverage.specs.Covered.{CoverageState, with_executed}
 use Rattle.trace_coverage.specs.Listed.{ListsExecuted, covered, has_word, is_listed}
 use Rattle.trace_coverage.proofs.Lists.{or_false}
 use Rattle.trace_coverage.proofs.Tables.{one_listed, same_list, same_modules, word_in}

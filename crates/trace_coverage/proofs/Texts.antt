@@ -1,5 +1,5 @@
 -- The text of a coverage, and the coverage that is kept.
-use Rattle.std.proofs.Common.{◌≡◌, ℕ, Bool, true, false, not, cond, List, [], ◌∷◌, ◌++◌, map, Option, None, Some, Result, Ok, Err, refl, sym, ap, ap₂, subst, ◌∙◌, append_assoc}
+use Rattle.std.proofs.Common.{◌≡◌, ℕ, true, false, not, cond, List, [], ◌∷◌, ◌++◌, map, Option, None, Some, Result, Ok, Err, refl, sym, ap, ap₂, subst, ◌∙◌, append_assoc}
 use Rattle.std.specs.Prelude.{OnOk}
 use Rattle.module_loader.specs.declared.module.LoadedModule.{LoadedModule}
 use Rattle.trace_coverage.specs.Covered.{CoverageState, CoveredState, is_live, leaving, staying, with_executed, with_new, with_table, with_word}

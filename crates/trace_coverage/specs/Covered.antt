@@ -1,5 +1,5 @@
 -- Which words of modules were executed.
-use Rattle.std.specs.Prelude.{ℕ, ◌+◌, ◌-◌, ◌*◌, ◌/◌, ◌%◌, Bool, true, false, not, ◌&&◌, ◌==◌, nat_le, nat_lt, if◌then◌else◌, List, [], ◌∷◌, ◌++◌, length, map, replicate, slice_index, slice_set, Option, None, Some}
+use Rattle.std.specs.Prelude.{ℕ, ◌+◌, ◌-◌, ◌/◌, ◌%◌, Bool, true, false, not, ◌&&◌, ◌==◌, nat_le, nat_lt, if◌then◌else◌, List, ◌++◌, length, map, replicate, slice_index, slice_set, Option, None, Some}
 use Rattle.std.specs.List.{filter, list_any}
 use Rattle.module_loader.specs.declared.module.LoadedModule.{LoadedModule}
 

@@ -1,5 +1,5 @@
 -- A run whose coverage is told.
-use Rattle.std.proofs.Common.{◌≡◌, ◌≢◌, ℕ, zero, suc, ◌+◌, ◌<◌, List, Option, refl, sym, ap, ap₂, subst, ◌∙◌, arith, add-one}
+use Rattle.std.proofs.Common.{◌≡◌, ◌≢◌, ℕ, zero, suc, ◌+◌, List, Option, refl, sym, ap, ap₂, subst, ◌∙◌, arith, add-one}
 use Rattle.wind_outside.specs.Requests.{Request}
 use Rattle.kernel_world.specs.declared.reply.Reply.{Reply}
 use Rattle.kernel_world.specs.State.{WorldState}

@@ -1,4 +1,4 @@
-use Rattle.std.proofs.Common.{◌≡◌, ◌++◌, List, ap, ap₂, drop, get_or, map, set, take, ◌∙◌}
+use Rattle.std.proofs.Common.{◌++◌, List, ap, ap₂, get_or, map, set, ◌∙◌}
 use Rattle.std.proofs.lemmas.List.{append-nil, drop_all, take_all}
 use Rattle.trace_coverage.specs.Covered.{CoveredState, with_word}
 use Rattle.trace_coverage.proofs.Lists.{next_is, next_set}

@@ -1,4 +1,4 @@
-use Rattle.std.proofs.Common.{◌≡◌, ◌==◌, ◌&&◌, Bool, Some, ap, sym, ◌∙◌, length}
+use Rattle.std.proofs.Common.{◌==◌, ◌&&◌, Bool, ap, sym, ◌∙◌, length}
 use Rattle.std.specs.Prelude.{option_copied}
 use Rattle.id_table.specs.Rows.{object_of}
 use Rattle.module_loader.specs.declared.module.LoadedModule.{LoadedModule}

@@ -1,4 +1,4 @@
-use Rattle.std.proofs.Common.{◌≡◌, ℕ, Bool, ◌++◌, ◌∷◌, [], Some, ap, sym, ◌∙◌, map, not, arith}
+use Rattle.std.proofs.Common.{ℕ, Bool, ◌++◌, ◌∷◌, [], Some, ap, sym, ◌∙◌, map, not, arith}
 use Rattle.std.specs.List.{filter}
 use Rattle.std.specs.Prelude.{option_copied}
 use Rattle.id_table.specs.Rows.{ids}

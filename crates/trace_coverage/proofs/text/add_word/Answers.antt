@@ -1,4 +1,4 @@
-use Rattle.std.proofs.Common.{◌+◌, ◌++◌, ◌∷◌, Bool, List, None, Some, ap, append_assoc, sym, ◌∙◌}
+use Rattle.std.proofs.Common.{◌+◌, ◌++◌, ◌∷◌, None, Some, ap, append_assoc, sym, ◌∙◌}
 use Rattle.trace_coverage.specs.Text.{ended_at, range_lines, ranges_from}
 use Rattle.trace_coverage.proofs.Texts.{lines_append}
 use Rattle.trace_coverage.proofs.text.add_word.Goals as goal

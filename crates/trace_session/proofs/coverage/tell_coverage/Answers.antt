@@ -1,4 +1,4 @@
-use Rattle.std.proofs.Common.{[], ap, refl, subst, sym, ◌∙◌}
+use Rattle.std.proofs.Common.{[], refl, subst}
 use Rattle.std.proofs.lemmas.Result.{err_from_is_err_and}
 use Rattle.kernel_world.specs.State.{WorldState}
 use Rattle.trace_coverage.specs.Covered.{with_table}
@@ -6,7 +6,7 @@ use Rattle.trace_coverage.specs.Text.{Holds}
 use Rattle.wind_session.proofs.AppendingLemmas.{rose_earlier}
 use Rattle.wind_session.proofs.RunLemmas.{begun}
 use Rattle.trace_session.proofs.Covering.{coverage_told, not_failed}
-use Rattle.trace_session.proofs.Seeing.{alone, unseen, untold}
+use Rattle.trace_session.proofs.Seeing.{alone, untold}
 use Rattle.trace_session.proofs.coverage.tell_coverage.Goals as goal
 
 -- memory ran out before the first step
