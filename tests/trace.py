@@ -43,7 +43,7 @@ CHOICES = [
 ]
 # Options that are refused.
 REFUSED = [("--from", "0"), ("--to", "x"), ("--tasks", ""), ("--tasks", "1,,2"), ("--kinds", "none"),
-           ("--as", "state", "--from", "2"), ("--as", "none")]
+           ("--as", "state", "--from", "2"), ("--as", "coverage", "--tasks", "1"), ("--as", "none")]
 # Kinds of a timeline, and the classes of its rectangles.
 SHOWN = {
     "runs": {b"running", b"ready"}, "waits": {b"waiting", b"sleeping"}, "tasks": {b"suspended"},
@@ -89,6 +89,9 @@ def faults(session, windtrace, windplay):
     if wanted.exists() and wanted.read_bytes() != events:
         yield "the events are not those of the file"
     yield from other_objects(session, windtrace)
+    wanted = session / "coverage"
+    if wanted.exists() and wanted.read_bytes() != run(windtrace, session, "--as", "coverage")[1]:
+        yield "the coverage is not that of the file"
     try:
         json.loads(run(windtrace, session, "--as", "state")[1])
     except ValueError as error:

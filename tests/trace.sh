@@ -1,7 +1,7 @@
 #!/bin/sh
 # Plays each session of `examples` with WINDTRACE and with WINDPLAY, and compares:
 # - the texts that the events say were written have to be the bytes of the console, and the two statuses the same;
-# - the events have to be those of the session's file `events`, if there is one;
+# - the events have to be those of the session's file `events`, if there is one; the coverage, those of `coverage`;
 # - each object of `--as json-lines` has to say what its line of the events says;
 # - the state has to be JSON, and the timeline XML.
 # Then it plays a few consoles, and looks in the trace of each for the line that it has to have.

@@ -1,5 +1,6 @@
 pub mod Bursts
 pub mod Counts
+pub mod Covering
 pub mod Items
 pub mod LineLaws
 pub mod Lines

@@ -10,7 +10,7 @@ use Rattle.trace_session.specs.Choice.{ChoiceState, everything}
 use Rattle.trace_session.specs.Kinds.{kind_named}
 use Rattle.trace_session.specs.declared.choice.Kind.{Kind}
 use Rattle.trace_session.specs.declared.forms.Form.{Form}
-use Rattle.trace_session.specs.declared.forms.Form.TheVariants.{Events, JsonLines, Timeline, State}
+use Rattle.trace_session.specs.declared.forms.Form.TheVariants.{Events, JsonLines, Timeline, State, Coverage}
 
 -- a command: the form in which a session is told, what is told of it, and the session
 pub record TraceState : Type 0 where
@@ -25,6 +25,7 @@ form_named name =
     else if bytes_eq name (codes "json-lines") then Some JsonLines
     else if bytes_eq name (codes "timeline") then Some Timeline
     else if bytes_eq name (codes "state") then Some State
+    else if bytes_eq name (codes "coverage") then Some Coverage
     else None
 
 -- ---- what is told
@@ -95,6 +96,7 @@ has_choice Events = true
 has_choice JsonLines = true
 has_choice Timeline = true
 has_choice State = false
+has_choice Coverage = false
 
 -- other forms are told of everything
 abbrev pub choice_for : Form → List Row → Option ChoiceState

@@ -1,5 +1,6 @@
 pub mod Bursts
 pub mod Choice
+pub mod Covering
 pub mod Forms
 pub mod Kinds
 pub mod Laws

@@ -32,7 +32,7 @@ pub struct TraceCommand<'a> {
 pub(crate) const PROGRAM: &str = "windtrace";
 
 // The message for an invalid form.
-const BAD_FORM: &str = "'--as <FORM>' takes events, json-lines, timeline or state";
+const BAD_FORM: &str = "'--as <FORM>' takes events, json-lines, timeline, state or coverage";
 
 // The form with this name.
 fn form_named(name: &str) -> Option<Form>
@@ -43,6 +43,7 @@ fn form_named(name: &str) -> Option<Form>
         "json-lines" => Some(Form::JsonLines),
         "timeline" => Some(Form::Timeline),
         "state" => Some(Form::State),
+        "coverage" => Some(Form::Coverage),
         _ => None,
     }
 }
@@ -58,7 +59,7 @@ fn app<'a>(alloc: Global) -> Result<clap::Command<'a>, AllocError>
         "as",
         "FORM",
         "events",
-        "What is told: events, json-lines, timeline or state",
+        "What is told: events, json-lines, timeline, state or coverage",
     );
     let command = command_line(alloc, PROGRAM, about).arg(form)?;
     let command = with_choice_options(alloc, command)?;

@@ -10,6 +10,7 @@ ghost use Rattle.trace_session.specs.Choice.{choice_state};
 ghost use Rattle.trace_session.specs.Forms.{TellsForm, TellsLess};
 
 use crate::choice::Choice;
+use crate::coverage::tell_coverage;
 use crate::lines::{tell_events, tell_objects};
 use crate::state::show_state;
 use crate::timeline::draw_timeline;
@@ -30,6 +31,8 @@ pub enum Form {
     Timeline,
     /// The board that is left.
     State,
+    /// The words of modules that were executed.
+    Coverage,
 }
 
 /// Makes steps, at most `limit`, and puts what happened in them in this form. Of events and spans
@@ -69,5 +72,6 @@ pub fn trace_board<F: Folder, O: Sink>(
         Form::JsonLines => tell_objects(alloc, choice, board, folder, modules, out, limit),
         Form::Timeline => draw_timeline(alloc, choice, board, folder, modules, out, limit),
         Form::State => show_state(alloc, board, folder, modules, out, limit),
+        Form::Coverage => tell_coverage(alloc, board, folder, modules, out, limit),
     }
 }

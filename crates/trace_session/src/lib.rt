@@ -5,6 +5,7 @@
 mod choice;
 mod choosing;
 mod command;
+mod coverage;
 mod ending;
 mod events;
 mod forms;

@@ -1,4 +1,4 @@
-mod Rows
+pub mod Rows
 pub mod Shallow
 mod Nesting
 mod Depth

@@ -1,0 +1,6 @@
+pub mod Counting
+pub mod Lists
+pub mod Rows
+pub mod Tables
+pub mod Texts
+pub mod Words

@@ -1,0 +1,4 @@
+pub mod Covered
+pub mod Executed
+pub mod Listed
+pub mod Text
