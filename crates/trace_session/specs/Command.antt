@@ -10,7 +10,7 @@ use Rattle.trace_session.specs.Choice.{ChoiceState, everything}
 use Rattle.trace_session.specs.declared.choice.Kind.{Kind}
 use Rattle.trace_session.specs.declared.choice.Kind.TheVariants as kinds
 use Rattle.trace_session.specs.declared.forms.Form.{Form}
-use Rattle.trace_session.specs.declared.forms.Form.TheVariants.{Events, Timeline, State}
+use Rattle.trace_session.specs.declared.forms.Form.TheVariants.{Events, Timeline, State, Summary, SummaryJson}
 
 -- a command: the form in which a session is told, what is told of it, and the session
 pub record TraceState : Type 0 where
@@ -24,6 +24,8 @@ form_named name =
     if bytes_eq name (codes "events") then Some Events
     else if bytes_eq name (codes "timeline") then Some Timeline
     else if bytes_eq name (codes "state") then Some State
+    else if bytes_eq name (codes "summary") then Some Summary
+    else if bytes_eq name (codes "summary-json") then Some SummaryJson
     else None
 
 -- ---- what is told
@@ -112,6 +114,8 @@ abbrev pub has_choice : Form → Bool
 has_choice Events = true
 has_choice Timeline = true
 has_choice State = false
+has_choice Summary = false
+has_choice SummaryJson = false
 
 -- other forms are told of everything
 abbrev pub choice_for : Form → List Row → Option ChoiceState

@@ -229,7 +229,7 @@ fn has_choice(form: Form) -> bool
 {
     match form {
         Form::Events | Form::Timeline => true,
-        Form::State => false,
+        Form::State | Form::Summary | Form::SummaryJson => false,
     }
 }
 

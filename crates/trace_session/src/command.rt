@@ -32,7 +32,7 @@ pub struct TraceCommand<'a> {
 pub(crate) const PROGRAM: &str = "windtrace";
 
 // The message for an invalid form.
-const BAD_FORM: &str = "'--as <FORM>' takes events, timeline or state";
+const BAD_FORM: &str = "'--as <FORM>' takes events, timeline, state, summary or summary-json";
 
 // The form with this name.
 fn form_named(name: &str) -> Option<Form>
@@ -42,6 +42,8 @@ fn form_named(name: &str) -> Option<Form>
         "events" => Some(Form::Events),
         "timeline" => Some(Form::Timeline),
         "state" => Some(Form::State),
+        "summary" => Some(Form::Summary),
+        "summary-json" => Some(Form::SummaryJson),
         _ => None,
     }
 }
@@ -57,7 +59,7 @@ fn app<'a>(alloc: Global) -> Result<clap::Command<'a>, AllocError>
         "as",
         "FORM",
         "events",
-        "What is told: events, timeline or state",
+        "What is told: events, timeline, state, summary or summary-json",
     );
     let command = command_line(alloc, PROGRAM, about).arg(form)?;
     let command = with_choice_options(alloc, command)?;

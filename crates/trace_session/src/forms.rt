@@ -12,6 +12,7 @@ ghost use Rattle.trace_session.specs.Forms.{TellsForm, TellsLess};
 use crate::choice::Choice;
 use crate::events::tell_events;
 use crate::state::show_state;
+use crate::summary::{tell_summary, tell_table};
 use crate::timeline::draw_timeline;
 use crate::traced::TracedRun;
 use std::alloc::Global;
@@ -28,6 +29,10 @@ pub enum Form {
     Timeline,
     /// The board that is left.
     State,
+    /// A table of figures.
+    Summary,
+    /// The figures as JSON.
+    SummaryJson,
 }
 
 /// Makes steps, at most `limit`, and puts what happened in them in this form. Of events and spans
@@ -66,5 +71,7 @@ pub fn trace_board<F: Folder, O: Sink>(
         Form::Events => tell_events(alloc, choice, board, folder, modules, out, limit),
         Form::Timeline => draw_timeline(alloc, choice, board, folder, modules, out, limit),
         Form::State => show_state(alloc, board, folder, modules, out, limit),
+        Form::Summary => tell_table(alloc, board, folder, modules, out, limit),
+        Form::SummaryJson => tell_summary(alloc, board, folder, modules, out, limit),
     }
 }

@@ -5,6 +5,7 @@
 mod choice;
 mod choosing;
 mod command;
+mod counter;
 mod ending;
 mod events;
 mod forms;
@@ -17,6 +18,7 @@ mod reader;
 mod scene;
 mod shown;
 mod state;
+mod summary;
 mod timeline;
 mod traced;
 mod tracer;

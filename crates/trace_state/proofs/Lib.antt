@@ -1,5 +1,5 @@
 mod Rows
-mod Shallow
+pub mod Shallow
 mod Nesting
 mod Depth
 mod Growing

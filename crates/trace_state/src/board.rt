@@ -32,8 +32,8 @@ fn phase_word(phase: Phase) -> &'static str
     }
 }
 
-// Board time as it is shown: at most 2^64 - 1.
-fn time_shown(time: u128) -> u64
+/// Board time as it is shown: at most 2^64 - 1.
+pub fn time_shown(time: u128) -> u64
     ensures { result ≡ time_shown_lem time }
 {
     time.min(u64::MAX as u128) as u64

@@ -13,14 +13,14 @@ use trace_text::add_escaped;
 
 /// The members of an object so far.
 #[derive(Drop)]
-pub(crate) struct Members {
+pub struct Members {
     alloc: Global,
     map: Map<String, Value>,
 }
 
 impl Members {
     /// No members.
-    pub(crate) fn new(alloc: Global) -> Members
+    pub fn new(alloc: Global) -> Members
         ensures { members_in result ≡ no_members }
     {
         Members {
@@ -29,30 +29,30 @@ impl Members {
         }
     }
 
-    /// Adds a member.
+    /// Adds a member, or gives a key that is there another value.
     #[tactic(auto, unfolding(crate::specs::Json::with_member))]
-    pub(crate) fn put(&mut self, key: &str, value: Value) -> Result<(), AllocError>
+    pub fn put(&mut self, key: &str, value: Value) -> Result<(), AllocError>
         ensures { OnOk result (members_in self.new ≡ with_member key.now (view value) (members_in self.old)) }
     {
         put(&mut self.map, self.alloc, key, value)
     }
 
     /// Adds a number.
-    pub(crate) fn put_number(&mut self, key: &str, n: u64) -> Result<(), AllocError>
+    pub fn put_number(&mut self, key: &str, n: u64) -> Result<(), AllocError>
         ensures { OnOk result (members_in self.new ≡ with_member key.now (number_of n) (members_in self.old)) }
     {
         self.put(key, Value::from(n))
     }
 
     /// Adds true or false.
-    pub(crate) fn put_flag(&mut self, key: &str, flag: bool) -> Result<(), AllocError>
+    pub fn put_flag(&mut self, key: &str, flag: bool) -> Result<(), AllocError>
         ensures { OnOk result (members_in self.new ≡ with_member key.now (boolean flag) (members_in self.old)) }
     {
         self.put(key, Value::from(flag))
     }
 
     /// Adds a word.
-    pub(crate) fn put_word(&mut self, key: &str, word: &str) -> Result<(), AllocError>
+    pub fn put_word(&mut self, key: &str, word: &str) -> Result<(), AllocError>
         ensures { OnOk result (members_in self.new ≡ with_member key.now (string word.now) (members_in self.old)) }
     {
         let word = Value::try_from_str(self.alloc, word)?;
@@ -60,7 +60,7 @@ impl Members {
     }
 
     /// Adds bytes as a string, those that aren't plain as `\xNN`.
-    pub(crate) fn put_text(&mut self, key: &str, bytes: &[u8]) -> Result<(), AllocError>
+    pub fn put_text(&mut self, key: &str, bytes: &[u8]) -> Result<(), AllocError>
         ensures { OnOk result (members_in self.new ≡ with_member key.now (text_of bytes.now) (members_in self.old)) }
     {
         let text = shown(self.alloc, bytes)?;
@@ -68,7 +68,7 @@ impl Members {
     }
 
     /// The object with these members.
-    pub(crate) fn finish(self) -> Value
+    pub fn finish(self) -> Value
         ensures { view result ≡ object (members_in self) }
     {
         let Members { alloc: _, map } = self;
@@ -78,13 +78,13 @@ impl Members {
 
 /// The items of a list so far.
 #[derive(Drop)]
-pub(crate) struct Items {
+pub struct Items {
     list: Vec<Value>,
 }
 
 impl Items {
     /// No items.
-    pub(crate) fn new(alloc: Global) -> Items
+    pub fn new(alloc: Global) -> Items
         ensures { items_in result ≡ [] }
     {
         Items {
@@ -93,14 +93,14 @@ impl Items {
     }
 
     /// Adds an item at the end.
-    pub(crate) fn add(&mut self, value: Value) -> Result<(), AllocError>
+    pub fn add(&mut self, value: Value) -> Result<(), AllocError>
         ensures { OnOk result (items_in self.new ≡ items_in self.old ++ view value ∷ []) }
     {
         Ok(self.list.push(value)?)
     }
 
     /// The list of these items.
-    pub(crate) fn finish(self) -> Value
+    pub fn finish(self) -> Value
         ensures { view result ≡ array (items_of (items_in self)) }
     {
         let Items { list } = self;
@@ -109,7 +109,7 @@ impl Items {
 }
 
 /// A number, or null.
-pub(crate) fn number_or_null(n: Option<u64>) -> Value
+pub fn number_or_null(n: Option<u64>) -> Value
     ensures { view result ≡ number_or_null_lem n }
 {
     match n {
@@ -119,7 +119,7 @@ pub(crate) fn number_or_null(n: Option<u64>) -> Value
 }
 
 /// An id, or null.
-pub(crate) fn id_or_null(id: Option<Ident>) -> Value
+pub fn id_or_null(id: Option<Ident>) -> Value
     ensures { view result ≡ number_or_null_lem id }
 {
     match id {

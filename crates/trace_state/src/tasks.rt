@@ -43,8 +43,8 @@ fn awaited_id(object: &Awaited) -> Value
     }
 }
 
-// What a task waits for, or null.
-fn wait_value(alloc: Global, object: &Option<Awaited>) -> Result<Value, AllocError>
+/// What a task waits for, or null.
+pub fn wait_value(alloc: Global, object: &Option<Awaited>) -> Result<Value, AllocError>
     ensures { IfOk result (λ v. view v ≡ wait_data object.now) }
 {
     let Some(object) = object else {
