@@ -44,7 +44,7 @@ with_task id name ts = if list_any (λ t. t.id == id) ts then ts else ts ++ reco
 
 -- adds these numbers if it is the task with this id
 abbrev pub added : ℕ → TaskCounts → TaskSummary → TaskSummary
-added id more t = if t.id == id then record t { counts = plus t.counts more } else t
+added id more t = if id == t.id then record t { counts = plus t.counts more } else t
 
 -- adds them to those of the task that a line tells of
 abbrev pub with_counts : Subject → List ℕ → TaskCounts → List TaskSummary → List TaskSummary

@@ -89,7 +89,7 @@ impl TaskSummary {
     fn add(&mut self, id: u32, more: TaskCounts)
         ensures { self.new ≡ added id more self.old }
     {
-        if self.id == id {
+        if id == self.id {
             self.counts = self.counts.plus(more);
         }
     }
