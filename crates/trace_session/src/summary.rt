@@ -1,6 +1,6 @@
 //! A run, told as its figures.
 
-ghost use Rattle.std.specs.Prelude.{◌≡◌, ◌≤◌, ◌+◌, ℕ, List, IfOk, OnErr, OnOk};
+ghost use Rattle.std.specs.Prelude.{◌≡◌, ◌≢◌, ◌≤◌, ◌+◌, ℕ, IfOk, OnErr, OnOk};
 ghost use Rattle.wind_base.specs.Limits.{most_steps};
 ghost use Rattle.wind_outside.specs.Counts.{Rose};
 ghost use Rattle.wind_machine.specs.{State.State, Run.{Answers, after}, Silent.SilentSteps};
@@ -135,7 +135,7 @@ fn sum_up<F: Folder, O: Sink>(
         (record { files = F.files folder.old; name = modules.now }) (seen ⟦<dyn Device as Device>⟧ board.old) limit
         (seen ⟦<dyn Device as Device>⟧ board.new) (F.requests folder.old) (F.requests folder.new)) }
     ensures read_fault { IfOk result (λ r. r.end ≡ ends.ReadFault → Rose (F.faults folder.old) (F.faults folder.new)) }
-    ensures fault { IfOk result (λ r. r.end ≡ ends.WriteFault → Rose (O.faults out.old) (O.faults out.new)) }
+    ensures put { IfOk result (λ r. r.end ≢ ends.WriteFault) }
     ensures keeps { KeepsFiles ⟦<F as Folder>⟧ ⟦<O as Sink>⟧ folder.old out.old folder.new out.new }
 {
     let mut counter = Counter::new(alloc, board)?;
