@@ -2,7 +2,8 @@
 # Plays each session of `examples` with WINDTRACE and with WINDPLAY, and compares:
 # - the texts that the events say were written have to be the bytes of the console, and the two statuses the same;
 # - the events have to be those of the session's file `events`, if there is one;
-# - the state has to be JSON, and the timeline XML.
+# - the state has to be JSON, and the timeline XML;
+# - the figures of the summary have to be those that its events add up to.
 # Then it plays a few consoles, and looks in the trace of each for the line that it has to have.
 # It prints a line for each session that differs and each line that is missing, and one that counts them. It ends with
 # 1 if there is one.
