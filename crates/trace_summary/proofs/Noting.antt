@@ -34,38 +34,38 @@ same_tally a b c x y z ts us p q r s = ap (λ n. tally n b c ts) p ∙ ap (λ n.
 
 -- ---- a task
 module _ (lines : List Line) (l : Line) where
-  abbrev now : List Line
-  now = with_line l lines
+  abbrev later : List Line
+  later = with_line l lines
 
-  more_of : (id : ℕ) (f : Happening → ℕ) → AddsUp f → is_task id (subject_of l.what) ≡ true → sum_of (total (part_of id f) lines) (f l.what) ≡ total (part_of id f) now
+  more_of : (id : ℕ) (f : Happening → ℕ) → AddsUp f → is_task id (subject_of l.what) ≡ true → sum_of (total (part_of id f) lines) (f l.what) ≡ total (part_of id f) later
   more_of id f adds is = sym (part_line true id f adds l lines is)
 
-  same_of : (id : ℕ) (f : Happening → ℕ) → AddsUp f → is_task id (subject_of l.what) ≡ false → total (part_of id f) lines ≡ total (part_of id f) now
+  same_of : (id : ℕ) (f : Happening → ℕ) → AddsUp f → is_task id (subject_of l.what) ≡ false → total (part_of id f) lines ≡ total (part_of id f) later
   same_of id f adds is = sym (part_line false id f adds l lines is ∙ none_more (sum_by (part_of id f) lines) (2 ^ 64 - 1))
 
   -- a line that tells of it adds to its figures
-  counts_more : (id : ℕ) → is_task id (subject_of l.what) ≡ true → plus (counts_of lines id) (counts_in l.what) ≡ counts_of now id
+  counts_more : (id : ℕ) → is_task id (subject_of l.what) ≡ true → plus (counts_of lines id) (counts_in l.what) ≡ counts_of later id
   counts_more id is =
       same_counts _ _ _ _ _ _ _ _ _ _ (more_of id steps_in steps_add is) (more_of id switches_in switches_add is) (more_of id calls_in calls_add is) (more_of id refusals_in refusals_add is) (more_of id exceptions_in exceptions_add is)
 
   -- another line leaves them
-  counts_same : (id : ℕ) → is_task id (subject_of l.what) ≡ false → counts_of lines id ≡ counts_of now id
+  counts_same : (id : ℕ) → is_task id (subject_of l.what) ≡ false → counts_of lines id ≡ counts_of later id
   counts_same id is =
       same_counts _ _ _ _ _ _ _ _ _ _ (same_of id steps_in steps_add is) (same_of id switches_in switches_add is) (same_of id calls_in calls_add is) (same_of id refusals_in refusals_add is) (same_of id exceptions_in exceptions_add is)
 
-  abbrev with : Known → TaskCounts → TaskSummary
-  with t c = record { id = t.id; name = t.name; counts = c }
+  abbrev row_with : Known → TaskCounts → TaskSummary
+  row_with t c = record { id = t.id; name = t.name; counts = c }
 
-  task_line : (b : Bool) (t : Known) → is_task t.id (subject_of l.what) ≡ b → (if b then with t (plus (counts_of lines t.id) (counts_in l.what)) else summary_of_task lines t) ≡ summary_of_task now t
-  task_line true t is = ap (with t) (counts_more t.id is)
-  task_line false t is = ap (with t) (counts_same t.id is)
+  task_line : (b : Bool) (t : Known) → is_task t.id (subject_of l.what) ≡ b → (if b then row_with t (plus (counts_of lines t.id) (counts_in l.what)) else summary_of_task lines t) ≡ summary_of_task later t
+  task_line true t is = ap (row_with t) (counts_more t.id is)
+  task_line false t is = ap (row_with t) (counts_same t.id is)
 
   -- ---- tasks
-  rows_told : (id : ℕ) → subject_of l.what ≡ subjects.Task id → (ts : List Known) → map (added id (counts_in l.what)) (map (summary_of_task lines) ts) ≡ map (summary_of_task now) ts
+  rows_told : (id : ℕ) → subject_of l.what ≡ subjects.Task id → (ts : List Known) → map (added id (counts_in l.what)) (map (summary_of_task lines) ts) ≡ map (summary_of_task later) ts
   rows_told id is [] = refl
   rows_told id is (t ∷ ts) = ap₂ (λ r rs. r ∷ rs) (task_line (id == t.id) t (ap (is_task t.id) is)) (rows_told id is ts)
 
-  rows_same : ((id : ℕ) → is_task id (subject_of l.what) ≡ false) → (ts : List Known) → map (summary_of_task lines) ts ≡ map (summary_of_task now) ts
+  rows_same : ((id : ℕ) → is_task id (subject_of l.what) ≡ false) → (ts : List Known) → map (summary_of_task lines) ts ≡ map (summary_of_task later) ts
   rows_same is [] = refl
   rows_same is (t ∷ ts) = ap₂ (λ r rs. r ∷ rs) (task_line false t (is t.id)) (rows_same is ts)
 

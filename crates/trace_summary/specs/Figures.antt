@@ -83,4 +83,4 @@ counts_of lines id = record {
 
 -- the share that steps have in all steps, in tenths of a percent, rounded down
 abbrev pub share : ℕ → ℕ → ℕ
-share steps all = if all == 0 then 0 else min (steps * 1000 / all) 1000
+share steps all = if all == 0 then 0 else min ((steps * 1000) / all) 1000
