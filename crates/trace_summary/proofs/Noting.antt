@@ -1,7 +1,7 @@
 -- The figures of a run after one more line.
 use Rattle.std.proofs.Common.{◌≡◌, ℕ, ◌+◌, ◌-◌, ◌^◌, Bool, true, false, if◌then◌else◌, List, [], ◌∷◌, ◌++◌, map, refl, sym, ap, ap₂, ◌∙◌}
 use Rattle.std.specs.Prelude.{min, ◌==◌, ◌||◌}
-use Rattle.std.specs.List.{list_any, sum_by}
+use Rattle.std.specs.List.{list_any}
 use Rattle.std.proofs.lemmas.List.{map-append}
 use Rattle.board_changes.specs.declared.view.TaskView.{TaskView}
 use Rattle.board_trace.specs.Runs.{Line, with_line}
@@ -10,7 +10,7 @@ use Rattle.board_trace.specs.declared.happening.Happening.{Happening}
 use Rattle.board_trace.specs.declared.who.Subject.{Subject}
 use Rattle.board_trace.specs.declared.who.Subject.TheVariants as subjects
 use Rattle.trace_summary.specs.Adding.{added, counts_in, none, noted, plus, sum_of, with_counts, with_task}
-use Rattle.trace_summary.specs.Figures.{calls_in, counts_of, exceptions_in, is_task, part_of, refusals_in, steps_in, switches_in, total}
+use Rattle.trace_summary.specs.Figures.{calls_in, counts_of, exceptions_in, is_task, part_of, refusals_in, steps_in, sum_over, switches_in, total}
 use Rattle.trace_summary.specs.Summaries.{Known, TallyState, summary_of_task, tally_of, tasks_in, with_known, with_subject}
 use Rattle.trace_summary.specs.declared.counts.TaskCounts.{TaskCounts}
 use Rattle.trace_summary.specs.declared.summary.TaskSummary.{TaskSummary}
@@ -41,7 +41,7 @@ module _ (lines : List Line) (l : Line) where
   more_of id f adds is = sym (part_line true id f adds l lines is)
 
   same_of : (id : ℕ) (f : Happening → ℕ) → AddsUp f → is_task id (subject_of l.what) ≡ false → total (part_of id f) lines ≡ total (part_of id f) later
-  same_of id f adds is = sym (part_line false id f adds l lines is ∙ none_more (sum_by (part_of id f) lines) (2 ^ 64 - 1))
+  same_of id f adds is = sym (part_line false id f adds l lines is ∙ none_more (sum_over (part_of id f) lines) (2 ^ 64 - 1))
 
   -- a line that tells of it adds to its figures
   counts_more : (id : ℕ) → is_task id (subject_of l.what) ≡ true → plus (counts_of lines id) (counts_in l.what) ≡ counts_of later id

@@ -1,12 +1,11 @@
 -- A figure after one more line.
 use Rattle.std.proofs.Common.{◌≡◌, ℕ, ◌+◌, ◌-◌, ◌^◌, Bool, true, false, if◌then◌else◌, List, [], ◌∷◌, Option, None, Some, refl, sym, ap, ap₂, ◌∙◌, arith}
 use Rattle.std.specs.Prelude.{min}
-use Rattle.std.specs.List.{sum_by}
 use Rattle.board_trace.specs.Runs.{Line, joined, joined_or, with_line}
 use Rattle.board_trace.specs.Subjects.{subject_of}
 use Rattle.board_trace.specs.declared.happening.Happening.{Happening}
 use Rattle.trace_summary.specs.Adding.{sum_of}
-use Rattle.trace_summary.specs.Figures.{calls_in, exceptions_in, idle_in, is_task, part_of, refusals_in, steps_in, switches_in, ticks_in, total}
+use Rattle.trace_summary.specs.Figures.{calls_in, exceptions_in, idle_in, is_task, part_of, refusals_in, steps_in, sum_over, switches_in, ticks_in, total}
 use Rattle.trace_summary.proofs.Joining.{AddsUp, joined_idle, joined_subject, joined_sum}
 
 -- ---- sums
@@ -15,11 +14,11 @@ abbrev pub LinesAddUp : (Line → ℕ) → Type 0
 LinesAddUp f = (newest l : Line) (x : Happening) → joined newest.what l.what ≡ Some x → f (record newest { what = x }) ≡ f newest + f l
 
 module _ (f : Line → ℕ) (l newest : Line) (older : List Line) where
-  sum_or : (j : Option Happening) → ((x : Happening) → j ≡ Some x → f (record newest { what = x }) ≡ f newest + f l) → sum_by f (joined_or j l newest older) ≡ f l + (f newest + sum_by f older)
+  sum_or : (j : Option Happening) → ((x : Happening) → j ≡ Some x → f (record newest { what = x }) ≡ f newest + f l) → sum_over f (joined_or j l newest older) ≡ f l + (f newest + sum_over f older)
   sum_or None is = refl
   sum_or (Some x) is = omega (arith, is x refl)
 
-pub sum_line : (f : Line → ℕ) → LinesAddUp f → (l : Line) (made : List Line) → sum_by f (with_line l made) ≡ f l + sum_by f made
+pub sum_line : (f : Line → ℕ) → LinesAddUp f → (l : Line) (made : List Line) → sum_over f (with_line l made) ≡ f l + sum_over f made
 sum_line f adds l [] = refl
 sum_line f adds l (newest ∷ older) = sum_or f l newest older (joined newest.what l.what) (adds newest l)
 
@@ -31,7 +30,7 @@ pub none_more : (a m : ℕ) → min (min a m + 0) m ≡ min a m
 none_more a m = omega arith
 
 pub total_line : (f : Line → ℕ) → LinesAddUp f → (l : Line) (made : List Line) → total f (with_line l made) ≡ sum_of (total f made) (f l)
-total_line f adds l made = ap (λ n. min n (2 ^ 64 - 1)) (sum_line f adds l made) ∙ sum_within (f l) (sum_by f made) (2 ^ 64 - 1)
+total_line f adds l made = ap (λ n. min n (2 ^ 64 - 1)) (sum_line f adds l made) ∙ sum_within (f l) (sum_over f made) (2 ^ 64 - 1)
 
 -- ---- the figures
 pub steps_add : AddsUp steps_in

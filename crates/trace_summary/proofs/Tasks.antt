@@ -1,7 +1,7 @@
 -- The tasks of a run after one more line.
 use Rattle.std.proofs.Common.{◌≡◌, ℕ, ◌+◌, Bool, true, false, if◌then◌else◌, List, [], ◌∷◌, ◌++◌, map, Option, None, Some, refl, sym, ap, ap₂, ◌∙◌}
 use Rattle.std.specs.Prelude.{◌||◌, ◌==◌}
-use Rattle.std.specs.List.{list_any, sum_by}
+use Rattle.std.specs.List.{list_any}
 use Rattle.std.proofs.lemmas.Bool.{eqb-true, eq-eqb, or_left, or_parts, or_right}
 use Rattle.board_changes.specs.declared.view.TaskView.{TaskView}
 use Rattle.board_trace.specs.Runs.{Line, joined, joined_or, with_line}
@@ -9,7 +9,7 @@ use Rattle.board_trace.specs.Subjects.{subject_of}
 use Rattle.board_trace.specs.declared.happening.Happening.{Happening}
 use Rattle.board_trace.specs.declared.who.Subject.{Subject}
 use Rattle.board_trace.specs.declared.who.Subject.TheVariants as subjects
-use Rattle.trace_summary.specs.Figures.{is_task, part_of}
+use Rattle.trace_summary.specs.Figures.{is_task, part_of, sum_over}
 use Rattle.trace_summary.specs.Summaries.{Known, tasks_in, with_known, with_subject}
 use Rattle.trace_summary.proofs.Joining.{joined_subject}
 
@@ -52,7 +52,7 @@ not_there id subjects.Board name ts e = (e, refl)
 not_there id subjects.Interrupt name ts e = (e, refl)
 
 -- no line tells of a task that isn't among them
-pub untold : (f : Happening → ℕ) (id : ℕ) (views : List TaskView) (lines : List Line) → is_among id (tasks_in views lines) ≡ false → sum_by (part_of id f) lines ≡ 0
+pub untold : (f : Happening → ℕ) (id : ℕ) (views : List TaskView) (lines : List Line) → is_among id (tasks_in views lines) ≡ false → sum_over (part_of id f) lines ≡ 0
 untold f id views [] e = refl
 untold f id views (l ∷ older) e =
     let p = not_there id (subject_of l.what) l.name (tasks_in views older) e in

@@ -1,6 +1,5 @@
 -- The figures of a run's lines: each is a sum over them.
-use Rattle.std.specs.Prelude.{ℕ, ◌+◌, ◌-◌, ◌*◌, ◌/◌, ◌^◌, ◌==◌, min, Bool, false, if◌then◌else◌, List}
-use Rattle.std.specs.List.{sum_by}
+use Rattle.std.specs.Prelude.{ℕ, ◌+◌, ◌-◌, ◌*◌, ◌/◌, ◌^◌, ◌==◌, min, Bool, false, if◌then◌else◌, List, [], ◌∷◌}
 use Rattle.kernel_world.specs.declared.reply.Reply.{Reply}
 use Rattle.kernel_world.specs.declared.reply.Reply.TheVariants as replies
 use Rattle.board_trace.specs.Runs.{Line}
@@ -57,9 +56,14 @@ idle_in time (told.Jump end) = end - time
 idle_in time h = 0
 
 -- ---- sums
--- a sum over lines; at most 2^64 - 1, the greatest number of a figure
+-- the sum of what lines add
+abbrev pub sum_over : (Line → ℕ) → List Line → ℕ
+sum_over f [] = 0
+sum_over f (l ∷ ls) = f l + sum_over f ls
+
+-- the same; at most 2^64 - 1, the greatest number of a figure
 abbrev pub total : (Line → ℕ) → List Line → ℕ
-total f lines = min (sum_by f lines) (2 ^ 64 - 1)
+total f lines = min (sum_over f lines) (2 ^ 64 - 1)
 
 -- it is the task with this id
 abbrev pub is_task : ℕ → Subject → Bool
