@@ -1,6 +1,7 @@
 //! What is counted of a run, line by line.
 
-ghost use Rattle.std.specs.Prelude.{◌≡◌, ◌≤◌, ℕ, List, [], length, map, IfOk, OnOk};
+ghost use Rattle.std.specs.Prelude.{◌≡◌, ◌≤◌, ◌==◌, ℕ, List, [], length, map, IfOk, OnOk};
+ghost use Rattle.std.specs.List.{list_any};
 ghost use Rattle.wind_base.specs.Limits.{longest_short_name};
 ghost use Rattle.board_changes.specs.declared.view.TaskView.{TaskView};
 ghost use Rattle.board_trace.specs.Runs.{Line, with_line};
@@ -66,12 +67,19 @@ fn opening(view: &TaskView) -> TaskSummary
     }
 }
 
+// The task with this id is among these.
+fn has_task(tasks: &[TaskSummary], id: u32) -> bool
+    ensures { result ≡ list_any (λ t. t.id == id) tasks.now }
+{
+    tasks.iter().any(|task| task.id == id)
+}
+
 // Adds a task, unless it is among these.
 fn add_task(tasks: &mut Vec<TaskSummary>, id: u32, name: &[u8]) -> Result<(), NoMemory>
     requires { length name.now ≤ longest_short_name }
     ensures { OnOk result (tasks.new.items ≡ with_task id name.now tasks.old.items) }
 {
-    if tasks.iter().any(|task| task.id == id) {
+    if has_task(tasks, id) {
         return Ok(());
     }
     push(
