@@ -1,5 +1,5 @@
 -- What is counted of a run under way.
-use Rattle.std.proofs.Common.{◌≡◌, ◌≢◌, ◌⊎◌, ℕ, zero, suc, ◌+◌, ◌<◌, Bool, true, List, [], ◌∷◌, ◌++◌, map, take, get_or, length, Option, Some, Result, Ok, Err, inl, inr, refl, sym, ap, ap₂, subst, ◌∙◌, arith, add-one, le-leb}
+use Rattle.std.proofs.Common.{◌≡◌, ◌≢◌, ◌⊎◌, ℕ, zero, suc, ◌+◌, ◌<◌, true, List, [], ◌∷◌, ◌++◌, map, take, get_or, length, Option, Some, Result, Ok, Err, refl, sym, ap, ap₂, subst, ◌∙◌, arith, le-leb}
 use Rattle.std.specs.Prelude.{◌&&◌, if◌then◌else◌, IfOk}
 use Rattle.std.proofs.lemmas.List.{map-append, take_more}
 use Rattle.generated_session.specs.Puts.{SinkLog}
@@ -28,10 +28,10 @@ use Rattle.trace_summary.specs.Summaries.{SummaryState, TallyState, summary_of, 
 use Rattle.trace_summary.specs.declared.summary.Summary.{Summary}
 use Rattle.trace_summary.specs.declared.tally.Tally.{Tally}
 use Rattle.trace_session.specs.Bursts.{SilentLinesLaw, instructions_line, with_instructions}
-use Rattle.trace_session.specs.Choice.{AreAlike, chosen_in, chosen_lines, everything, is_chosen, is_step, with_if}
+use Rattle.trace_session.specs.Choice.{chosen_lines, everything, is_step}
 use Rattle.trace_session.specs.Steps.{line_of}
 use Rattle.trace_session.specs.Summing.{CountsLines, IsSummedUp, TellsSummary, TellsTable, HasSummary, run_summary}
-use Rattle.trace_session.specs.Traced.{IsPutAfter, IsPutOf}
+use Rattle.trace_session.specs.Traced.{IsPutOf}
 use Rattle.trace_session.specs.declared.traced.Product.{Product}
 use Rattle.trace_session.specs.declared.traced.Product.TheVariants as products
 use Rattle.trace_session.proofs.Lines.{all_in, all_lines}

@@ -1,5 +1,5 @@
 -- What two happenings have in common that are joined.
-use Rattle.std.proofs.Common.{◌≡◌, ℕ, ◌+◌, Bool, true, false, if◌then◌else◌, Option, None, Some, refl, sym, ap, subst, ◌∙◌}
+use Rattle.std.proofs.Common.{◌≡◌, ℕ, ◌+◌, Bool, true, false, if◌then◌else◌, None, Some, refl, sym, ap, ◌∙◌}
 use Rattle.std.proofs.lemmas.Bool.{eqb-true}
 use Rattle.kernel_world.specs.declared.actor.Actor.{Actor}
 use Rattle.kernel_world.specs.declared.actor.Actor.TheVariants.{Task as by_task, Interrupt}
@@ -8,7 +8,7 @@ use Rattle.board_trace.specs.Subjects.{subject_actor, subject_of}
 use Rattle.board_trace.specs.declared.happening.Happening.{Happening}
 use Rattle.board_trace.specs.declared.happening.Happening.TheVariants as told
 use Rattle.board_trace.specs.declared.who.Subject.TheVariants as subjects
-use Rattle.trace_summary.specs.Figures.{idle_in, is_task}
+use Rattle.trace_summary.specs.Figures.{idle_in}
 
 if_same : (b : Bool) (h x : Happening) → (if b then Some h else None) ≡ Some x → (b ≡ true) × (h ≡ x)
 if_same true h x e = (refl, cc)

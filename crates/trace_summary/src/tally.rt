@@ -5,7 +5,7 @@ ghost use Rattle.std.specs.List.{list_any};
 ghost use Rattle.wind_base.specs.Limits.{longest_short_name};
 ghost use Rattle.board_changes.specs.declared.view.TaskView.{TaskView};
 ghost use Rattle.board_trace.specs.Runs.{Line, with_line};
-ghost use Rattle.trace_summary.specs.Adding.{added, counts_in as counts_in_lem, noted, opening_task, with_counts, with_task};
+ghost use Rattle.trace_summary.specs.Adding.{added, noted, opening_task, with_counts, with_task};
 ghost use Rattle.trace_summary.specs.Figures.{calls_in as calls_in_lem, idle_in as idle_in_lem, ticks_in as ticks_in_lem};
 ghost use Rattle.trace_summary.specs.Summaries.{summary_of, summary_state, tally_of, tally_state};
 

@@ -1,4 +1,4 @@
-use Rattle.std.proofs.Common.{◌≡◌, subst, ◌<◌, ◌+◌, ◌∙◌, ap, sym, arith}
+use Rattle.std.proofs.Common.{◌≡◌, ◌<◌, ◌+◌, ◌∙◌, ap, sym, arith}
 use Rattle.wind_machine.specs.State.{State}
 use Rattle.wind_machine.specs.Silent.{last_actor}
 use Rattle.wind_session.specs.BoardPlayerSeen.{board_by}

@@ -1,4 +1,4 @@
-use Rattle.std.proofs.Common.{◌+◌, ap, ◌∙◌}
+use Rattle.std.proofs.Common.{ap, ◌∙◌}
 use Rattle.board_trace.specs.Snapshots.{snapshot_of}
 use Rattle.trace_summary.specs.Summaries.{tally_of}
 use Rattle.trace_session.proofs.Counting.{all_now}

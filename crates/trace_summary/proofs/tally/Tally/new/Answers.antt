@@ -1,4 +1,4 @@
-use Rattle.std.proofs.Common.{◌≡◌, ◌≤◌, List, [], ◌∷◌, ◌++◌, length, map, refl, ap, ◌∙◌, arith}
+use Rattle.std.proofs.Common.{◌≡◌, List, [], ◌∷◌, ◌++◌, map, refl, ap, ◌∙◌}
 use Rattle.board_changes.specs.declared.view.TaskView.{TaskView}
 use Rattle.board_reading.proofs.Collecting.{all_items, next_item}
 use Rattle.trace_summary.specs.Adding.{opening_task}
