@@ -1,4 +1,4 @@
-use Rattle.std.proofs.Common.{ℕ, ◌≤◌, ◌-◌, arith, subst, sym, ◌∙◌}
+use Rattle.std.proofs.Common.{◌≤◌, ◌-◌, arith, subst, sym, ◌∙◌}
 use Rattle.trace_session.specs.Choice.{AreAlike, choice_state}
 use Rattle.trace_session.proofs.SilentLines.{part_on}
 use Rattle.trace_session.proofs.timeline.ObserverTeller.burst.Goals as goal
