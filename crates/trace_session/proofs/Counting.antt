@@ -24,16 +24,13 @@ use Rattle.board_trace.specs.declared.happening.Happening.TheVariants as told
 use Rattle.board_trace.specs.declared.moment.BeforeStep.{BeforeStep}
 use Rattle.trace_state.specs.Board.{IsTextOf}
 use Rattle.trace_summary.specs.Data.{summary_data}
-use Rattle.trace_summary.specs.Summaries.{SummaryState, TallyState, summary_of, summary_state, tally_of, tally_state}
-use Rattle.trace_summary.specs.declared.summary.Summary.{Summary}
-use Rattle.trace_summary.specs.declared.tally.Tally.{Tally}
+use Rattle.trace_summary.specs.Summaries.{SummaryState, TallyState, summary_of, tally_of}
 use Rattle.trace_session.specs.Bursts.{SilentLinesLaw, instructions_line, with_instructions}
 use Rattle.trace_session.specs.Choice.{chosen_lines, everything, is_step}
 use Rattle.trace_session.specs.Steps.{line_of}
-use Rattle.trace_session.specs.Summing.{CountsLines, IsSummedUp, TellsSummary, TellsTable, HasSummary, run_summary}
+use Rattle.trace_session.specs.Summing.{CountsLines, IsSummedUp, TellsSummary, TellsTable, HasSummary}
 use Rattle.trace_session.specs.Traced.{IsPutOf}
 use Rattle.trace_session.specs.declared.traced.Product.{Product}
-use Rattle.trace_session.specs.declared.traced.Product.TheVariants as products
 use Rattle.trace_session.proofs.Lines.{all_in, all_lines}
 use Rattle.trace_session.proofs.Telling.{lines_now, lost_if, tells_unless}
 
@@ -91,14 +88,14 @@ counted_burst law k u t who time before old new some last steps time_is before_i
     ∙ ap₂ (λ a v. tally_of views (with_line (line_with a (u.steps + 1) v who k) (lines_of said s i))) time_is before_is
     ∙ ap (tally_of views) (sym (all_burst law said s u t who i k some here last steps))
 
-pub counts_on : {E : Type 0} (r : Result ℕ E) (u : State) (old new : Tally)
-    → IfOk r (λ k. (views : List TaskView) (said : Answers) (s : State) (i : ℕ) → u ≡ after said s i → tally_state old ≡ tally_of views (lines_of said s i) → tally_state new ≡ tally_of views (lines_of said s (i + k)))
+pub counts_on : {E : Type 0} (r : Result ℕ E) (u : State) (old new : TallyState)
+    → IfOk r (λ k. (views : List TaskView) (said : Answers) (s : State) (i : ℕ) → u ≡ after said s i → old ≡ tally_of views (lines_of said s i) → new ≡ tally_of views (lines_of said s (i + k)))
     → IfOk r (λ k. (first now : SinkLog) (said : Answers) (s : State) (i : ℕ) → u ≡ after said s i → CountsLines old first now said s i → CountsLines new first now said s (i + k))
 counts_on (Err e) u old new adds = tt
 counts_on (Ok k) u old new adds = λ first now said s i here holds. (holds.0, adds (snapshot_of s.world).tasks said s i here holds.1)
 
 -- ---- the end of a run
-module _ (shelf : Shelf) (s t : State) (n : ℕ) (old new : Option (List Request)) (tally : Tally) (first now : SinkLog) (end : RunEnd)
+module _ (shelf : Shelf) (s t : State) (n : ℕ) (old new : Option (List Request)) (tally : TallyState) (first now : SinkLog) (end : RunEnd)
     (ran : Told (IsTold (CountsLines tally first now) (λ said u k. ⊥) end s) shelf s n t old new) where
   none_lost : ran.end ≢ ends.WriteFault
   none_lost e = lost_if (CountsLines tally first now) (λ said u k. ⊥) ran.said s ran.k ran.end e ran.tells.1
@@ -113,8 +110,8 @@ module _ (shelf : Shelf) (s t : State) (n : ℕ) (old new : Option (List Request
   none_put = counted.0
 
   -- and its figures
-  pub summed_up : (summary : Summary) (time steps : ℕ) → time ≡ t.time → steps ≡ t.steps
-      → ((views : List TaskView) (lines : List Line) → tally_state tally ≡ tally_of views lines → summary_state summary ≡ summary_of views lines time steps)
+  pub summed_up : (summary : SummaryState) (time steps : ℕ) → time ≡ t.time → steps ≡ t.steps
+      → ((views : List TaskView) (lines : List Line) → tally ≡ tally_of views lines → summary ≡ summary_of views lines time steps)
       → Told (IsSummedUp end summary s) shelf s n t old new
   summed_up summary time steps time_is steps_are sums =
       let views = (snapshot_of s.world).tasks in
@@ -132,9 +129,9 @@ module _ (shelf : Shelf) (s t : State) (n : ℕ) (old new : Option (List Request
         );
       }
 
-module _ (shelf : Shelf) (s t : State) (n : ℕ) (old new : Option (List Request)) (summary : Summary) (end result : RunEnd) (ran : Told (IsSummedUp end summary s) shelf s n t old new) where
+module _ (shelf : Shelf) (s t : State) (n : ℕ) (old new : Option (List Request)) (summary : SummaryState) (end result : RunEnd) (ran : Told (IsSummedUp end summary s) shelf s n t old new) where
   -- its figures were put as JSON, or that put failed
-  pub summary_told : (text : List ℕ) (first now last : Option (List ℕ)) → now ≡ first → IsTextOf text (summary_data (summary_state summary)) → IsPutOf text result end now last → Told (TellsSummary result s first last) shelf s n t old new
+  pub summary_told : (text : List ℕ) (first now last : Option (List ℕ)) → now ≡ first → IsTextOf text (summary_data summary) → IsPutOf text result end now last → Told (TellsSummary result s first last) shelf s n t old new
   summary_told text first now last same is put = record {
     said = ran.said;
     k = ran.k;
@@ -148,14 +145,14 @@ module _ (shelf : Shelf) (s t : State) (n : ℕ) (old new : Option (List Request
   }
 
   -- they are left
-  pub table_told : (product : Product) → product ≡ products.Table summary → (result ≡ end) ⊎ (result ≡ ends.WriteFault) → Told (TellsTable product result s) shelf s n t old new
-  table_told product is put = record {
+  pub table_told : (product : Product) → HasSummary product summary → (result ≡ end) ⊎ (result ≡ ends.WriteFault) → Told (TellsTable product result s) shelf s n t old new
+  table_told product has put = record {
     said = ran.said;
     k = ran.k;
     end = ran.end;
     made = ran.made;
     tells = (
       subst (λ e. (result ≡ e) ⊎ (result ≡ ends.WriteFault)) ran.tells.0 put,
-      subst (λ p. HasSummary p (run_summary ran.said s ran.k)) (sym is) ran.tells.1,
+      subst (HasSummary product) ran.tells.1 has,
     );
   }

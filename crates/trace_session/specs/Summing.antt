@@ -8,9 +8,7 @@ use Rattle.board_trace.specs.Runs.{lines_of}
 use Rattle.board_trace.specs.Snapshots.{snapshot_of}
 use Rattle.trace_state.specs.Board.{IsTextOf}
 use Rattle.trace_summary.specs.Data.{summary_data}
-use Rattle.trace_summary.specs.Summaries.{SummaryState, summary_of, summary_state, tally_of, tally_state}
-use Rattle.trace_summary.specs.declared.summary.Summary.{Summary}
-use Rattle.trace_summary.specs.declared.tally.Tally.{Tally}
+use Rattle.trace_summary.specs.Summaries.{SummaryState, TallyState, summary_of, summary_state, tally_of}
 use Rattle.trace_session.specs.Traced.{IsPutAfter, IsPutOf}
 use Rattle.trace_session.specs.declared.traced.Product.{Product}
 use Rattle.trace_session.specs.declared.traced.Product.TheVariants as products
@@ -20,12 +18,12 @@ abbrev pub run_summary : Answers → State → ℕ → SummaryState
 run_summary said s k = summary_of (snapshot_of s.world).tasks (lines_of said s k) (after said s k).time (after said s k).steps
 
 -- nothing was put, and what was counted is that of the lines of the first k steps
-abbrev pub CountsLines : Tally → SinkLog → SinkLog → Answers → State → ℕ → Type 0
-CountsLines tally first now said s k = (now ≡ first) × (tally_state tally ≡ tally_of (snapshot_of s.world).tasks (lines_of said s k))
+abbrev pub CountsLines : TallyState → SinkLog → SinkLog → Answers → State → ℕ → Type 0
+CountsLines tally first now said s k = (now ≡ first) × (tally ≡ tally_of (snapshot_of s.world).tasks (lines_of said s k))
 
 -- the run ended like this, and this is its summary
-abbrev pub IsSummedUp : RunEnd → Summary → State → Answers → ℕ → RunEnd → Type 0
-IsSummedUp result summary s said k end = (result ≡ end) × (summary_state summary ≡ run_summary said s k)
+abbrev pub IsSummedUp : RunEnd → SummaryState → State → Answers → ℕ → RunEnd → Type 0
+IsSummedUp result summary s said k end = (result ≡ end) × (summary ≡ run_summary said s k)
 
 -- the summary was put as JSON
 abbrev pub TellsSummary : RunEnd → State → Option (List ℕ) → Option (List ℕ) → Answers → ℕ → RunEnd → Type 0

@@ -1,6 +1,6 @@
 //! A run, told as its figures.
 
-ghost use Rattle.std.specs.Prelude.{◌≡◌, ◌≢◌, ◌≤◌, ◌+◌, ℕ, IfOk, OnErr, OnOk};
+ghost use Rattle.std.specs.Prelude.{◌≡◌, ◌≢◌, ◌≤◌, ◌+◌, ℕ, List, IfOk, OnErr, OnOk};
 ghost use Rattle.wind_base.specs.Limits.{most_steps};
 ghost use Rattle.wind_outside.specs.Counts.{Rose};
 ghost use Rattle.wind_machine.specs.{State.State, Run.{Answers, after}, Silent.SilentSteps};
@@ -9,7 +9,7 @@ ghost use Rattle.wind_session.specs.BoardPlayerSeen.{seen};
 ghost use Rattle.wind_session.specs.declared.run.RunEnd.TheVariants as ends;
 ghost use Rattle.board_changes.specs.declared.view.TaskView.{TaskView};
 ghost use Rattle.board_trace.specs.{Runs.lines_of, Snapshots.snapshot_of, Views.snapshot_state};
-ghost use Rattle.trace_summary.specs.Summaries.{tally_of, tally_state};
+ghost use Rattle.trace_summary.specs.Summaries.{summary_state, tally_of, tally_state};
 ghost use Rattle.trace_session.specs.Summing.{IsSummedUp, TellsSummary, TellsTable};
 ghost use Rattle.trace_session.specs.Traced.{Alone, TellsNothing};
 
@@ -62,6 +62,7 @@ fn burst(board: &mut Board, counter: &mut Counter, most: u64) -> Result<u64, NoM
 impl Teller for Counter {
     ghost use Rattle.std.specs.Prelude.{◌≡◌};
     ghost use Rattle.board_trace.specs.{Before.before_step, Snapshots.snapshot_of, Views.snapshot_state};
+    ghost use Rattle.trace_summary.specs.Summaries.{tally_state};
     ghost use Rattle.trace_session.specs.Summing.{CountsLines};
 
     type Before = BeforeStep;
@@ -74,7 +75,7 @@ impl Teller for Counter {
 
     ghost reads = { λ before s. before ≡ before_step s };
 
-    ghost tells = { λ c. CountsLines c.tally };
+    ghost tells = { λ c. CountsLines (tally_state c.tally) };
 
     ghost lost = { λ scope first now said s k. ⊥ };
 
@@ -126,7 +127,7 @@ fn sum_up<F: Folder, O: Sink>(
     requires fresh { (seen ⟦<dyn Device as Device>⟧ board.old).steps ≡ 0 }
     requires bound { limit ≤ most_steps }
     ensures told { IfOk result (λ r. Told
-        (IsSummedUp r.end r.summary (seen ⟦<dyn Device as Device>⟧ board.old))
+        (IsSummedUp r.end (summary_state r.summary) (seen ⟦<dyn Device as Device>⟧ board.old))
         (record { files = F.files folder.old; name = modules.now }) (seen ⟦<dyn Device as Device>⟧ board.old) limit
         (seen ⟦<dyn Device as Device>⟧ board.new) (F.requests folder.old) (F.requests folder.new)) }
     ensures bytes { OnOk result (O.bytes out.new ≡ O.bytes out.old) }
