@@ -43,7 +43,8 @@ CHOICES = [
 ]
 # Options that are refused.
 REFUSED = [("--from", "0"), ("--to", "x"), ("--tasks", ""), ("--tasks", "1,,2"), ("--kinds", "none"),
-           ("--as", "state", "--from", "2"), ("--as", "coverage", "--tasks", "1"), ("--as", "none")]
+           ("--as", "state", "--from", "2"), ("--as", "coverage", "--tasks", "1"),
+           ("--as", "summary", "--from", "2"), ("--as", "summary-json", "--tasks", "1"), ("--as", "none")]
 # Kinds of a timeline, and the classes of its rectangles.
 SHOWN = {
     "runs": {b"running", b"ready"}, "waits": {b"waiting", b"sleeping"}, "tasks": {b"suspended"},
@@ -51,6 +52,24 @@ SHOWN = {
 }
 RECTANGLE = re.compile(rb'<rect class="(\w+)"[^>]*><title>([^<]*), (\d+) to (\d+)</title>')
 LINE = re.compile(rb"^ *\d+ +(\d+)  (.{16})  (.*)$")
+# The figures of a session, worked out by hand: of the run, and of each task by its id.
+FIGURES = {
+    "inheritance": (
+        {"time": 54, "steps": 64, "ticks": 0, "calls": 8, "idle": 0},
+        {1: ("tShell", 7, 109, 3, 7, 0, 0), 3: ("t1", 1, 15, 2, 1, 0, 0)},
+    ),
+}
+# The kinds of lines that are counted, and how a line reads.
+COUNTED = {
+    "ticks": re.compile(rb"tick \d+$"),
+    "switches": re.compile(rb"runs( in place of \d+)?$"),
+    "calls": re.compile(rb"\w+\(.*\) (= .*|waits|ends its caller)$"),
+    "refusals": re.compile(rb"\w+\(.*\) = \S+ [A-Z_]+$"),
+    "exceptions": re.compile(rb"exception at "),
+    "instructions": re.compile(rb"(\d+) instructions?$"),
+    "idle": re.compile(rb"nobody is ready until (\d+)$"),
+}
+FIGURES_OF_TASK = ("steps", "share", "switches", "calls", "refusals", "exceptions")
 LINE_START = re.compile(rb"^ *(\d+) +(\d+)  ")
 WRITES = re.compile(rb'^ *\d+ +\d+  .{16}  writes "(.*)"$')
 ESCAPED = re.compile(rb"\\x([0-9a-f]{2})")
@@ -163,6 +182,56 @@ def pictures(session, windtrace):
             yield f"the timeline of steps 5 to 40 has {int(since)} to {int(until)}"
 
 
+def counted(lines, kind):
+    """How many of some lines are of a kind; of those that have a number, the sum."""
+    found = [COUNTED[kind].match(what) for _, what in lines]
+    return sum(int(it[1]) if kind in ("instructions", "idle") else 1 for it in found if it)
+
+
+def figures(session, windtrace, summary):
+    """The figures of a session that aren't those of its events."""
+    lines = [(LINE_START.match(line), line) for line in run(windtrace, session)[1].split(b"\n")[:-1]]
+    lines = [(int(it[1]), line[it.end():][:16], line[it.end() + 18:]) for it, line in lines if it]
+    ids = {int(it[0]) for it in (re.match(rb"\d+", who) for _, who, _ in lines) if it}
+    lines = [(time, who, what) for time, who, what in lines if not what.startswith(b"writes ")]
+    texts = [(who, what) for _, who, what in lines]
+    idle = counted(texts, "idle") - sum(time for time, _, what in lines if COUNTED["idle"].match(what))
+    run_figures = {"ticks": counted(texts, "ticks"), "calls": counted(texts, "calls"), "idle": idle}
+    for name, number in run_figures.items():
+        if summary[name] != number:
+            yield f"{name} is {summary[name]}, and {number} by the events"
+    if {task["id"] for task in summary["tasks"]} != ids:
+        yield "the summary has other tasks than the events"
+    for task in summary["tasks"]:
+        mine = [it for it in texts if re.match(rb"%d " % task["id"], it[0])]
+        numbers = {name: counted(mine, name) for name in ("switches", "calls", "refusals", "exceptions")}
+        numbers["steps"] = counted(mine, "instructions") + numbers["calls"] + numbers["exceptions"]
+        numbers["share"] = numbers["steps"] * 1000 // summary["steps"]
+        for name, number in numbers.items():
+            if task[name] != number:
+                yield f"{name} of {task['name']} is {task[name]}, and {number} by the events"
+
+
+def summaries(session, windtrace):
+    """What is wrong with the summaries of a session."""
+    summary = json.loads(run(windtrace, session, "--as", "summary-json")[1])
+    yield from figures(session, windtrace, summary)
+    if session.name in FIGURES:
+        of_run, of_tasks = FIGURES[session.name]
+        tasks = {task["id"]: (task["name"], *(task[name] for name in FIGURES_OF_TASK)) for task in summary["tasks"]}
+        if any(summary[name] != number for name, number in of_run.items()) or tasks != of_tasks:
+            yield "the summary is another one than by hand"
+    table = run(windtrace, session, "--as", "summary")[1].split(b"\n")
+    rows = [row.split(None, len(FIGURES_OF_TASK)) for row in table[2:-1]]
+    wanted = [[*((f"{task[name] // 10}.{task[name] % 10}%" if name == "share" else str(task[name])).encode()
+                 for name in FIGURES_OF_TASK), f"{task['id']} {task['name']}".encode()] for task in summary["tasks"]]
+    if rows != wanted:
+        yield "the table has other rows than the summary"
+    head = ", ".join(f"{name} {summary[name]}" for name in ("time", "steps", "ticks", "calls", "idle"))
+    if table[0] != head.encode():
+        yield f"the table begins with {table[0]}"
+
+
 def missing(windtrace):
     """The consoles whose trace doesn't have its line."""
     for console, ticks, wanted in LINES:
@@ -180,7 +249,8 @@ def main():
     sessions = sorted(it.parent for it in folder.glob("*/stdout"))
     wrong = 0
     for session in sessions:
-        found = [*faults(session, windtrace, windplay), *choices(session, windtrace), *pictures(session, windtrace)]
+        found = [*faults(session, windtrace, windplay), *choices(session, windtrace), *pictures(session, windtrace),
+                 *summaries(session, windtrace)]
         wrong += bool(found)
         for fault in found:
             print(f"{session.name}: {fault}")

@@ -63,7 +63,7 @@ added is_line c b before after hs i h given made page name below at name_is ends
     subst (Ends is_line given page) (one_more c (line_of b before after) hs i h made below at) (subst P name_is ends)
 
 -- ---- everything
-all_in : (s t : State) (hs : List Happening) → filter (is_chosen everything) (map (line_in s t) hs) ≡ map (line_in s t) hs
+pub all_in : (s t : State) (hs : List Happening) → filter (is_chosen everything) (map (line_in s t) hs) ≡ map (line_in s t) hs
 all_in s t [] = refl
 all_in s t (h ∷ hs) =
     let rest = filter (is_chosen everything) (map (line_in s t) hs) in

@@ -10,7 +10,7 @@ use Rattle.trace_session.specs.Choice.{ChoiceState, everything}
 use Rattle.trace_session.specs.Kinds.{kind_named}
 use Rattle.trace_session.specs.declared.choice.Kind.{Kind}
 use Rattle.trace_session.specs.declared.forms.Form.{Form}
-use Rattle.trace_session.specs.declared.forms.Form.TheVariants.{Events, JsonLines, Timeline, State, Coverage}
+use Rattle.trace_session.specs.declared.forms.Form.TheVariants.{Events, JsonLines, Timeline, State, Coverage, Summary, SummaryJson}
 
 -- a command: the form in which a session is told, what is told of it, and the session
 pub record TraceState : Type 0 where
@@ -26,6 +26,8 @@ form_named name =
     else if bytes_eq name (codes "timeline") then Some Timeline
     else if bytes_eq name (codes "state") then Some State
     else if bytes_eq name (codes "coverage") then Some Coverage
+    else if bytes_eq name (codes "summary") then Some Summary
+    else if bytes_eq name (codes "summary-json") then Some SummaryJson
     else None
 
 -- ---- what is told
@@ -97,6 +99,8 @@ has_choice JsonLines = true
 has_choice Timeline = true
 has_choice State = false
 has_choice Coverage = false
+has_choice Summary = false
+has_choice SummaryJson = false
 
 -- other forms are told of everything
 abbrev pub choice_for : Form → List Row → Option ChoiceState

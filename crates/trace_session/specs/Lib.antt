@@ -8,6 +8,7 @@ pub mod Shown
 pub mod Spans
 pub mod Steps
 pub mod Traced
+pub mod Summing
 pub mod Command
 pub mod Headline
 pub mod Program

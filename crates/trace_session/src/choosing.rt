@@ -204,7 +204,7 @@ fn has_choice(form: Form) -> bool
 {
     match form {
         Form::Events | Form::JsonLines | Form::Timeline => true,
-        Form::State | Form::Coverage => false,
+        Form::State | Form::Coverage | Form::Summary | Form::SummaryJson => false,
     }
 }
 

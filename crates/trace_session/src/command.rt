@@ -32,7 +32,8 @@ pub struct TraceCommand<'a> {
 pub(crate) const PROGRAM: &str = "windtrace";
 
 // The message for an invalid form.
-const BAD_FORM: &str = "'--as <FORM>' takes events, json-lines, timeline, state or coverage";
+const BAD_FORM: &str =
+    "'--as <FORM>' takes events, json-lines, timeline, state, coverage, summary or summary-json";
 
 // The form with this name.
 fn form_named(name: &str) -> Option<Form>
@@ -44,6 +45,8 @@ fn form_named(name: &str) -> Option<Form>
         "timeline" => Some(Form::Timeline),
         "state" => Some(Form::State),
         "coverage" => Some(Form::Coverage),
+        "summary" => Some(Form::Summary),
+        "summary-json" => Some(Form::SummaryJson),
         _ => None,
     }
 }
@@ -59,7 +62,7 @@ fn app<'a>(alloc: Global) -> Result<clap::Command<'a>, AllocError>
         "as",
         "FORM",
         "events",
-        "What is told: events, json-lines, timeline, state or coverage",
+        "What is told: events, json-lines, timeline, state, coverage, summary or summary-json",
     );
     let command = command_line(alloc, PROGRAM, about).arg(form)?;
     let command = with_choice_options(alloc, command)?;

@@ -13,6 +13,7 @@ use crate::choice::Choice;
 use crate::coverage::tell_coverage;
 use crate::lines::{tell_events, tell_objects};
 use crate::state::show_state;
+use crate::summary::{tell_summary, tell_table};
 use crate::timeline::draw_timeline;
 use crate::traced::TracedRun;
 use std::alloc::Global;
@@ -33,6 +34,10 @@ pub enum Form {
     State,
     /// The words of modules that were executed.
     Coverage,
+    /// A table of figures.
+    Summary,
+    /// The figures as JSON.
+    SummaryJson,
 }
 
 /// Makes steps, at most `limit`, and puts what happened in them in this form. Of events and spans
@@ -73,5 +78,7 @@ pub fn trace_board<F: Folder, O: Sink>(
         Form::Timeline => draw_timeline(alloc, choice, board, folder, modules, out, limit),
         Form::State => show_state(alloc, board, folder, modules, out, limit),
         Form::Coverage => tell_coverage(alloc, board, folder, modules, out, limit),
+        Form::Summary => tell_table(alloc, board, folder, modules, out, limit),
+        Form::SummaryJson => tell_summary(alloc, board, folder, modules, out, limit),
     }
 }

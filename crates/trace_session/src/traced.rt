@@ -4,6 +4,7 @@ ghost use Rattle.std.specs.Prelude.{◌≡◌};
 ghost use Rattle.trace_session.specs.declared.traced.Product.TheVariants as products;
 
 use crate::shown::ShownAreas;
+use trace_summary::Summary;
 use wind_session::RunEnd;
 
 /// What a form leaves besides the text that it puts.
@@ -13,6 +14,8 @@ pub enum Product {
     Text,
     /// The areas of the picture.
     Picture(ShownAreas),
+    /// The figures of the table.
+    Table(Summary),
 }
 
 /// A run that was told.

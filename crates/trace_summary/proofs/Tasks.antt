@@ -1,0 +1,84 @@
+-- The tasks of a run after one more line.
+use Rattle.std.proofs.Common.{◌≡◌, ℕ, ◌+◌, Bool, true, false, if◌then◌else◌, List, [], ◌∷◌, ◌++◌, Option, None, Some, refl, sym, ap, ap₂, ◌∙◌}
+use Rattle.std.specs.Prelude.{◌||◌, ◌==◌}
+use Rattle.std.specs.List.{list_any}
+use Rattle.std.proofs.lemmas.Bool.{eqb-true, eq-eqb, or_left, or_parts, or_right}
+use Rattle.board_changes.specs.declared.view.TaskView.{TaskView}
+use Rattle.board_trace.specs.Runs.{Line, joined, joined_or, with_line}
+use Rattle.board_trace.specs.Subjects.{subject_of}
+use Rattle.board_trace.specs.declared.happening.Happening.{Happening}
+use Rattle.board_trace.specs.declared.who.Subject.{Subject}
+use Rattle.board_trace.specs.declared.who.Subject.TheVariants as subjects
+use Rattle.trace_summary.specs.Figures.{is_task, part_of, sum_over}
+use Rattle.trace_summary.specs.Summaries.{Known, tasks_in, with_known, with_subject}
+use Rattle.trace_summary.proofs.Joining.{joined_subject}
+
+-- a task with this id is among these
+abbrev pub is_among : ℕ → List Known → Bool
+is_among id ts = list_any (λ t. t.id == id) ts
+
+-- ---- one task more
+end_among : (id : ℕ) (ts : List Known) (k : Known) → (k.id == id) ≡ true → is_among id (ts ++ k ∷ []) ≡ true
+end_among id [] k e = or_left (k.id == id) false e
+end_among id (t ∷ ts) k e = or_right (t.id == id) (is_among id (ts ++ k ∷ [])) (end_among id ts k e)
+
+not_at_end : (id : ℕ) (ts : List Known) (k : Known) → is_among id (ts ++ k ∷ []) ≡ false → (is_among id ts ≡ false) × ((k.id == id) ≡ false)
+not_at_end id [] k e = (refl, (or_parts (k.id == id) false e).0)
+not_at_end id (t ∷ ts) k e =
+    let p = or_parts (t.id == id) (is_among id (ts ++ k ∷ [])) e in
+    let q = not_at_end id ts k p.1 in
+    (ap₂ (λ a b. a || b) p.0 q.0, q.1)
+
+-- it is among them then
+known_among : (b : Bool) (id : ℕ) (name : List ℕ) (ts : List Known) → is_among id ts ≡ b → is_among id (if b then ts else ts ++ record { id = id; name = name } ∷ []) ≡ true
+known_among true id name ts is = is
+known_among false id name ts is = end_among id ts (record { id = id; name = name }) (eq-eqb id id refl)
+
+-- what isn't among them then is another, and wasn't there before
+differs : (b : Bool) (id who : ℕ) (ts : List Known) → is_among who ts ≡ true → is_among id ts ≡ false → (who == id) ≡ b → (who == id) ≡ false
+differs false id who ts here gone is = is
+differs true id who ts here gone is =
+    let bad : true ≡ false = sym here ∙ ap (λ n. is_among n ts) (eqb-true who id is) ∙ gone in
+    absurd (cc)
+
+not_known : (b : Bool) (id who : ℕ) (name : List ℕ) (ts : List Known) → is_among who ts ≡ b → is_among id (if b then ts else ts ++ record { id = who; name = name } ∷ []) ≡ false
+    → (is_among id ts ≡ false) × ((who == id) ≡ false)
+not_known true id who name ts is e = (e, differs (who == id) id who ts is e refl)
+not_known false id who name ts is e = not_at_end id ts (record { id = who; name = name }) e
+
+not_there : (id : ℕ) (who : Subject) (name : List ℕ) (ts : List Known) → is_among id (with_subject who name ts) ≡ false → (is_among id ts ≡ false) × (is_task id who ≡ false)
+not_there id (subjects.Task w) name ts e = not_known (is_among w ts) id w name ts refl e
+not_there id subjects.Board name ts e = (e, refl)
+not_there id subjects.Interrupt name ts e = (e, refl)
+
+-- no line tells of a task that isn't among them
+pub untold : (f : Happening → ℕ) (id : ℕ) (views : List TaskView) (lines : List Line) → is_among id (tasks_in views lines) ≡ false → sum_over (part_of id f) lines ≡ 0
+untold f id views [] e = refl
+untold f id views (l ∷ older) e =
+    let p = not_there id (subject_of l.what) l.name (tasks_in views older) e in
+    ap₂ (λ b n. (if b then f l.what else 0) + n) p.1 (untold f id views older p.0)
+
+-- ---- one line more
+-- a task that was added is there
+again : (who : Subject) (name other : List ℕ) (ts : List Known) → with_subject who other (with_subject who name ts) ≡ with_subject who name ts
+again (subjects.Task w) name other ts =
+    let made = with_known w name ts in
+    ap (λ b. if b then made else made ++ record { id = w; name = other } ∷ []) (known_among (is_among w ts) w name ts refl)
+again subjects.Board name other ts = refl
+again subjects.Interrupt name other ts = refl
+
+module _ (views : List TaskView) (l newest : Line) (older : List Line) where
+  tasks_or : (j : Option Happening) → ((x : Happening) → j ≡ Some x → (subject_of x ≡ subject_of newest.what) × (subject_of l.what ≡ subject_of newest.what))
+      → tasks_in views (joined_or j l newest older) ≡ with_subject (subject_of l.what) l.name (tasks_in views (newest ∷ older))
+  tasks_or None is = refl
+  tasks_or (Some x) is =
+      let s = is x refl in
+      let who = subject_of newest.what in
+      let before = tasks_in views older in
+      ap (λ w. with_subject w newest.name before) s.0
+      ∙ sym (again who newest.name l.name before)
+      ∙ ap (λ w. with_subject w l.name (with_subject who newest.name before)) (sym s.1)
+
+pub tasks_line : (views : List TaskView) (l : Line) (made : List Line) → tasks_in views (with_line l made) ≡ with_subject (subject_of l.what) l.name (tasks_in views made)
+tasks_line views l [] = refl
+tasks_line views l (newest ∷ older) = tasks_or views l newest older (joined newest.what l.what) (joined_subject newest.what l.what)

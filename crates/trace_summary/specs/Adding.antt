@@ -1,0 +1,63 @@
+-- What one line adds to the figures of a run.
+use Rattle.std.specs.Prelude.{ℕ, ◌+◌, ◌-◌, ◌^◌, ◌==◌, min, if◌then◌else◌, List, [], ◌∷◌, ◌++◌, map}
+use Rattle.std.specs.List.{list_any}
+use Rattle.board_changes.specs.declared.view.TaskView.{TaskView}
+use Rattle.board_trace.specs.Subjects.{subject_of}
+use Rattle.board_trace.specs.declared.happening.Happening.{Happening}
+use Rattle.board_trace.specs.declared.who.Subject.{Subject}
+use Rattle.board_trace.specs.declared.who.Subject.TheVariants as subjects
+use Rattle.trace_summary.specs.Figures.{calls_in, exceptions_in, idle_in, refusals_in, steps_in, switches_in, ticks_in}
+use Rattle.trace_summary.specs.Summaries.{TallyState}
+use Rattle.trace_summary.specs.declared.counts.TaskCounts.{TaskCounts}
+use Rattle.trace_summary.specs.declared.summary.TaskSummary.{TaskSummary}
+
+-- ---- the figures of a task
+-- nothing was counted
+abbrev pub none : TaskCounts
+none = record { steps = 0; switches = 0; calls = 0; refusals = 0; exceptions = 0 }
+
+-- what a happening adds for the task that it is told of
+abbrev pub counts_in : Happening → TaskCounts
+counts_in h = record { steps = steps_in h; switches = switches_in h; calls = calls_in h; refusals = refusals_in h; exceptions = exceptions_in h }
+
+-- the sum of two numbers, at most 2^64 - 1
+abbrev pub sum_of : ℕ → ℕ → ℕ
+sum_of m n = min (m + n) (2 ^ 64 - 1)
+
+abbrev pub plus : TaskCounts → TaskCounts → TaskCounts
+plus c more = record {
+  steps = sum_of c.steps more.steps;
+  switches = sum_of c.switches more.switches;
+  calls = sum_of c.calls more.calls;
+  refusals = sum_of c.refusals more.refusals;
+  exceptions = sum_of c.exceptions more.exceptions;
+}
+
+-- ---- tasks
+-- a task that lives when the run begins
+abbrev pub opening_task : TaskView → TaskSummary
+opening_task v = record { id = v.id; name = v.name; counts = none }
+
+-- adds a task, unless it is among these
+abbrev pub with_task : ℕ → List ℕ → List TaskSummary → List TaskSummary
+with_task id name ts = if list_any (λ t. t.id == id) ts then ts else ts ++ record { id = id; name = name; counts = none } ∷ []
+
+-- adds these numbers if it is the task with this id
+abbrev pub added : ℕ → TaskCounts → TaskSummary → TaskSummary
+added id more t = if id == t.id then record t { counts = plus t.counts more } else t
+
+-- adds them to those of the task that a line tells of
+abbrev pub with_counts : Subject → List ℕ → TaskCounts → List TaskSummary → List TaskSummary
+with_counts (subjects.Task id) name more ts = map (added id more) (with_task id name ts)
+with_counts subjects.Board name more ts = ts
+with_counts subjects.Interrupt name more ts = ts
+
+-- ---- a line
+-- the figures after a line that tells of what happens in a step that begins at this time, with the name of its task
+abbrev pub noted : ℕ → List ℕ → Happening → TallyState → TallyState
+noted time name h t = record {
+  ticks = sum_of t.ticks (ticks_in h);
+  calls = sum_of t.calls (calls_in h);
+  idle = sum_of t.idle (idle_in time h);
+  tasks = with_counts (subject_of h) name (counts_in h) t.tasks;
+}
