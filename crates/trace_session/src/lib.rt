@@ -5,8 +5,8 @@
 mod choice;
 mod choosing;
 mod command;
-mod coverage;
 mod counter;
+mod coverage;
 mod ending;
 mod events;
 mod forms;
