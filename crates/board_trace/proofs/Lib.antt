@@ -5,3 +5,4 @@ mod Replaying
 mod Observing
 pub mod Parts
 mod Timing
+mod Trapping

@@ -13,6 +13,7 @@ pub mod Steps
 pub mod Subjects
 pub mod Runs
 pub mod Laws
+pub mod Traps
 pub mod Running
 pub mod Observed
 pub use Rattle.wind_machine.specs.Silent as WindMachineSilent

@@ -2,6 +2,7 @@
 
 ghost use Rattle.board_trace.specs.Laws.{ReplyLaw, ErrorLaw, StepReplayLaw, TimeLaw, WaitEndLaw};
 ghost use Rattle.board_trace.specs.Observed.{RunOneRunsLaw, RunTilingLaw};
+ghost use Rattle.board_trace.specs.Traps.{CauseLaw};
 
 use board_changes::spans_law;
 use wind_machine::{extend_law, run_law, step_law};
@@ -32,6 +33,13 @@ pub fn step_replay_law()
 {
     step_law();
 }
+
+/// The law of causes: in each step, from a state with the invariant, in which a task or routine
+/// executes a word and the machine traps, the cause that is told is that trap, with its word and its
+/// data address.
+pub fn cause_law()
+    ensures { CauseLaw }
+{}
 
 /// The law of time: along the lines of a run, board time never decreases.
 pub fn time_law()

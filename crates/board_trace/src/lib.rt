@@ -20,7 +20,9 @@ mod who;
 pub use cause::Cause;
 pub use errors::errno_named;
 pub use happening::Happening;
-pub use laws::{error_law, reply_law, run_spans_law, step_replay_law, time_law, wait_end_law};
+pub use laws::{
+    cause_law, error_law, reply_law, run_spans_law, step_replay_law, time_law, wait_end_law,
+};
 pub use moment::{AfterStep, BeforeStep, Level, mutex_of};
 pub use snapshot::{Snapshot, view_of};
 pub use step::{StepViews, add_happenings, is_instruction};

@@ -1,8 +1,7 @@
 //! A picture as a list of areas.
 
-ghost use Rattle.std.specs.Prelude.{◌≡◌, ◌++◌, ◌∷◌, [], OnOk};
-ghost use Rattle.trace_picture.specs.Areas.{area_of as area_of_lem, band_of as band_of_lem};
-ghost use Rattle.trace_picture.specs.declared.areas.AreaKind.TheVariants as kinds;
+ghost use Rattle.std.specs.Prelude.{◌≡◌, ◌++◌, ◌∷◌, [], IfOk, OnOk};
+ghost use Rattle.trace_picture.specs.Areas.{area_of, areas_of as areas_of_lem, areas_of_span};
 
 use crate::list::push;
 use board_changes::{Awaited, Look, Span};
@@ -51,27 +50,6 @@ impl Model for Areas {
 }
 
 impl Areas {
-    /// No areas.
-    pub fn new(alloc: Global) -> Areas
-        ensures { result ≡ [] }
-    {
-        Areas {
-            list: Vec::new(alloc),
-        }
-    }
-
-    /// Adds an area at the end.
-    pub fn add(&mut self, area: Area) -> Result<(), NoMemory>
-        ensures { OnOk result (self.new ≡ self.old ++ area ∷ []) }
-    {
-        let object: Option<Awaited> = area.title.object;
-        let title = Look {
-            object,
-            ..area.title
-        };
-        push(&mut self.list, Area { title, ..area })
-    }
-
     /// The areas, in the order in which their spans ended.
     pub fn list(&self) -> &[Area]
         ensures { result.now ≡ self.now }
@@ -80,12 +58,12 @@ impl Areas {
     }
 }
 
-// The area of this kind that a span has.
-fn area_of(kind: AreaKind, span: &Span) -> Area
-    ensures { result ≡ area_of_lem kind span.now }
+// Adds the area of this kind that a span has.
+fn add_area(areas: &mut Vec<Area>, kind: AreaKind, span: &Span) -> Result<(), NoMemory>
+    ensures { OnOk result (areas.new.items ≡ areas.old.items ++ area_of kind span.now ∷ []) }
 {
     let object: Option<Awaited> = span.look.object;
-    Area {
+    let area = Area {
         row: span.who,
         from: span.from,
         to: span.to,
@@ -94,22 +72,28 @@ fn area_of(kind: AreaKind, span: &Span) -> Area
             object,
             ..span.look
         },
-    }
+    };
+    push(areas, area)
 }
 
-/// The bar of a span.
-pub fn bar_of(span: &Span) -> Area
-    ensures { result ≡ area_of_lem kinds.Bar span.now }
+// Adds the areas of a span: a bar, and a band if the task inherits a priority.
+fn add_span(areas: &mut Vec<Area>, span: &Span) -> Result<(), NoMemory>
+    ensures { OnOk result (areas.new.items ≡ areas.old.items ++ areas_of_span span.now) }
 {
-    area_of(AreaKind::Bar, span)
-}
-
-/// The band of a span, if its task inherits a priority.
-pub fn band_of(span: &Span) -> Option<Area>
-    ensures { result ≡ band_of_lem span.now }
-{
+    add_area(areas, AreaKind::Bar, span)?;
     if span.look.inherits {
-        return Some(area_of(AreaKind::Band, span));
+        return add_area(areas, AreaKind::Band, span);
     }
-    None
+    Ok(())
+}
+
+/// The areas of spans, in their order.
+pub fn areas_of(alloc: Global, spans: &[Span]) -> Result<Areas, NoMemory>
+    ensures { IfOk result (λ areas. areas ≡ areas_of_lem spans.now) }
+{
+    let mut list = Vec::new(alloc);
+    for span in spans {
+        add_span(&mut list, span)?;
+    }
+    Ok(Areas { list })
 }

@@ -5,7 +5,7 @@ pub mod LineLaws
 pub mod Lines
 pub mod Puts
 pub mod Seeing
-pub mod Shown
+pub mod Selecting
 pub mod SilentLines
 pub mod Telling
 mod CommandLemmas

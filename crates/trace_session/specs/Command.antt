@@ -7,8 +7,8 @@ use Rattle.clap.specs.Words.{App, Row, Text, new_app}
 use Rattle.wind_base.specs.Limits.{most_steps}
 use Rattle.wind_session.specs.Command.{CommandState, number_value, command_of_rows as session_of_rows, if_valid, rows_given, value_of, with_option, with_session_options}
 use Rattle.trace_session.specs.Choice.{ChoiceState, everything}
+use Rattle.trace_session.specs.Kinds.{kind_named}
 use Rattle.trace_session.specs.declared.choice.Kind.{Kind}
-use Rattle.trace_session.specs.declared.choice.Kind.TheVariants as kinds
 use Rattle.trace_session.specs.declared.forms.Form.{Form}
 use Rattle.trace_session.specs.declared.forms.Form.TheVariants.{Events, JsonLines, Timeline, State}
 
@@ -68,25 +68,6 @@ most_id = 4294967295
 -- the ids of tasks; none for everybody and the board
 abbrev pub tasks_value : Text → Option (Option (List ℕ))
 tasks_value text = if bytes_eq text (codes "all") then Some None else option_map Some (each (number_value most_id) (parts text))
-
--- the kind with this name
-abbrev pub kind_named : Text → Option Kind
-kind_named name =
-    if bytes_eq name (codes "outside") then Some kinds.Outside
-    else if bytes_eq name (codes "runs") then Some kinds.Runs
-    else if bytes_eq name (codes "calls") then Some kinds.Calls
-    else if bytes_eq name (codes "exceptions") then Some kinds.Exceptions
-    else if bytes_eq name (codes "owners") then Some kinds.Owners
-    else if bytes_eq name (codes "messages") then Some kinds.Messages
-    else if bytes_eq name (codes "waits") then Some kinds.Waits
-    else if bytes_eq name (codes "tasks") then Some kinds.Tasks
-    else if bytes_eq name (codes "priorities") then Some kinds.Priorities
-    else if bytes_eq name (codes "watchdogs") then Some kinds.Watchdogs
-    else if bytes_eq name (codes "modules") then Some kinds.Modules
-    else if bytes_eq name (codes "routines") then Some kinds.Routines
-    else if bytes_eq name (codes "output") then Some kinds.Output
-    else if bytes_eq name (codes "instructions") then Some kinds.Instructions
-    else None
 
 -- the kinds; none for all
 abbrev pub kinds_value : Text → Option (Option (List Kind))

@@ -1,6 +1,7 @@
 pub mod Bursts
 pub mod Choice
 pub mod Forms
+pub mod Kinds
 pub mod Laws
 pub mod Shown
 pub mod Spans

@@ -1,15 +1,17 @@
 //! The options of the command line that choose what is told.
 
-ghost use Rattle.std.specs.Prelude.{◌≡◌, ◌≢◌, ◌≤◌, IfOk, IfErr, IfSome, Some, None, map};
+ghost use Rattle.std.specs.Prelude.{◌≡◌, ◌≢◌, IfOk, IfErr, Some, None, map};
 ghost use Rattle.std.specs.Option.{option_map};
 ghost use Rattle.clap.specs.Words.{app_of, found_of, rows_of};
 ghost use Rattle.wind_session.specs.Command.{number_value};
 ghost use Rattle.wind_session.specs.declared.command.CommandErr.TheVariants as errors;
 ghost use Rattle.trace_session.specs.Choice.{choice_state};
-ghost use Rattle.trace_session.specs.Command.{choice_for as choice_for_lem, choice_of_rows, each, first_value, has_choice as has_choice_lem, has_defaults as has_defaults_lem, with_choice_options as with_choice_options_lem, kind_named as kind_named_lem, kinds_value, last_value, most_id, parts, step_of_number, step_value, tasks_value};
+ghost use Rattle.trace_session.specs.Command.{choice_for as choice_for_lem, choice_of_rows, each, first_value, has_choice as has_choice_lem, has_defaults as has_defaults_lem, with_choice_options as with_choice_options_lem, kinds_value, last_value, most_id, parts, step_of_number, step_value, tasks_value};
+ghost use Rattle.trace_session.specs.Kinds.{kind_named as kind_named_lem};
 
 use crate::choice::{Choice, Kind};
 use crate::forms::Form;
+use crate::kinds::{kind_named, kinds_message};
 use clap::ArgMatches;
 use std::alloc::{AllocError, Global};
 use wind_base::limits::STEPS;
@@ -24,11 +26,6 @@ const BAD_FROM: &str = "'--from <STEP>' takes a number from 1 to 1000000000000";
 const BAD_TO: &str = "'--to <STEP>' takes a number from 1 to 1000000000000";
 
 const BAD_TASKS: &str = "'--tasks <ID,..>' takes ids of tasks, separated by commas";
-
-const BAD_KINDS: &str = "\
-    '--kinds <KIND,..>' takes kinds, separated by commas: outside, runs, calls, exceptions, \
-    owners, messages, waits, tasks, priorities, watchdogs, modules, routines, output or \
-    instructions";
 
 const NO_CHOICE: &str = "this form takes none of --from, --to, --tasks and --kinds";
 
@@ -122,29 +119,6 @@ fn task_ids(alloc: Global, items: &[&str]) -> Result<Option<Vec<u32>>, AllocErro
     Ok(Some(ids))
 }
 
-// The kind with this name.
-fn kind_named(name: &str) -> Option<Kind>
-    ensures { result ≡ kind_named_lem name.now }
-{
-    match name {
-        "outside" => Some(Kind::Outside),
-        "runs" => Some(Kind::Runs),
-        "calls" => Some(Kind::Calls),
-        "exceptions" => Some(Kind::Exceptions),
-        "owners" => Some(Kind::Owners),
-        "messages" => Some(Kind::Messages),
-        "waits" => Some(Kind::Waits),
-        "tasks" => Some(Kind::Tasks),
-        "priorities" => Some(Kind::Priorities),
-        "watchdogs" => Some(Kind::Watchdogs),
-        "modules" => Some(Kind::Modules),
-        "routines" => Some(Kind::Routines),
-        "output" => Some(Kind::Output),
-        "instructions" => Some(Kind::Instructions),
-        _ => None,
-    }
-}
-
 // The kinds with these names; none if a name is unknown.
 fn kinds_named(alloc: Global, items: &[&str]) -> Result<Option<Vec<Kind>>, AllocError>
     ensures { IfOk result (λ kinds. option_map (λ v. v.items) kinds
@@ -204,7 +178,8 @@ fn choice_of(
     let tasks = tasks_of(alloc, value_of(matches, "tasks"))?;
     let tasks = valid(alloc, app, tasks, BAD_TASKS)?;
     let kinds = kinds_of(alloc, value_of(matches, "kinds"))?;
-    let kinds = valid(alloc, app, kinds, BAD_KINDS)?;
+    let message = kinds_message(alloc)?;
+    let kinds = valid(alloc, app, kinds, message.as_str())?;
     Ok(Choice {
         first,
         last,

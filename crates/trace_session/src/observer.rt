@@ -6,17 +6,16 @@ ghost use Rattle.board_trace.specs.Snapshots.{snapshot_of};
 ghost use Rattle.board_trace.specs.Views.{snapshot_state};
 ghost use Rattle.board_changes.specs.Spans.{closed};
 ghost use Rattle.trace_session.specs.Choice.{choice_state, is_step};
-ghost use Rattle.trace_session.specs.Shown.{shown_areas};
+ghost use Rattle.trace_session.specs.Shown.{shown_areas as shown_areas_lem};
 ghost use Rattle.trace_session.specs.Spans.{first_spans, looked_at, looked_by, looked_in, observed_in, opening_spans};
 
 use crate::choice::Choice;
 use crate::reader::StepReader;
 use crate::scene::{Moment, Scene};
-use crate::shown::add_spans;
+use crate::shown::{ShownAreas, shown_areas};
 use board_changes::Spans;
 use board_trace::{BeforeStep, is_instruction};
 use std::alloc::Global;
-use trace_picture::Areas;
 use trace_state::running_task;
 use wind_base::NoMemory;
 use wind_outside::Device;
@@ -54,9 +53,10 @@ impl<'a> Observer<'a> {
             spans: Spans::new(alloc),
             scene: Scene::new(alloc),
         };
-        if choice.has_step(board.steps() + 1) {
-            observer.open(board)?;
+        if !choice.has_step(board.steps() + 1) {
+            return Ok(observer);
         }
+        observer.open(board)?;
         Ok(observer)
     }
 
@@ -157,18 +157,19 @@ impl<'a> Observer<'a> {
         self.spans.close(end)
     }
 
-    /// The areas of the spans that have ended and are shown.
-    pub(crate) fn areas(&self) -> Result<Areas, NoMemory>
-        ensures { IfOk result (λ areas. areas ≡ shown_areas (choice_state self.now.choice.now) self.now.spans.done) }
+    /// Takes the areas of the spans that have ended and are shown. The spans are dropped, as the picture
+    /// needs no more of them.
+    pub(crate) fn take_areas(&mut self) -> Result<ShownAreas, NoMemory>
+        ensures { IfOk result (λ areas. areas
+            ≡ shown_areas_lem (choice_state self.old.choice.now) self.old.spans.done) }
     {
-        let mut areas = Areas::new(self.alloc);
-        add_spans(&mut areas, self.choice, self.spans.done())?;
+        let areas = shown_areas(self.alloc, self.choice, self.spans.done())?;
+        self.spans = Spans::new(self.alloc);
         Ok(areas)
     }
 
     /// Adds the picture with these areas.
-    pub(crate) fn draw(&mut self, text: &mut Vec<u8>, areas: &Areas) -> Result<(), NoMemory> {
-        self.scene.note_waits(self.choice, self.spans.done())?;
+    pub(crate) fn draw(&self, text: &mut Vec<u8>, areas: &ShownAreas) -> Result<(), NoMemory> {
         self.scene.draw(self.alloc, text, self.choice, areas.list())
     }
 }

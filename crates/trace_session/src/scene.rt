@@ -2,16 +2,20 @@
 //! and how long queues are.
 
 use crate::choice::{Choice, Kind as HappeningKind};
-use board_changes::{Awaited, Change, Span, TaskView};
+use board_changes::{Change, TaskView};
 use board_trace::{BeforeStep, Happening, Snapshot, Subject, view_of};
 use id_table::Ident;
 use kernel_world::Actor;
 use std::alloc::Global;
-use trace_picture::{
-    Area, Kind, Mark, Ownership, Picture, QueueLength, RowName, add_empty_picture, add_picture,
-};
+use trace_picture::{Area, Kind, Mark, Ownership, Picture, QueueLength, RowName, add_picture};
+use trace_text::add;
 use wind_base::NoMemory;
 use wind_session::Board;
+
+// The picture of no step.
+const EMPTY_PICTURE: &[u8] = b"\
+    <svg xmlns=\"http://www.w3.org/2000/svg\" version=\"1.1\" width=\"400\" height=\"60\">\n\
+    <text x=\"20\" y=\"35\">no step of the run is chosen</text>\n</svg>\n";
 
 /// What a picture needs of a run besides what the tasks did.
 #[derive(Drop)]
@@ -31,9 +35,6 @@ pub(crate) struct Scene {
     // the lengths of queues, and each queue with its length
     lengths: Vec<QueueLength>,
     queues: Vec<(u32, u32)>,
-    // the mutexes and queues that a task waited for
-    awaited_mutexes: Vec<u32>,
-    awaited_queues: Vec<u32>,
 }
 
 /// A moment after a step that is shown.
@@ -94,14 +95,6 @@ fn next_length(queues: &mut Vec<(u32, u32)>, queue: u32, is_more: bool) -> Resul
     Ok(entry.1)
 }
 
-// Adds an id to these, unless it is one of them.
-fn note_id(ids: &mut Vec<u32>, id: u32) -> Result<(), NoMemory> {
-    if ids.last() == Some(&id) || ids.contains(&id) {
-        return Ok(());
-    }
-    push(ids, id)
-}
-
 // These items if they are shown, else none.
 fn shown<T>(is_shown: bool, items: &[T]) -> &[T] {
     if is_shown { items } else { &items[..0] }
@@ -122,8 +115,6 @@ impl Scene {
             owned: Vec::new(alloc),
             lengths: Vec::new(alloc),
             queues: Vec::new(alloc),
-            awaited_mutexes: Vec::new(alloc),
-            awaited_queues: Vec::new(alloc),
         }
     }
 
@@ -251,27 +242,6 @@ impl Scene {
         Ok(())
     }
 
-    // Notes what a task waited for, if it is a mutex or a queue.
-    fn note_wait(&mut self, object: &Option<Awaited>) -> Result<(), NoMemory> {
-        match object {
-            Some(Awaited::Mutex(id)) => note_id(&mut self.awaited_mutexes, id.get()),
-            Some(Awaited::Receiving(id) | Awaited::Sending(id)) => {
-                note_id(&mut self.awaited_queues, id.get())
-            }
-            _ => Ok(()),
-        }
-    }
-
-    /// Notes what the tasks of a choice waited for in spans.
-    pub(crate) fn note_waits(&mut self, choice: &Choice, spans: &[Span]) -> Result<(), NoMemory> {
-        for span in spans {
-            if choice.has_subject(Subject::Task(span.who.get())) {
-                self.note_wait(&span.look.object)?;
-            }
-        }
-        Ok(())
-    }
-
     // The mutexes that are owned at the end are owned up to it.
     fn close_owned(&mut self, end: u128) -> Result<(), NoMemory> {
         for held in &self.owned {
@@ -302,7 +272,7 @@ impl Scene {
         areas: &[Area],
     ) -> Result<(), NoMemory> {
         let (Some(start), Some(end)) = (self.start, self.end) else {
-            return add_empty_picture(text);
+            return add(text, EMPTY_PICTURE);
         };
         let has_owners = choice.has_kind(HappeningKind::Owners);
         let has_messages = choice.has_kind(HappeningKind::Messages);
@@ -312,10 +282,8 @@ impl Scene {
             rows: &self.rows,
             areas,
             routines: shown(has_level, &self.routines),
-            owners: &self.owners,
-            lengths: &self.lengths,
-            mutexes: shown(has_owners, &self.awaited_mutexes),
-            queues: shown(has_messages, &self.awaited_queues),
+            owners: shown(has_owners, &self.owners),
+            lengths: shown(has_messages, &self.lengths),
             ticks: &self.ticks,
             marks: &self.marks,
             start,

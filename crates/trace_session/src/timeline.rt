@@ -102,7 +102,7 @@ pub(crate) fn draw_timeline<F: Folder, O: Sink>(
     let mut observer = Observer::new(alloc, choice, board)?;
     let end = tell_run(alloc, board, folder, modules, out, limit, &mut observer)?;
     observer.close(board)?;
-    let areas = observer.areas()?;
+    let areas = observer.take_areas()?;
     let mut text = Vec::new(alloc);
     observer.draw(&mut text, &areas)?;
     Ok(TracedRun {

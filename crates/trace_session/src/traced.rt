@@ -3,7 +3,7 @@
 ghost use Rattle.std.specs.Prelude.{◌≡◌};
 ghost use Rattle.trace_session.specs.declared.traced.Product.TheVariants as products;
 
-use trace_picture::Areas;
+use crate::shown::ShownAreas;
 use wind_session::RunEnd;
 
 /// What a form leaves besides the text that it puts.
@@ -12,7 +12,7 @@ pub enum Product {
     /// The text is all.
     Text,
     /// The areas of the picture.
-    Picture(Areas),
+    Picture(ShownAreas),
 }
 
 /// A run that was told.

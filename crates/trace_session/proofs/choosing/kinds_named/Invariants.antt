@@ -1,6 +1,7 @@
 use Rattle.std.proofs.Common.{◌≡◌, Bor, map, drop}
 use Rattle.clap.specs.Words.{Text}
-use Rattle.trace_session.specs.Command.{each, kind_named}
+use Rattle.trace_session.specs.Command.{each}
+use Rattle.trace_session.specs.Kinds.{kind_named}
 use Rattle.trace_session.proofs.Items.{so_far}
 use Rattle.trace_session.proofs.choosing.kinds_named.Given as goal
 
