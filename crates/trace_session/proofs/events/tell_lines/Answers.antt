@@ -29,15 +29,15 @@ returns-in-WriteFault-clause-told g c =
     (lost_before g.L.LineForm.is_line g.L.LineForm.is_end _ _ (ap (λ (x : Bor Choice). choice_state x.now) (c.in_ok-end.ensures.scope ∙ c.in_ok-tracer.ensures.choice)) _ _ _ _ _ _ _ _ _ _ (told_of g.L.LineForm.is_line _ _ _ (ap (λ (x : Bor Choice). choice_state x.now) c.in_ok-tracer.ensures.choice) _ _ _ _ _ _ _ _ _ _ c.in_ok-end.ensures.told) c.in-WriteFault.is))
 
 -- the last line was put, or memory ran out for it
-pub returns-in_default-clause-told : goal.returns-in_default-clause-told
-returns-in_default-clause-told g c =
+pub returns-clause-told : goal.returns-clause-told
+returns-clause-told g c =
     rw c.text-in_default.ensures (alone _ _ _ _ _ _ _ _ refl
-    (last_told g.L.LineForm.is_line g.L.LineForm.is_end _ _ (ap (λ (x : Bor Choice). choice_state x.now) (c.in_ok-end.ensures.scope ∙ c.in_ok-tracer.ensures.choice)) _ _ _ _ _ _ _ _ _ _ (told_of g.L.LineForm.is_line _ _ _ (ap (λ (x : Bor Choice). choice_state x.now) c.in_ok-tracer.ensures.choice) _ _ _ _ _ _ _ _ _ _ c.in_ok-end.ensures.told) c.in_default.not-WriteFault _ _ (c.in_ok-last.ensures.told _)))
+    (last_told g.L.LineForm.is_line g.L.LineForm.is_end _ _ (ap (λ (x : Bor Choice). choice_state x.now) (c.in_ok-end.ensures.scope ∙ c.in_ok-tracer.ensures.choice)) _ _ _ _ _ _ _ _ _ _ (told_of g.L.LineForm.is_line _ _ _ (ap (λ (x : Bor Choice). choice_state x.now) c.in_ok-tracer.ensures.choice) _ _ _ _ _ _ _ _ _ _ c.in_ok-end.ensures.told) c.in_default.not-WriteFault _ _ (c.in_ok-last-in_default.ensures.told _)))
 
-pub returns-in_err-last-clause-given_up : goal.returns-in_err-last-clause-given_up
-returns-in_err-last-clause-given_up g c =
-    let p = err_from_is_err_and c.from_residual-in_err-last.result c.from_residual-in_err-last.ensures.1 in
-    rw p.1 (last_given_up g.L.LineForm.is_line g.L.LineForm.is_end _ _ (ap (λ (x : Bor Choice). choice_state x.now) (c.in_ok-end.ensures.scope ∙ c.in_ok-tracer.ensures.choice)) _ _ _ _ _ _ _ _ _ _ (told_of g.L.LineForm.is_line _ _ _ (ap (λ (x : Bor Choice). choice_state x.now) c.in_ok-tracer.ensures.choice) _ _ _ _ _ _ _ _ _ _ c.in_ok-end.ensures.told) c.in_default.not-WriteFault _ c.in_err-last.ensures.given_up)
+pub returns-in_err-last-in_default-clause-given_up : goal.returns-in_err-last-in_default-clause-given_up
+returns-in_err-last-in_default-clause-given_up g c =
+    let p = err_from_is_err_and c.from_residual-in_err-last-in_default.result c.from_residual-in_err-last-in_default.ensures.1 in
+    rw p.1 (last_given_up g.L.LineForm.is_line g.L.LineForm.is_end _ _ (ap (λ (x : Bor Choice). choice_state x.now) (c.in_ok-end.ensures.scope ∙ c.in_ok-tracer.ensures.choice)) _ _ _ _ _ _ _ _ _ _ (told_of g.L.LineForm.is_line _ _ _ (ap (λ (x : Bor Choice). choice_state x.now) c.in_ok-tracer.ensures.choice) _ _ _ _ _ _ _ _ _ _ c.in_ok-end.ensures.told) c.in_default.not-WriteFault _ c.in_err-last-in_default.ensures.given_up)
 
 -- memory ran out for a step
 pub returns-in_err-end-clause-given_up : goal.returns-in_err-end-clause-given_up

@@ -15,7 +15,9 @@ returns-in_err-observer-clause-given_up g c =
     rw p.1 (untold _ _ _ _ _ _ _ _ (begun _ _ c.args.limit _ c.requires.fresh))
 
 pub returns-clause-fault : goal.returns-clause-fault
-returns-clause-fault g c = λ e. rose_earlier _ _ _ c.in_ok-end.ensures.keeps.1 c.put_text.ensures.faults (c.put_text.ensures.fault (not_lost _ _ _ _ _ _ _ _ refl _ _ c.in_ok-end.ensures.told) e)
+returns-clause-fault g c = λ e.
+    let same = ap (λ (x : Bor Choice). choice_state x.now) (c.in_ok-end.ensures.scope ∙ c.in_ok-observer.ensures.choice) in
+    rose_earlier _ _ _ c.in_ok-end.ensures.keeps.1 c.put_text.ensures.faults (c.put_text.ensures.fault (not_lost _ _ _ _ _ _ _ _ same _ _ c.in_ok-end.ensures.told) e)
 
 -- the run has ended, and so have the spans
 pub returns-clause-told : goal.returns-clause-told
