@@ -72,12 +72,12 @@ module _ (rows : ℕ → List (ℕ × LoadedModule)) (executed : ℕ → Option 
   backward (suc k) e =
       listed_suc k
       ∙ elim (cases_lt e.0 k) [
-          | inl before ↦ or_left (is_listed (covered rows executed k) id at) (hits (rows k) (executed k) id at) (backward k (e.0, before, e.2, e.3))
-          | inr more ↦ (
-              let same = last_below e.0 k e.1 more in
-              or_right (is_listed (covered rows executed k) id at) (hits (rows k) (executed k) id at)
-              (hit_from (rows k) (executed k) id at (ap executed (sym same) ∙ e.2) (ap (λ j. has_word (rows j) id at) (sym same) ∙ e.3)))
-        ]
+        | inl before ↦ or_left (is_listed (covered rows executed k) id at) (hits (rows k) (executed k) id at) (backward k (e.0, before, e.2, e.3))
+        | inr more ↦ (
+            let same = last_below e.0 k e.1 more in
+            or_right (is_listed (covered rows executed k) id at) (hits (rows k) (executed k) id at)
+            (hit_from (rows k) (executed k) id at (ap executed (sym same) ∙ e.2) (ap (λ j. has_word (rows j) id at) (sym same) ∙ e.3)))
+      ]
 
 pub lists_executed : (rows : ℕ → List (ℕ × LoadedModule)) (executed : ℕ → Option ℕ) → ListsExecuted rows executed
 lists_executed rows executed k id at = (λ h. forward rows executed id at k h, λ e. backward rows executed id at k e)

@@ -59,7 +59,7 @@ module _ {X : Type 0} where
   any_filter p q [] = refl
   any_filter p q (x ∷ xs) =
       elim (q x) as (λ v. list_any p (cond v (x ∷ filter q xs) (filter q xs)) ≡ ((v && p x) || list_any (λ y. q y && p y) xs))
-        [ true ↦ ap (λ v. p x || v) (any_filter p q xs) | false ↦ any_filter p q xs ]
+      [ true ↦ ap (λ v. p x || v) (any_filter p q xs) | false ↦ any_filter p q xs ]
 
   -- the two parts of a list
   pub any_parts : (p q : X → Bool) (xs : List X) → (list_any p (filter (λ x. not (q x)) xs) || list_any p (filter q xs)) ≡ list_any p xs

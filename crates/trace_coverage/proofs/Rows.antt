@@ -50,8 +50,8 @@ module _ {A B : Type 0} (f : A → B) (q : A → Bool) where
   split_first items a rest =
       append_assoc items (map f (filter q (a ∷ []))) (map f (filter q rest))
       ∙ ap (λ ys. items ++ ys)
-        (elim (q a) as (λ v. map f (cond v (a ∷ []) []) ++ map f (filter q rest) ≡ map f (cond v (a ∷ filter q rest) (filter q rest)))
-          [ true ↦ refl | false ↦ refl ])
+      (elim (q a) as (λ v. map f (cond v (a ∷ []) []) ++ map f (filter q rest) ≡ map f (cond v (a ∷ filter q rest) (filter q rest)))
+      [ true ↦ refl | false ↦ refl ])
 
   -- one more row was looked at
   pub one_row : (items new all : List B) (before after : List A) (a : A) → before ≡ a ∷ after → items ++ map f (filter q before) ≡ all → new ≡ items ++ map f (filter q (a ∷ [])) → new ++ map f (filter q after) ≡ all

@@ -42,8 +42,8 @@ module _ (rows : List (ℕ × LoadedModule)) (ms : List CoveredState) (id at : �
   of_kept h =
       some_passes (λ m. is_live rows m && word_in id at m) (has_word rows id at ≡ true) ms (sym (any_filter (word_in id at) (is_live rows) ms) ∙ h)
       (λ m e. (
-        let parts = and_parts (is_live rows m) (word_in id at m) e in
-        any_implies (is_of m) (word_of_row id at) (λ r s. sym (same_words m r id at s) ∙ parts.1) rows parts.0))
+      let parts = and_parts (is_live rows m) (word_in id at m) e in
+      any_implies (is_of m) (word_of_row id at) (λ r s. sym (same_words m r id at s) ∙ parts.1) rows parts.0))
 
   words_of_new : list_any (word_in id at) (map unexecuted (filter is_new rows)) ≡ list_any (λ r. is_new r && word_of_row id at r) rows
   words_of_new = any_map (word_in id at) (word_of_row id at) unexecuted (new_words id at) (filter is_new rows) ∙ any_filter (word_of_row id at) is_new rows
@@ -58,10 +58,10 @@ module _ (rows : List (ℕ × LoadedModule)) (ms : List CoveredState) (id at : �
       words_of_new
       ∙ any_implies (word_of_row id at) (λ r. is_new r && word_of_row id at r)
       (λ r e. and_from (is_new r) (word_of_row id at r)
-        (not_from_false (is_among kept r) (false_from_ne_true (is_among kept r)
-          (λ among. both_ways (list_any (word_in id at) kept) none
-            (any_implies (λ m. is_of m r) (word_in id at) (λ m s. same_words m r id at s ∙ e) kept among))))
-        e)
+      (not_from_false (is_among kept r) (false_from_ne_true (is_among kept r)
+      (λ among. both_ways (list_any (word_in id at) kept) none
+      (any_implies (λ m. is_of m r) (word_in id at) (λ m s. same_words m r id at s ∙ e) kept among))))
+      e)
       rows h
 
   abbrev in_kept : Bool
@@ -103,11 +103,11 @@ same_list rows c id at =
     list_any-append test (c.gone ++ leaving rows c.live) (staying rows c.live ++ map unexecuted new)
     ∙ ap₂ (λ v w. v || w) (list_any-append test c.gone (leaving rows c.live)) (list_any-append test (staying rows c.live) (map unexecuted new))
     ∙ regroup (list_any test c.gone) (list_any test (leaving rows c.live)) (list_any test (staying rows c.live)) (list_any test (map unexecuted new)) (list_any test c.live)
-      (any_never test unexecuted
-        (λ r. and_right (r.0 == id) (is_executed at (unexecuted r))
-          (and_right (is_word_among (text_start r.1) (length (replicate (text_words r.1) false)) at) (get_or (replicate (text_words r.1) false) ((at - text_start r.1) / 4) false) (none_yet (text_words r.1) ((at - text_start r.1) / 4))))
-        new)
-      (any_parts test (is_live rows) c.live)
+    (any_never test unexecuted
+    (λ r. and_right (r.0 == id) (is_executed at (unexecuted r))
+    (and_right (is_word_among (text_start r.1) (length (replicate (text_words r.1) false)) at) (get_or (replicate (text_words r.1) false) ((at - text_start r.1) / 4) false) (none_yet (text_words r.1) ((at - text_start r.1) / 4))))
+    new)
+    (any_parts test (is_live rows) c.live)
     ∙ sym (list_any-append test c.gone c.live)
 
 -- an instruction lists its own word, of the modules that have it

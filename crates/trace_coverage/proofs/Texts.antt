@@ -20,7 +20,7 @@ pub texts_gone : (rows : List (ℕ × LoadedModule)) (ms : List CoveredState) �
 texts_gone rows [] = refl
 texts_gone rows (m ∷ ms) =
     elim (is_live rows m) as (λ v. cond v [] (module_text m) ++ texts_of_gone rows ms ≡ modules_text (cond (not v) (m ∷ leaving rows ms) (leaving rows ms)))
-      [ true ↦ texts_gone rows ms | false ↦ ap (λ t. module_text m ++ t) (texts_gone rows ms) ]
+    [ true ↦ texts_gone rows ms | false ↦ ap (λ t. module_text m ++ t) (texts_gone rows ms) ]
 
 -- ---- the coverage that is kept
 pub ok_leads : {A E : Type 0} (r : Result A E) (P Q : Type 0) → (P → Q) → OnOk r P → OnOk r Q

@@ -71,7 +71,7 @@ and_true false = refl
 
 with_place : (start a at : ℕ) (xs : List Bool) → is_word_among start (length xs) a ≡ true
     → (is_word_among start (length (slice_set xs ((a - start) / 4) true)) at && get_or (slice_set xs ((a - start) / 4) true) ((at - start) / 4) false)
-      ≡ ((is_word_among start (length xs) at && get_or xs ((at - start) / 4) false) || ((a == at) && is_word_among start (length xs) at))
+    ≡ ((is_word_among start (length xs) at && get_or xs ((at - start) / 4) false) || ((a == at) && is_word_among start (length xs) at))
 with_place start a at xs h =
     let i = (a - start) / 4 in
     let j = (at - start) / 4 in
@@ -79,18 +79,18 @@ with_place start a at xs h =
     let now = get_or (slice_set xs i true) j false in
     ap (λ n. is_word_among start n at && now) (length-set xs i true)
     ∙ elim (cases_Bool (is_word_among start (length xs) at)) [
-        | inr out ↦ ap (λ v. v && now) out ∙ sym (nowhere (a == at) (is_word_among start (length xs) at) before out)
-        | inl within ↦ (
-            ap (λ v. v && now) within
-            ∙ set_at start a at xs h within
-            ∙ ap (λ v. before || v) (sym (and_true (a == at)))
-            ∙ sym (ap (λ v. (v && before) || ((a == at) && v)) within))
-      ]
+      | inr out ↦ ap (λ v. v && now) out ∙ sym (nowhere (a == at) (is_word_among start (length xs) at) before out)
+      | inl within ↦ (
+          ap (λ v. v && now) within
+          ∙ set_at start a at xs h within
+          ∙ ap (λ v. before || v) (sym (and_true (a == at)))
+          ∙ sym (ap (λ v. (v && before) || ((a == at) && v)) within))
+    ]
 
 -- after one more word of a module is executed, a word is executed if it was before, or if it is that one
 pub one_more : (id a at : ℕ) (m : CoveredState)
     → ((with_word a m).id == id && is_executed at (with_word a m))
-      ≡ ((m.id == id && is_executed at m) || ((a == at) && (m.id == id && is_word_among m.start (length m.executed) at)))
+    ≡ ((m.id == id && is_executed at m) || ((a == at) && (m.id == id && is_word_among m.start (length m.executed) at)))
 one_more id a at m =
     let Test : CoveredState → Bool = λ n. n.id == id && is_executed at n in
     let changed : CoveredState = record m { executed = slice_set m.executed ((a - m.start) / 4) true } in
@@ -98,9 +98,9 @@ one_more id a at m =
       | inr out ↦ (
           ap Test (cond-false (is_word_among m.start (length m.executed) a) changed m out)
           ∙ sym (ap (λ v. Test m || v)
-              (no_more (a == at) (m.id == id) (is_word_among m.start (length m.executed) at)
-              (λ e. ap (λ p. is_word_among m.start (length m.executed) p) (sym (eqb-true a at e)) ∙ out))
-            ∙ or_false (Test m)))
+          (no_more (a == at) (m.id == id) (is_word_among m.start (length m.executed) at)
+          (λ e. ap (λ p. is_word_among m.start (length m.executed) p) (sym (eqb-true a at e)) ∙ out))
+          ∙ or_false (Test m)))
       | inl within ↦ (
           ap Test (cond-true (is_word_among m.start (length m.executed) a) changed m within)
           ∙ both_more (m.id == id) _ (is_executed at m) (a == at) (is_word_among m.start (length m.executed) at) (with_place m.start a at m.executed within))

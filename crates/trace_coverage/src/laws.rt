@@ -7,5 +7,4 @@ ghost use Rattle.trace_coverage.specs.Executed.{ListsRuns};
 /// word lies in the module's text segment.
 pub fn coverage_law()
     ensures { ListsRuns }
-{
-}
+{}

@@ -26,8 +26,7 @@ pub(crate) fn is_live(modules: &Modules, covered: &Covered) -> bool
 fn is_among(list: &[Covered], id: Ident, module: &LoadedModule) -> bool
     ensures { result ≡ is_among_lem list.now (id, module.now) }
 {
-    list.iter()
-        .any(|covered| id == covered.id() && covered.has_text_of(module))
+    list.iter().any(|covered| id == covered.id() && covered.has_text_of(module))
 }
 
 // Adds a module of the table, if it isn't one of these.
@@ -51,11 +50,7 @@ fn add_if_new(
 }
 
 // The modules of the table that aren't among these.
-fn new_modules(
-    alloc: Global,
-    list: &[Covered],
-    modules: &Modules,
-) -> Result<Vec<Covered>, NoMemory>
+fn new_modules(alloc: Global, list: &[Covered], modules: &Modules) -> Result<Vec<Covered>, NoMemory>
     ensures { IfOk result (λ v. v.items
         ≡ map unexecuted (filter (λ r. not (is_among_lem list.now r)) modules.now.rows)) }
 {

@@ -13,7 +13,7 @@ loop-place-preserved c =
     let d = c.index-list-place.result in
     ap (λ (ys : List CoveredState). set ys i c.execute.new.self) c.loop-place.invariant
     ∙ next_set f xs i c.execute.new.self d c.loop-place-test.true
-      (c.execute.ensures ∙ ap f (ap (λ (ys : List CoveredState). get_or ys i d) c.loop-place.invariant ∙ next_is f xs i d))
+    (c.execute.ensures ∙ ap f (ap (λ (ys : List CoveredState). get_or ys i d) c.loop-place.invariant ∙ next_is f xs i d))
 
 -- all were
 pub returns : goal.returns
