@@ -3,4 +3,5 @@ pub mod Lists
 pub mod Rows
 pub mod Tables
 pub mod Texts
+pub mod Walking
 pub mod Words

@@ -1,4 +1,4 @@
-pub mod Rows
+mod Rows
 pub mod Shallow
 mod Nesting
 mod Depth

@@ -2,7 +2,7 @@ use Rattle.std.proofs.Common.{ℕ, Bool, ◌++◌, ◌∷◌, [], Some, ap, sym,
 use Rattle.std.specs.List.{filter}
 use Rattle.std.specs.Prelude.{option_copied}
 use Rattle.id_table.specs.Rows.{ids}
-use Rattle.trace_state.proofs.Rows.{all_above, found_above, is_there, next_rows, no_rows, rows_above}
+use Rattle.trace_coverage.proofs.Walking.{all_above, found_above, is_there, next_rows, no_rows, rows_above}
 use Rattle.module_loader.specs.declared.module.LoadedModule.{LoadedModule}
 use Rattle.trace_coverage.specs.Covered.{is_among, unexecuted}
 use Rattle.trace_coverage.proofs.Rows.{no_row, one_row}

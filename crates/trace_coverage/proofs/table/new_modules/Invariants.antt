@@ -1,6 +1,6 @@
 use Rattle.std.proofs.Common.{◌≡◌, ◌++◌, ◌-◌, map, not}
 use Rattle.std.specs.List.{filter}
-use Rattle.trace_state.proofs.Rows.{rows_above}
+use Rattle.trace_coverage.proofs.Walking.{rows_above}
 use Rattle.trace_coverage.specs.Covered.{is_among, unexecuted}
 use Rattle.trace_coverage.proofs.table.new_modules.Given as goal
 
