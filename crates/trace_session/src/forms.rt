@@ -10,7 +10,7 @@ ghost use Rattle.trace_session.specs.Choice.{choice_state};
 ghost use Rattle.trace_session.specs.Forms.{TellsForm, TellsLess};
 
 use crate::choice::Choice;
-use crate::lines::{tell_events, tell_objects};
+use crate::line_forms::{tell_events, tell_objects};
 use crate::state::show_state;
 use crate::timeline::draw_timeline;
 use crate::traced::TracedRun;
