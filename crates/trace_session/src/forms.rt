@@ -11,7 +11,7 @@ ghost use Rattle.trace_session.specs.Forms.{TellsForm, TellsLess};
 
 use crate::choice::Choice;
 use crate::coverage::tell_coverage;
-use crate::lines::{tell_events, tell_objects};
+use crate::line_forms::{tell_events, tell_objects};
 use crate::state::show_state;
 use crate::summary::{tell_summary, tell_table};
 use crate::timeline::draw_timeline;

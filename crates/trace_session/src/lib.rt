@@ -12,7 +12,7 @@ mod events;
 mod forms;
 mod kinds;
 mod laws;
-mod lines;
+mod line_forms;
 mod observer;
 mod playing;
 mod program;

@@ -7,7 +7,7 @@ use Rattle.wind_outside.specs.Appending.{AppendedPrefix}
 use Rattle.trace_text.specs.Lines.{lines_text}
 use Rattle.trace_session.specs.Choice.{choice_state, chosen_lines}
 use Rattle.trace_session.proofs.Telling.{events_of, events_part}
-use Rattle.trace_session.proofs.lines.tell_events.Goals as goal
+use Rattle.trace_session.proofs.line_forms.tell_events.Goals as goal
 
 -- no step was made
 pub returns-in_err-form-clause-given_up : goal.returns-in_err-form-clause-given_up
