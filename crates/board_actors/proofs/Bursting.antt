@@ -25,7 +25,7 @@ use Rattle.live_loading.specs.KernelWorldActors.{found_regs}
 use Rattle.live_loading.specs.KernelWorldActor.{Actor}
 use Rattle.wind_machine.specs.Processor.{bus_of, regs_of}
 use Rattle.wind_machine.proofs.Executing.{IfDone, executing_lasts, sizes_last}
-use Rattle.board_actors.specs.Instructions.{ExecutesMany, IsNext, MayEnd, MayRead, MayRun, Names, executed_to}
+use Rattle.board_actors.specs.Instructions.{ExecutesMany, IsNext, MayEnd, MayRead, MayRun, Names, executed_to, left_of, reached}
 use Rattle.board_actors.specs.Running.{RanMany}
 
 -- no gate is below the first
@@ -148,33 +148,33 @@ pub entry_ran : (k pc page place next : ℕ) (r m after : Regs) (b c bus : BusSt
 entry_ran k pc page place next r m after b c bus entries e d runs words is_page aligned is within entry copy some done =
     one_more_at k d.word pc next r m after b c bus runs (next_is d c pc (entry_next c pc page place entries e d words is_page aligned is within entry copy) some) done
 
--- a burst goes on by the next instruction, or before it
-pub record IsStretch (s from : Stretch) (k : ℕ) (r : Regs) (b : BusState) (after : Regs) (bus : BusState) : Type 0 where
+-- a burst goes on by the next instruction, or ends before it
+pub record IsStretch (from : Stretch) (made : ℕ) (to : Option Stretch) (after k : ℕ) (r : Regs) (b : BusState) (regs : Regs) (bus : BusState) : Type 0 where
   pub more : ℕ
-  pub count : s.made ≡ from.made + more
-  pub runs : RunsBelow (k + more) r b (at_pc after s.pc) bus
-  pub within : (s.made ≤ s.end) × (s.end ≤ from.end)
-  pub less : s.end - s.made < from.end - from.made
+  pub count : more + left_of to + made ≡ from.left + 1 + after
+  pub runs : RunsBelow (k + more) r b (reached to regs) bus
+  pub less : left_of to ≤ from.left
+  pub within : after ≤ made
 
-pub stretched : (k : ℕ) (from : Stretch) (r m after : Regs) (b c bus : BusState) (s : Stretch) → RunsBelow k r b (at_pc m from.pc) c
-    → MayEnd from m c after bus s → IsStretch s from k r b after bus
-stretched k from r m after b c bus s runs (None, may, goes) =
-    let ran = ran_none k from.pc r m after b c bus runs may in
+pub stretched : (k : ℕ) (from : Stretch) (made : ℕ) (r m : Regs) (b c : BusState) (to : Option Stretch) (after : ℕ) (regs : Regs) (bus : BusState)
+    → RunsBelow k r b (at_pc m from.pc) c → MayEnd from made m c to after regs bus → IsStretch from made to after k r b regs bus
+stretched k from made r m b c to after regs bus runs (None, n, may, ends) =
+    let ran = ran_none k from.pc r m n b c bus runs may in
     record {
       more = 0;
-      count = goes.count ∙ sym (add-zero from.made);
-      runs = subst (λ (n : ℕ). RunsBelow n r b (at_pc after s.pc) bus) (sym (add-zero k)) (subst (λ (pc : ℕ). RunsBelow k r b (at_pc after pc) bus) (sym goes.at) ran);
-      within = (goes.within, goes.end);
-      less = goes.less;
+      count = ends.0.count;
+      runs = subst (λ (j : ℕ). RunsBelow j r b (reached to regs) bus) (sym (add-zero k)) (subst (λ (x : Regs). RunsBelow k r b x bus) (sym ends.1) ran);
+      less = ends.0.less;
+      within = ends.0.within;
     }
-stretched k from r m after b c bus s runs (Some n, may, goes) =
-    let ran = ran_next k from.pc n r m after b c bus runs may in
+stretched k from made r m b c to after regs bus runs (Some next, n, may, ends) =
+    let ran = ran_next k from.pc next r m n b c bus runs may in
     record {
       more = 1;
-      count = goes.count;
-      runs = subst (λ (pc : ℕ). RunsBelow (k + 1) r b (at_pc after pc) bus) (sym goes.at) ran;
-      within = (goes.within, goes.end);
-      less = goes.less;
+      count = ends.0.count;
+      runs = subst (λ (x : Regs). RunsBelow (k + 1) r b x bus) (sym ends.1) ran;
+      less = ends.0.less;
+      within = ends.0.within;
     }
 
 -- an instruction that left the bus is executed, by its decoded word

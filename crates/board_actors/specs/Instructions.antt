@@ -1,5 +1,5 @@
 -- Instructions of one actor, one after the other.
-use Rattle.std.specs.Prelude.{◌≡◌, ◌≢◌, ◌⊎◌, ℕ, ◌+◌, ◌-◌, ◌<◌, ◌≤◌, zero, suc, Option, None, Some}
+use Rattle.std.specs.Prelude.{◌≡◌, ◌≢◌, ◌⊎◌, ℕ, ◌+◌, ◌≤◌, zero, suc, Option, None, Some}
 use Rattle.wind_base.specs.Gates.{gate_at}
 use Rattle.wind_base.specs.declared.regs.Regs.{Regs}
 use Rattle.ppc_core.specs.Instructions.{exec_of}
@@ -67,19 +67,29 @@ abbrev pub MayRead : Decoded → ℕ → Regs → Regs → BusState → Progress
 MayRead d pc old regs b (progress.Executed next) = (d.op ≢ ops.Empty) × (exec_of board_meaning (at_pc old pc) d.word b ≡ Done (at_pc regs next) b)
 MayRead d pc old regs b left = Names left d.op × (regs ≡ old)
 
--- a burst goes on as another one: at this address, after this number of instructions, and nearer to its end
-pub record GoesOn (s to : Stretch) (pc made : ℕ) : Type 0 where
-  pub at : to.pc ≡ pc
-  pub count : to.made ≡ made
-  pub within : to.made ≤ to.end
-  pub end : to.end ≤ s.end
-  pub less : to.end - to.made < s.end - s.made
+-- the number of instructions that a burst has left; None is a burst that has ended
+abbrev pub left_of : Option Stretch → ℕ
+left_of None = 0
+left_of (Some s) = s.left + 1
 
--- a burst goes on after its next instruction, or before it
-abbrev pub EndsAt : Option ℕ → Stretch → Stretch → Type 0
-EndsAt None s to = GoesOn s to s.pc s.made
-EndsAt (Some next) s to = GoesOn s to next (s.made + 1)
+-- the registers at the next instruction of a burst; the address is beside them, until the burst ends
+abbrev pub reached : Option Stretch → Regs → Regs
+reached None regs = regs
+reached (Some s) regs = at_pc regs s.pc
+
+-- a burst goes on as another one after this number of executed instructions; made and after are the numbers that it will
+-- have executed at its end, as they were known before and as they are known then
+pub record GoesOn (executed : ℕ) (s : Stretch) (made : ℕ) (to : Option Stretch) (after : ℕ) : Type 0 where
+  pub count : executed + left_of to + made ≡ s.left + 1 + after
+  pub less : left_of to ≤ s.left
+  pub within : after ≤ made
+
+-- a burst goes on after its next instruction, or ends before it
+abbrev pub EndsAt : Option ℕ → Stretch → ℕ → Regs → Option Stretch → ℕ → Regs → Type 0
+EndsAt None s made r to after regs = GoesOn 0 s made to after × (reached to regs ≡ at_pc r s.pc)
+EndsAt (Some next) s made r to after regs = GoesOn 1 s made to after × (reached to regs ≡ at_pc r next)
 
 -- the next instruction of a burst may be executed: then it leads to this burst, these registers and this bus
-abbrev pub MayEnd : Stretch → Regs → BusState → Regs → BusState → Stretch → Type 0
-MayEnd s r b after bus to = (next : Option ℕ) × MayRun s.pc r b after bus next × EndsAt next s to
+abbrev pub MayEnd : Stretch → ℕ → Regs → BusState → Option Stretch → ℕ → Regs → BusState → Type 0
+MayEnd s made r b to after regs bus =
+    (next : Option ℕ) × (m : Regs) × MayRun s.pc r b m bus next × EndsAt next s made m to after regs

@@ -1,20 +1,21 @@
 //! Instructions of one actor, one after the other, with nothing in between.
 
-ghost use Rattle.std.specs.Prelude.{◌≡◌, ◌≢◌, ℕ, ◌≤◌, ◌<◌, ◌+◌, ◌-◌, ◌*◌, ◌/◌, ◌%◌, ◌^◌, true, length};
+ghost use Rattle.std.specs.Prelude.{◌≡◌, ◌≢◌, ℕ, ◌≤◌, ◌<◌, ◌+◌, ◌*◌, ◌/◌, ◌%◌, ◌^◌, true, length, Some, IfSome};
 ghost use Rattle.wind_base.specs.Boards.{board_rules};
 ghost use Rattle.ppc_word.specs.declared.op.Op.TheVariants as ops;
 ghost use Rattle.ppc_core.specs.Stepping.{at_pc};
 ghost use Rattle.board_mem.specs.Pages.{page_bytes};
+ghost use Rattle.board_bus.specs.Access.{fetched};
 ghost use Rattle.board_bus.specs.Seen.{bus_seen};
 ghost use Rattle.live_loading.specs.KernelWorldSeen.{world_seen};
-ghost use Rattle.board_actors.specs.{Instructions.{EndsAt, ExecutesMany, GoesOn, IsNext, MayEnd, MayRead, MayRun, Names}, Running.{IsThere, RanMany}};
+ghost use Rattle.board_actors.specs.{Instructions.{EndsAt, ExecutesMany, IsNext, MayEnd, MayRead, MayRun, Names, left_of, reached}, Running.{IsThere, RanMany}};
 
 use board_bus::BoardBus;
 use board_mem::{PAGE, WORDS};
 use live_loading::{Actor, World};
 use ppc_core::{
-    Progress, finish_load, finish_load_byte, finish_load_update, load_address, offset, run_bus,
-    run_registers, store_word, store_word_update,
+    Progress, exec, finish_load, finish_load_byte, finish_load_update, load_address, offset,
+    run_bus, run_registers, store_word, store_word_update,
 };
 use ppc_word::{Decoded, Op};
 use wind_base::Regs;
@@ -36,24 +37,42 @@ fn copied(entry: &Decoded) -> Decoded
     }
 }
 
-// How far a burst is: the next address, the number of instructions executed, and the number at
-// which it ends. If the next instruction can't be fetched or causes an exception, it ends there.
+// How far a burst is: the address of its next instruction, and how many are left after that one. A
+// burst that has ended is None; then the address is in `regs.pc`.
 #[derive(Drop)]
 struct Stretch {
     pc: u32,
-    made: u64,
-    end: u64,
+    left: u64,
 }
 
-// Decodes the word at an address, for its entry. `false` if it can't be fetched, or is no
-// instruction.
+// The decoded word at an address, which is kept in its entry. None if the word can't be fetched, or
+// is no instruction.
+#[inline(always)]
+fn decoded(pc: u32, bus: &mut BoardBus) -> Option<Decoded>
+    requires { Unit {0} }
+    ensures bus { bus_seen ⟦<dyn Device as Device>⟧ bus.new ≡ bus_seen ⟦<dyn Device as Device>⟧ bus.old }
+    ensures word { IfSome result
+        (λ d. fetched (bus_seen ⟦<dyn Device as Device>⟧ bus.old) pc ≡ Some d.word) }
+{
+    bus.ram.decode_at(pc)
+}
+
+// Decodes the word at an address into its entry, executes the instruction, and returns the next
+// address. None if the word can't be fetched, is no instruction, or causes an exception; then
+// nothing changes but, perhaps, `regs.pc`, which isn't read.
 #[cold]
 #[inline(never)]
-fn decode(pc: u32, bus: &mut BoardBus) -> bool
+fn run_undecoded(pc: u32, regs: &mut Regs, bus: &mut BoardBus) -> Option<u32>
     requires { Unit {0} }
-    ensures { bus_seen ⟦<dyn Device as Device>⟧ bus.new ≡ bus_seen ⟦<dyn Device as Device>⟧ bus.old }
+    ensures { MayRun pc regs.old (bus_seen ⟦<dyn Device as Device>⟧ bus.old) regs.new
+        (bus_seen ⟦<dyn Device as Device>⟧ bus.new) result }
 {
-    bus.ram.decode_at(pc).is_some()
+    let insn = decoded(pc, bus)?;
+    regs.pc = pc;
+    match exec(regs, insn.word, bus) {
+        Ok(()) => Some(regs.pc),
+        Err(_) => None,
+    }
 }
 
 // Whether an entry isn't empty.
@@ -130,66 +149,60 @@ fn run_reading(pc: u32, regs: &mut Regs, insn: Decoded, bus: &BoardBus) -> Progr
     }
 }
 
-// The burst that ends before an instruction that can't be executed. It is a call, so that the
-// other one is made without a choice between the two.
+// The burst that goes on at an address, with this many instructions left. None if none is left.
+#[inline(always)]
+fn onward(pc: u32, left: u64, regs: &mut Regs) -> Option<Stretch>
+    ensures left { left_of result ≡ left }
+    ensures at { reached result regs.new ≡ at_pc regs.old pc }
+{
+    if left == 0 {
+        regs.pc = pc;
+        return None;
+    }
+    Some(Stretch { pc, left: left - 1 })
+}
+
+// Ends a burst before an instruction that can't be executed: what is left isn't counted as made.
 #[cold]
 #[inline(never)]
-fn stopped(pc: u32, made: u64) -> Stretch
-    ensures { result ≡ record { pc = pc; made = made; end = made } }
+fn stop(from: Stretch, made: &mut u64, regs: &mut Regs)
+    requires { from.left < made.old }
+    ensures made { made.new + from.left + 1 ≡ made.old }
+    ensures at { regs.new ≡ at_pc regs.old from.pc }
 {
-    Stretch {
-        pc,
-        made,
-        end: made,
-    }
+    *made = *made - from.left - 1;
+    regs.pc = from.pc;
 }
 
-// The burst after the next instruction, if that was executed, and otherwise before it.
+// The burst after the next instruction, if that was executed, and otherwise ended before it.
 #[inline(always)]
-fn stretch_to(next: Option<u32>, from: Stretch) -> Stretch
-    requires { from.made < from.end }
-    ensures { EndsAt next from result }
+fn stretch_to(next: Option<u32>, from: Stretch, made: &mut u64, regs: &mut Regs) -> Option<Stretch>
+    requires { from.left < made.old }
+    ensures { EndsAt next from made.old regs.old result made.new regs.new }
 {
     match next {
-        Some(next) => Stretch {
-            pc: next,
-            made: from.made + 1,
-            end: from.end,
-        },
-        None => stopped(from.pc, from.made),
+        Some(next) => onward(next, from.left, regs),
+        None => {
+            stop(from, made, regs);
+            None
+        }
     }
 }
 
-// Decodes the word of the next instruction, which takes the place of one instruction of the burst.
-// The burst ends if the word can't be fetched, or is no instruction.
+// Executes the next instruction in a page without decoded words. A burst that comes to a gate ends
+// here: the gates come after RAM, so no word is looked for.
 #[inline(always)]
-fn after_decoding(from: Stretch, bus: &mut BoardBus) -> Stretch
-    requires { from.made < from.end }
-    ensures bus { bus_seen ⟦<dyn Device as Device>⟧ bus.new ≡ bus_seen ⟦<dyn Device as Device>⟧ bus.old }
-    ensures goes { GoesOn from result from.pc from.made }
-{
-    if !decode(from.pc, bus) {
-        return stopped(from.pc, from.made);
-    }
-    Stretch {
-        pc: from.pc,
-        made: from.made,
-        end: from.end - 1,
-    }
-}
-
-// The same in a page without decoded words. A burst that comes to a gate ends here: the gates come
-// after RAM, so no word is looked for.
-#[inline(always)]
-fn after_first_decoding(from: Stretch, bus: &mut BoardBus) -> Stretch
-    requires { from.made < from.end }
-    ensures bus { bus_seen ⟦<dyn Device as Device>⟧ bus.new ≡ bus_seen ⟦<dyn Device as Device>⟧ bus.old }
-    ensures goes { GoesOn from result from.pc from.made }
+fn run_first(from: Stretch, made: &mut u64, regs: &mut Regs, bus: &mut BoardBus) -> Option<Stretch>
+    requires { from.left < made.old }
+    ensures { MayEnd from made.old regs.old (bus_seen ⟦<dyn Device as Device>⟧ bus.old)
+        result made.new regs.new (bus_seen ⟦<dyn Device as Device>⟧ bus.new) }
 {
     if !bus.ram.has(from.pc, 4) {
-        return stopped(from.pc, from.made);
+        stop(from, made, regs);
+        return None;
     }
-    after_decoding(from, bus)
+    let next = run_undecoded(from.pc, regs, bus);
+    stretch_to(next, from, made, regs)
 }
 
 // Executes `StoreWord` at an address, and returns the next address. None if it causes an exception;
@@ -221,37 +234,46 @@ fn put_word_update(pc: u32, regs: &mut Regs, insn: Decoded, bus: &mut BoardBus) 
     }
 }
 
-// Executes the next instruction, which `run_reading` has left, if its word is decoded, and decodes
-// it otherwise. Each arm makes its burst itself, so that none is looked at twice.
+// Executes the next instruction, which `run_reading` has left, and decodes its word first if that
+// isn't decoded. Each arm makes its burst itself, so that none is looked at twice.
 #[inline(always)]
 fn run_left(
     left: Progress,
     from: Stretch,
+    made: &mut u64,
     regs: &mut Regs,
     insn: Decoded,
     bus: &mut BoardBus,
-) -> Stretch
+) -> Option<Stretch>
     requires next { IsNext insn (bus_seen ⟦<dyn Device as Device>⟧ bus.old) from.pc }
     requires named { Names left insn.op }
-    requires more { from.made < from.end }
-    ensures { MayEnd from regs.old (bus_seen ⟦<dyn Device as Device>⟧ bus.old) regs.new
-        (bus_seen ⟦<dyn Device as Device>⟧ bus.new) result }
+    requires more { from.left < made.old }
+    ensures { MayEnd from made.old regs.old (bus_seen ⟦<dyn Device as Device>⟧ bus.old)
+        result made.new regs.new (bus_seen ⟦<dyn Device as Device>⟧ bus.new) }
 {
     let pc = from.pc;
     match left {
-        Progress::StoreWord => stretch_to(put_word(pc, regs, insn, bus), from),
-        Progress::Stwu => stretch_to(put_word_update(pc, regs, insn, bus), from),
+        Progress::StoreWord => {
+            let next = put_word(pc, regs, insn, bus);
+            stretch_to(next, from, made, regs)
+        }
+        Progress::Stwu => {
+            let next = put_word_update(pc, regs, insn, bus);
+            stretch_to(next, from, made, regs)
+        }
         _ => {
             if !is_decoded(insn) {
-                return after_decoding(from, bus);
+                let next = run_undecoded(pc, regs, bus);
+                return stretch_to(next, from, made, regs);
             }
-            stretch_to(run_with_bus(pc, regs, insn, bus), from)
+            let next = run_with_bus(pc, regs, insn, bus);
+            stretch_to(next, from, made, regs)
         }
     }
 }
 
-// Whether an address is a multiple of 4 in a page. It is one comparison: the address from the
-// page's start on is rotated right by 2 bits, so what isn't a multiple of 4 becomes large.
+// Whether an address is a multiple of 4 in a page. It is one comparison: of the page's start, and
+// the address without its place among the words of its page.
 #[inline(always)]
 fn is_word_of(page: u32, pc: u32) -> bool
     requires { page_bytes * page < 2 ^ 32 }
@@ -259,49 +281,44 @@ fn is_word_of(page: u32, pc: u32) -> bool
     ensures aligned { result ≡ true → pc % 4 ≡ 0 }
     ensures all { pc / page_bytes ≡ page → pc % 4 ≡ 0 → result ≡ true }
 {
-    let at = pc.wrapping_sub(page * PAGE as u32);
-    at / 4 + at % 4 * 0x4000_0000 < WORDS as u32
+    pc - pc % PAGE as u32 + pc % 4 == page * PAGE as u32
 }
 
 // Executes instructions of a burst, as long as they are in the page of the next address and use
 // registers only or read RAM, and one more of the page.
 #[inline(always)]
-fn run_page(from: Stretch, regs: &mut Regs, bus: &mut BoardBus) -> Stretch
-    requires { from.made < from.end }
-    ensures ran { (k : ℕ) × (result.made ≡ from.made + k) × ((gates : ℕ) → length bus.old.ram.bytes ≤ gates
+fn run_page(from: Stretch, made: &mut u64, regs: &mut Regs, bus: &mut BoardBus) -> Option<Stretch>
+    requires { from.left < made.old }
+    ensures ran { (k : ℕ) × (k + left_of result + made.old ≡ from.left + 1 + made.new)
+        × ((gates : ℕ) → length bus.old.ram.bytes ≤ gates
         → ExecutesMany gates k (at_pc regs.old from.pc) (bus_seen ⟦<dyn Device as Device>⟧ bus.old)
-        (at_pc regs.new result.pc) (bus_seen ⟦<dyn Device as Device>⟧ bus.new)) }
+        (reached result regs.new) (bus_seen ⟦<dyn Device as Device>⟧ bus.new)) }
     ensures size { length bus.new.ram.bytes ≡ length bus.old.ram.bytes }
-    ensures within { (result.made ≤ result.end) × (result.end ≤ from.end) }
-    ensures less { result.end - result.made < from.end - from.made }
+    ensures less { left_of result ≤ from.left }
+    ensures within { made.new ≤ made.old }
 {
-    let Stretch {
-        mut pc,
-        mut made,
-        end,
-    } = from;
-    let page = pc / PAGE as u32;
+    let mut at = from;
+    let page = at.pc / PAGE as u32;
     let entries = bus.ram.code_of(page);
-    if entries.len() != WORDS || pc % 4 != 0 {
-        return after_first_decoding(Stretch { pc, made, end }, bus);
+    if entries.len() != WORDS || at.pc % 4 != 0 {
+        return run_first(at, made, regs, bus);
     }
     loop {
-        let insn = copied(&entries[pc as usize % PAGE / 4]);
-        let left = run_reading(pc, regs, insn, bus);
-        let Progress::Executed(next) = left else {
-            return run_left(left, Stretch { pc, made, end }, regs, insn, bus);
+        let insn = copied(&entries[at.pc as usize % PAGE / 4]);
+        let progress = run_reading(at.pc, regs, insn, bus);
+        let Progress::Executed(next) = progress else {
+            return run_left(progress, at, made, regs, insn, bus);
         };
-        pc = next;
-        made += 1;
-        if made == end || !is_word_of(page, pc) {
-            return Stretch { pc, made, end };
+        at = onward(next, at.left, regs)?;
+        if !is_word_of(page, at.pc) {
+            return Some(at);
         }
     }
 }
 
-// Executes at most `most` instructions, less the words that it decodes, and returns how many it
-// executed. It stops before an instruction that can't be fetched or causes an exception. No gate is
-// below the end of RAM, so a word that can be fetched is at no gate, and nothing here asks for one.
+// Executes at most `most` instructions, and returns how many. It stops before an instruction that
+// can't be fetched or causes an exception. No gate is below the end of RAM, so a word that can be
+// fetched is at no gate, and nothing here asks for one.
 #[inline(never)]
 fn run_words(regs: &mut Regs, bus: &mut BoardBus, most: u64) -> u64
     requires { Unit {0} }
@@ -310,16 +327,12 @@ fn run_words(regs: &mut Regs, bus: &mut BoardBus, most: u64) -> u64
         regs.new (bus_seen ⟦<dyn Device as Device>⟧ bus.new) }
     ensures within { result ≤ most }
 {
-    let mut burst = Stretch {
-        pc: regs.pc,
-        made: 0,
-        end: most,
-    };
-    while burst.made < burst.end {
-        burst = run_page(burst, regs, bus);
+    let mut made = most;
+    let mut burst = onward(regs.pc, most, regs);
+    while let Some(from) = burst {
+        burst = run_page(from, &mut made, regs, bus);
     }
-    regs.pc = burst.pc;
-    burst.made
+    made
 }
 
 /// Executes at most `most` instructions of an actor, as long as each can be fetched and causes no

@@ -120,6 +120,38 @@ decoded_kept slots owners entries used oldest capacity page slot k d bytes a giv
       | inr apart ↦ agrees_still _ _ bytes bytes (page_bytes * p + 4 * j) (get_or-set_other entries i (page_words * s + j) d x apart) refl (decoded p s j x e h)
     ]
 
+-- a decoded word is put in place of that at an address, where its word is written
+pub decoded_over : (slots owners : List ℕ) (entries : List Decoded) (used oldest capacity : ℕ) (before after : List ℕ) (at slot place : ℕ) (d : Decoded) → AreSlots slots owners entries used oldest capacity
+    → at % 4 ≡ 0 → get_or slots (page_of at) 0 ≡ slot + 1 → place ≡ page_words * slot + at % page_bytes / 4 → SameElsewhere before after at 4 → read 4 after at ≡ Some d.word
+    → AreDecoded slots entries before → AreDecoded slots (set entries place d) after
+decoded_over slots owners entries used oldest capacity before after at slot place d a aligned given is same word decoded = λ p s j x e h.
+    let own = a.owned (page_of at) slot given in
+    let there : place < length entries = omega (arith, a.exact, own.0) in
+    let w = page_bytes * p + 4 * j in
+    elim (cases_eq (page_words * s + j) place) as (λ _. Agrees (get_or (set entries place d) (page_words * s + j) x) after w) [
+      | inl eq ↦
+          let slot_same : s ≡ slot = omega arith in
+          let page_same : p ≡ page_of at = sym (a.owned p s e).1 ∙ ap (λ x. get_or owners x 0) slot_same ∙ own.1 in
+          let entry : get_or (set entries place d) (page_words * s + j) x ≡ d = ap (λ q. get_or (set entries place d) q x) eq ∙ get_or-set_same entries place d x there in
+          let here : w ≡ at = omega arith in
+          inr (ap (read 4 after) here ∙ word ∙ ap (λ (e : Decoded). Some e.word) (sym entry))
+      | inr apart ↦
+          let last : place ≡ page_words * slot + (at % page_bytes + 4 - 1) / 4 = omega arith in
+          let out : (page_words * s + j < place) ⊎ (place + 1 ≤ page_words * s + j) = elim (cases_lt (page_words * s + j) place) [ inl l ↦ inl l | inr g ↦ inr (omega arith) ] in
+          agrees_still _ _ before after w (get_or-set_other entries place (page_words * s + j) d x apart) (same w (away slots at 4 slot place place p s j (omega arith) (omega arith) given e h is last out)) (decoded p s j x e h)
+    ]
+
+-- slots stay with their pages if an entry is replaced
+pub slots_over : (slots owners : List ℕ) (entries : List Decoded) (used oldest capacity place : ℕ) (d : Decoded) → AreSlots slots owners entries used oldest capacity → AreSlots slots owners (set entries place d) used oldest capacity
+slots_over slots owners entries used oldest capacity place d a = record {
+  owned = a.owned;
+  pages = a.pages;
+  exact = length-set entries place d ∙ a.exact;
+  few = a.few;
+  next = a.next;
+  room = a.room;
+}
+
 get_or-replicate : {A : Type 0} (x d : A) (n i : ℕ) → i < n → get_or (replicate n x) i d ≡ x
 get_or-replicate x d zero i h = absurd (omega arith)
 get_or-replicate x d (suc n) zero h = refl

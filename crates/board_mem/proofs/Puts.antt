@@ -1,12 +1,18 @@
 -- Bytes written into one page: the store and the pages afterwards.
-use Rattle.std.proofs.Common.{◌≡◌, ℕ, ◌+◌, ◌≤◌, List, length, refl, sym, ap, ap₂, ◌∙◌, arith}
+use Rattle.std.proofs.Common.{◌≡◌, ℕ, ◌+◌, ◌*◌, ◌/◌, ◌%◌, ◌^◌, ◌<◌, ◌≤◌, Bool, true, List, Some, None, length, get_or, set, refl, sym, ap, ap₂, ◌∙◌, subst, arith}
+use Rattle.std.specs.Prelude.{nat_le, if◌then◌else◌}
+use Rattle.std.proofs.lemmas.Bool.Decides.{nat_tests}
+use Rattle.byteorder.specs.Endian.{big_bytes}
+use Rattle.byteorder.specs.Numbers.{length-bytes_high_first}
 use Rattle.ppc_word.specs.declared.decoded.Decoded.{Decoded}
-use Rattle.board_mem.specs.Code.{AreCode, AreDecoded, AreSlots, AreWritable, SameElsewhere}
-use Rattle.board_mem.specs.Memory.{with_bytes}
-use Rattle.board_mem.proofs.Codes.{same_elsewhere}
-use Rattle.board_mem.specs.Pages.{PagesState, made_with, page_of, written_at}
+use Rattle.board_mem.specs.Code.{page_words, AreCode, AreDecoded, AreSlots, AreWritable, SameElsewhere}
+use Rattle.board_mem.specs.Memory.{number_at, read, with_bytes, word_at}
+use Rattle.board_mem.proofs.Codes.{decoded_over, same_elsewhere, slots_over}
+use Rattle.board_mem.proofs.Sizes.{length-with_bytes}
+use Rattle.board_mem.proofs.Words.{word_at-same}
+use Rattle.board_mem.specs.Pages.{PagesState, made_with, page_bytes, page_of, written_at}
 use Rattle.board_mem.specs.Store.{offset_of, bytes_of, made_of, IsMade, IsStore}
-use Rattle.board_mem.proofs.Stores.{length-made_of, length-bytes_of}
+use Rattle.board_mem.proofs.Stores.{length-made_of, length-bytes_of, made_of-again}
 use Rattle.board_mem.proofs.Windows.{IsWindow, pages_of, window_page, bytes_of-put, IsStore-put}
 use Rattle.board_mem.proofs.Writings.{made_with-page}
 
@@ -80,4 +86,38 @@ code_put {size} {index} {store} {at = at} {src = src} p writes₁ writes₂ slot
       writable = rw (p.index_same, same) writable;
       slotted = slotted;
       decoded = rw is (dropped old (with_bytes old at src) (same_elsewhere old at src fits) decoded);
+    }
+
+-- the page of the range was created before
+pub put_there : {size : ℕ} {index store store₂ : List ℕ} {capacity at start : ℕ} {src held : List ℕ} → IsWindow size index store capacity at (length src) → 0 < get_or index (page_of at) 0
+    → store₂ ≡ with_bytes held start src → held ≡ store → start ≡ offset_of index at → IsPut size index store index store index store₂ capacity capacity at src
+put_there {index = index} {at = at} window some put same place =
+    put_made window (record { stored = window.kept.stored; numbered = some; made = sym (made_of-again index (page_of at) (window_page window) some); numbers = λ other h. refl; bytes = λ size fits. refl }) refl refl put same place
+
+-- a word is read back
+word_back : (ram : List ℕ) (at v : ℕ) → at + 4 ≤ length ram → v < 2 ^ 32 → read 4 (with_bytes ram at (big_bytes 4 v)) at ≡ Some v
+word_back ram at v fits below =
+    let after = with_bytes ram at (big_bytes 4 v) in
+    let size = length-with_bytes ram at (big_bytes 4 v) (omega (arith, fits, length-bytes_high_first 4 v)) in
+    let there : nat_le (at + 4) (length after) ≡ true = grind (arith, nat_tests, size, fits) in
+    let whole : v % 256 ^ 4 ≡ v = omega arith in
+    let same : word_at after at ≡ v = subst (λ (n : ℕ). word_at (with_bytes ram at (big_bytes 4 n)) at ≡ v) whole (word_at-same ram at v (omega arith) below) in
+    ap (λ (b : Bool). if b then Some (number_at 4 after at) else None) there ∙ ap Some same
+
+-- a word is written over a decoded one, and its decoded word is kept
+pub code_over : {size : ℕ} {index store store₂ : List ℕ} {capacity at v : ℕ} → IsPut size index store index store index store₂ capacity capacity at (big_bytes 4 v)
+    → (writes slots owners : List ℕ) (entries : List Decoded) (used oldest room slot place : ℕ) (d : Decoded) → AreCode index writes slots owners entries used oldest room (bytes_of size index store)
+    → at % 4 ≡ 0 → get_or slots (page_of at) 0 ≡ slot + 1 → place ≡ page_words * slot + at % page_bytes / 4 → d.word ≡ v → v < 2 ^ 32
+    → AreCode index writes slots owners (set entries place d) used oldest room (bytes_of size index store₂)
+code_over {size} {index} {store} {at = at} {v = v} p writes slots owners entries used oldest room slot place d code aligned given is word below =
+    let old = bytes_of size index store in
+    let after = with_bytes old at (big_bytes 4 v) in
+    let bytes = pages_after p (record { bytes = old; made = made_of index }) refl refl in
+    let four : length (big_bytes 4 v) ≡ 4 = length-bytes_high_first 4 v in
+    let there : at + 4 ≤ length old = omega (arith, p.window.there, four, length-bytes_of size index store) in
+    let same = subst (λ (n : ℕ). SameElsewhere old after at n) four (same_elsewhere old at (big_bytes 4 v) (omega (arith, there, four))) in
+    record {
+      writable = code.writable;
+      slotted = slots_over slots owners entries used oldest room place d code.slotted;
+      decoded = rw bytes (decoded_over slots owners entries used oldest room old after at slot place d code.slotted aligned given is same (word_back old at v there below ∙ ap Some (sym word)) code.decoded);
     }

@@ -1,13 +1,13 @@
 //! The decoded words of the pages that instructions were executed in.
 
-ghost use Rattle.std.specs.Prelude.{◌≡◌, ◌≢◌, ◌+◌, ◌-◌, ◌*◌, ◌%◌, ◌/◌, ◌<◌, ◌≤◌, ◌⊎◌, ℕ, List, IfOk, length, take, drop, slice_index, slice_index_or, vec_capacity, replicate};
+ghost use Rattle.std.specs.Prelude.{◌≡◌, ◌≢◌, ◌+◌, ◌-◌, ◌*◌, ◌%◌, ◌/◌, ◌<◌, ◌≤◌, ◌⊎◌, ℕ, List, IfOk, IfSome, length, take, drop, slice_index, slice_index_or, vec_capacity, replicate};
 ghost use Rattle.board_mem.specs.Code.{page_words, most_code_slots, Agrees, AreDecoded, AreSlots, IsFree, IsGiven, SameElsewhere};
 ghost use Rattle.board_mem.specs.Pages.{page_of, page_bytes};
 ghost use Rattle.ppc_word.specs.declared.decoded.Decoded.{Decoded};
 ghost use Rattle.ppc_word.specs.declared.op.Op.TheVariants as ops;
 
 use crate::store::{PAGE, repeated};
-use ppc_word::{Decoded, empty};
+use ppc_word::{Decoded, Op, empty};
 use std::alloc::Global;
 use wind_base::NoMemory;
 
@@ -105,6 +105,28 @@ impl CodePages {
         let first = (number - 1) * WORDS + at % PAGE / 4;
         let last = (number - 1) * WORDS + (at % PAGE + n - 1) / 4;
         empty_entries(&mut self.entries, first, last + 1);
+    }
+
+    /// The index of the entry of the word that the byte at an address is in. None if the entry is
+    /// empty, or if the page has no slot.
+    #[inline(always)]
+    pub(crate) fn entry_at(&self, at: usize) -> Option<usize>
+        requires there { page_of at < length self.now.slots.items }
+        requires slots { AreSlots self.now.slots.items self.now.owners.items self.now.entries.items self.now.used
+            self.now.oldest (vec_capacity self.now.entries) }
+        ensures slot { IfSome result (λ i. (slot : ℕ) × (slice_index self.now.slots.items (page_of at) ≡ slot + 1)
+            × (i ≡ page_words * slot + at % page_bytes / 4)) }
+        ensures within { IfSome result (λ i. i < length self.now.entries.items) }
+    {
+        let number = self.slots[at / PAGE] as usize;
+        if number == 0 {
+            return None;
+        }
+        let place = (number - 1) * WORDS + at % PAGE / 4;
+        if self.entries[place].op == Op::Empty {
+            return None;
+        }
+        Some(place)
     }
 
     // Adds a free slot.

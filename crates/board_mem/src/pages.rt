@@ -9,7 +9,7 @@ ghost use Rattle.board_mem.specs.Pages.{page_bytes, unmade, written_at, made_cou
 use crate::code::{CodePages, entries_of};
 use crate::outside::Outside;
 use crate::store::{PAGE, fill_in, offset, offset_to_write, put_in, put_word_in, repeated};
-use ppc_word::Decoded;
+use ppc_word::{Decoded, decode_word};
 use std::alloc::Global;
 use std::marker::Model;
 use wind_base::NoMemory;
@@ -175,6 +175,45 @@ impl Pages {
             4,
         );
         put_word_in(&mut self.store, start, v);
+    }
+
+    // Writes a word at an address. `false` if its page wasn't created yet, or has decoded words;
+    // then nothing changes.
+    #[inline(always)]
+    pub(crate) fn put_plain_word(&mut self, at: u32, v: u32) -> bool
+        requires aligned { at % 4 ≡ 0 }
+        requires there { at + 4 ≤ length self.old.bytes }
+        ensures { self.new ≡ (if result then written_at self.old at (big_bytes 4 v) else self.old) }
+    {
+        let number = self.writes[at as usize / PAGE] as usize;
+        if number == 0 {
+            return false;
+        }
+        put_word_in(&mut self.store, number * PAGE + at as usize % PAGE, v);
+        true
+    }
+
+    // Writes a word at an address over one that is decoded, and keeps it decoded too. `false` if
+    // the word there isn't decoded, or the new one is no instruction; then nothing changes.
+    #[inline(always)]
+    pub(crate) fn put_instruction(&mut self, at: u32, v: u32) -> bool
+        requires aligned { at % 4 ≡ 0 }
+        requires there { at + 4 ≤ length self.old.bytes }
+        ensures { self.new ≡ (if result then written_at self.old at (big_bytes 4 v) else self.old) }
+    {
+        let number = self.index[at as usize / PAGE] as usize;
+        if number == 0 {
+            return false;
+        }
+        let Some(entry) = self.code.entry_at(at as usize) else {
+            return false;
+        };
+        let Some(decoded) = decode_word(v) else {
+            return false;
+        };
+        self.code.entries[entry] = decoded;
+        put_word_in(&mut self.store, number * PAGE + at as usize % PAGE, v);
+        true
     }
 
     // Writes this byte `n` times from an address on, all in its page.

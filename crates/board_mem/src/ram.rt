@@ -113,16 +113,16 @@ impl Ram {
         if !self.has(addr, 4) {
             return None;
         }
-        if left_in_page(addr) >= 4 {
-            return Some(BigEndian::read_u32(self.pages.piece(addr, 4)));
+        if addr % 4 != 0 {
+            return Some(self.unaligned_word(addr));
         }
-        Some(self.word_across(addr))
+        Some(BigEndian::read_u32(self.pages.piece(addr, 4)))
     }
 
-    // The word at an address, with bytes in two pages.
+    // The word at an address that isn't a multiple of 4, so that its bytes may be in two pages.
     #[cold]
     #[inline(never)]
-    fn word_across(&self, addr: u32) -> u32
+    fn unaligned_word(&self, addr: u32) -> u32
         requires { IsTrue (has self.now.bytes addr 4) }
         ensures { result ≡ number_at 4 self.now.bytes addr }
     {
@@ -132,8 +132,8 @@ impl Ram {
     }
 
     /// The decoded words of a page, in order: 1,024, or none. An entry is empty if its word isn't
-    /// decoded. What is decoded isn't part of what a contract sees of RAM, and each write drops what
-    /// it changes.
+    /// decoded. What is decoded isn't part of what a contract sees of RAM, and each write drops or
+    /// decodes again what it changes.
     #[inline(always)]
     pub fn code_of(&self, page: u32) -> &[Decoded]
         ensures words { AreWords result.now self.now.bytes page }
@@ -219,18 +219,36 @@ impl Ram {
         if !self.has(addr, 4) {
             return Err(Outside);
         }
-        if left_in_page(addr) >= 4 {
-            self.pages.put_word(addr, v);
+        if addr % 4 != 0 {
+            self.put_unaligned_word(addr, v);
             return Ok(());
         }
-        self.put_word_across(addr, v);
+        if !self.pages.put_plain_word(addr, v) {
+            self.put_word_in_code(addr, v);
+        }
         Ok(())
     }
 
-    // Writes a word, with bytes in two pages.
+    // Writes a word at a multiple of 4, in any page. If the word there was decoded, the new one is
+    // decoded too: code that writes its own words executes them soon.
     #[cold]
     #[inline(never)]
-    fn put_word_across(&mut self, addr: u32, v: u32)
+    fn put_word_in_code(&mut self, addr: u32, v: u32)
+        requires aligned { addr % 4 ≡ 0 }
+        requires there { addr + 4 ≤ length self.old.bytes }
+        ensures bytes { self.new.bytes ≡ with_number 4 self.old.bytes addr v }
+        ensures made { self.new.made ≡ made_by self.old addr 4 }
+    {
+        if !self.pages.put_instruction(addr, v) {
+            self.pages.put_word(addr, v);
+        }
+    }
+
+    // Writes a word at an address that isn't a multiple of 4, so that its bytes may be in two
+    // pages.
+    #[cold]
+    #[inline(never)]
+    fn put_unaligned_word(&mut self, addr: u32, v: u32)
         requires { IsTrue (has self.old.bytes addr 4) }
         ensures bytes { self.new.bytes ≡ with_number 4 self.old.bytes addr v }
         ensures made { self.new.made ≡ made_by self.old addr 4 }

@@ -235,7 +235,10 @@ pub fn decode_word(word: u32) -> Option<Decoded>
     ensures is { IfSome result (λ d. d.op ≡ op_of d.row d.word) }
     ensures op { IfSome result (λ d. d.op ≢ ops.Empty) }
 {
-    let row = row_for(word)?;
+    // not `?`, which is a call of its own here
+    let Some(row) = row_for(word) else {
+        return None;
+    };
     Some(match row {
         Row::B => branch(word),
         Row::Bc => conditional_branch(word),

@@ -2,3 +2,4 @@ pub mod Finding
 mod Removing
 mod Chaining
 mod Running
+mod Hashing

@@ -3,6 +3,7 @@ use Rattle.std.specs.Prelude.{◌≡◌, ℕ, zero, suc, ◌+◌, ◌-◌, ◌*�
 use Rattle.std.specs.List.{All}
 use Rattle.wind_base.specs.Limits.{most_symbols}
 use Rattle.symbol_table.specs.declared.symbol.Symbol.{Symbol}
+use Rattle.symbol_table.specs.declared.hashes.Hashes.{Hashes}
 use Rattle.symbol_table.specs.declared.links.Links.{Links}
 use Rattle.symbol_table.specs.declared.links.Key.{Key}
 use Rattle.symbol_table.specs.declared.links.Key.TheVariants as keys
@@ -34,6 +35,15 @@ value_hash value = value * 2654435769 % 2 ^ 32 / most_hashes
 abbrev pub hash_by : Key → Symbol → ℕ
 hash_by keys.Name s = name_hash s.name
 hash_by keys.Value s = value_hash s.value
+
+-- both hashes of an entry
+abbrev pub hashes_of : Symbol → Hashes
+hashes_of s = record { name = name_hash s.name; value = value_hash s.value }
+
+-- the one by name, or by value
+abbrev pub hash_in : Key → Hashes → ℕ
+hash_in keys.Name h = h.name
+hash_in keys.Value h = h.value
 
 -- the chain of an entry: its hash modulo n, with n chains
 abbrev pub chain_by : Key → ℕ → Symbol → ℕ

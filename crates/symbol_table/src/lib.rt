@@ -2,6 +2,7 @@
 #![tactic(auto)]
 
 mod chains;
+mod hashes;
 mod laws;
 mod links;
 mod runs;

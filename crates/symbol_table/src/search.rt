@@ -1,10 +1,11 @@
 //! Look-ups along the chains of a list of symbols.
 
-ghost use Rattle.std.specs.Prelude.{◌≡◌, ◌≤◌, ◌<◌, length, take, option_copied, vec_capacity, OnOk};
+ghost use Rattle.std.specs.Prelude.{◌≡◌, ◌≤◌, ◌<◌, length, take, map, option_copied, vec_capacity, OnOk};
 ghost use Rattle.wind_base.specs.Limits.{most_symbols};
 ghost use Rattle.symbol_table.specs.Newest.{newest, has_value};
-ghost use Rattle.symbol_table.specs.Chains.{most_hashes, hash_by as hash_by_lem, AreLinked, AreNamed, AreValued, is_sought, state_of};
+ghost use Rattle.symbol_table.specs.Chains.{most_hashes, hashes_of, AreLinked, AreNamed, AreValued, is_sought, state_of};
 
+use crate::hashes::Hashes;
 use crate::links::{Key, Links, hash_name, hash_value};
 use crate::symbol::Symbol;
 use wind_base::NoMemory;
@@ -52,18 +53,9 @@ pub(crate) fn newest_valued<'a>(list: &'a [Symbol], links: &Links, value: u32) -
     None
 }
 
-fn hash_by(key: Key, symbol: &Symbol) -> u32
-    ensures value { result ≡ hash_by_lem key symbol.now }
-    ensures below { result < most_hashes }
-{
-    match key {
-        Key::Name => hash_name(symbol.name.bytes()),
-        Key::Value => hash_value(symbol.value),
-    }
-}
-
 /// Links the symbols from position `n` on into chains by name, or by value; those before it are.
-pub(crate) fn link_from(key: Key, list: &[Symbol], links: &mut Links, n: usize)
+pub(crate) fn link_from(key: Key, list: &[Symbol], hashes: &[Hashes], links: &mut Links, n: usize)
+    requires hashed { hashes.now ≡ map hashes_of list.now }
     requires within { n ≤ length list.now }
     requires few { length list.now ≤ most_symbols }
     requires room { length list.now ≤ vec_capacity links.old.before }
@@ -73,12 +65,13 @@ pub(crate) fn link_from(key: Key, list: &[Symbol], links: &mut Links, n: usize)
     ensures capacity { vec_capacity links.new.before ≡ vec_capacity links.old.before }
 {
     for i in n..list.len() {
-        links.add(hash_by(key, &list[i]));
+        links.add(hashes[i].by(key));
     }
 }
 
 /// Links the symbols into chains by name, or by value.
-pub(crate) fn link(key: Key, list: &[Symbol], links: &mut Links)
+pub(crate) fn link(key: Key, list: &[Symbol], hashes: &[Hashes], links: &mut Links)
+    requires hashed { hashes.now ≡ map hashes_of list.now }
     requires some { 0 < length links.old.heads.items }
     requires few { length list.now ≤ most_symbols }
     requires room { length list.now ≤ vec_capacity links.old.before }
@@ -87,11 +80,12 @@ pub(crate) fn link(key: Key, list: &[Symbol], links: &mut Links)
     ensures capacity { vec_capacity links.new.before ≡ vec_capacity links.old.before }
 {
     links.clear();
-    link_from(key, list, links, 0);
+    link_from(key, list, hashes, links, 0);
 }
 
 /// Takes the symbols from position `n` on out of their chains by name, or by value.
-fn unlink_from(key: Key, list: &[Symbol], links: &mut Links, n: usize)
+fn unlink_from(key: Key, list: &[Symbol], hashes: &[Hashes], links: &mut Links, n: usize)
+    requires hashed { hashes.now ≡ map hashes_of list.now }
     requires within { n ≤ length list.now }
     requires chained { AreLinked key list.now (state_of links.old) }
     ensures chained { AreLinked key (take n list.now) (state_of links.new) }
@@ -99,13 +93,14 @@ fn unlink_from(key: Key, list: &[Symbol], links: &mut Links, n: usize)
     ensures capacity { vec_capacity links.new.before ≡ vec_capacity links.old.before }
 {
     for i in (n..list.len()).rev() {
-        links.remove_newest(hash_by(key, &list[i]));
+        links.remove_newest(hashes[i].by(key));
     }
 }
 
-/// Leaves only the symbols before position `n` in their chains by name, or by value. It hashes
-/// those or the others, whichever are fewer.
-pub(crate) fn leave_first(key: Key, list: &[Symbol], links: &mut Links, n: usize)
+/// Leaves only the symbols before position `n` in their chains by name, or by value. It links
+/// those anew or takes the others out, whichever are fewer.
+pub(crate) fn leave_first(key: Key, list: &[Symbol], hashes: &[Hashes], links: &mut Links, n: usize)
+    requires hashed { hashes.now ≡ map hashes_of list.now }
     requires within { n ≤ length list.now }
     requires few { length list.now ≤ most_symbols }
     requires room { length list.now ≤ vec_capacity links.old.before }
@@ -115,16 +110,23 @@ pub(crate) fn leave_first(key: Key, list: &[Symbol], links: &mut Links, n: usize
     ensures capacity { vec_capacity links.new.before ≡ vec_capacity links.old.before }
 {
     if n < list.len() / 2 {
-        link(key, &list[..n], links);
+        link(key, &list[..n], &hashes[..n], links);
     } else {
-        unlink_from(key, list, links, n);
+        unlink_from(key, list, hashes, links, n);
     }
 }
 
 /// Makes at least `n` chains by name, or by value, with the symbols in them. If memory runs out, the
 /// chains stay as they were.
-pub(crate) fn widen(key: Key, list: &[Symbol], links: &mut Links, n: u32) -> Result<(), NoMemory>
+pub(crate) fn widen(
+    key: Key,
+    list: &[Symbol],
+    hashes: &[Hashes],
+    links: &mut Links,
+    n: u32,
+) -> Result<(), NoMemory>
     requires wide { n ≤ most_hashes }
+    requires hashed { hashes.now ≡ map hashes_of list.now }
     requires some { 0 < length links.old.heads.items }
     requires few { length list.now ≤ most_symbols }
     requires room { length list.now ≤ vec_capacity links.old.before }
@@ -138,6 +140,6 @@ pub(crate) fn widen(key: Key, list: &[Symbol], links: &mut Links, n: u32) -> Res
         return Ok(());
     }
     links.widen(n)?;
-    link(key, list, links);
+    link(key, list, hashes, links);
     Ok(())
 }

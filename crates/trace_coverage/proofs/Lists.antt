@@ -27,7 +27,7 @@ same_tests true b f g = sym (f refl)
 same_tests false true f g = g refl
 same_tests false false f g = refl
 
--- a test in two parts, each of which passes or not
+-- a test with two parts
 parted : (q p s t u : Bool) → (s || t) ≡ u → (((not q && p) || s) || ((q && p) || t)) ≡ (p || u)
 parted true true true t u e = refl
 parted true true false t u e = refl
@@ -69,7 +69,7 @@ module _ {X : Type 0} where
       ∙ parted (q x) (p x) (list_any (λ y. not (q y) && p y) xs) (list_any (λ y. q y && p y) xs) (list_any p xs)
       (ap₂ (λ v w. v || w) (sym (any_filter p (λ y. not (q y)) xs)) (sym (any_filter p q xs)) ∙ any_parts p q xs)
 
-  -- images of which none passes
+  -- no image passes
   pub any_never : {Y : Type 0} (p : Y → Bool) (f : X → Y) → ((x : X) → p (f x) ≡ false) → (xs : List X) → list_any p (map f xs) ≡ false
   any_never p f none [] = refl
   any_never p f none (x ∷ xs) = or_from (p (f x)) (list_any p (map f xs)) (none x) (any_never p f none xs)

@@ -11,7 +11,7 @@ use Rattle.trace_coverage.proofs.Lists.{any_filter, any_implies, any_map, any_mo
 use Rattle.trace_coverage.proofs.Words.{none_yet, one_more}
 
 -- ---- words of modules
--- the address is that of a word of this module, which has this id
+-- the module has this id, and a word at this address
 abbrev pub word_in : ℕ → ℕ → CoveredState → Bool
 word_in id at m = m.id == id && is_word_among m.start (length m.executed) at
 

@@ -18,11 +18,11 @@ text_start m = slice_index (map (λ g. g.addr) m.segments) 0
 abbrev pub text_words : LoadedModule → ℕ
 text_words m = slice_index (map (λ g. g.size) m.segments) 0 / 4
 
--- the address is that of one of so many words from `start` on
+-- one of these words, which begin at `start`, is at this address
 abbrev pub is_word_among : ℕ → ℕ → ℕ → Bool
 is_word_among start words at = nat_le start at && ((at - start) % 4 == 0 && nat_lt ((at - start) / 4) words)
 
--- a module of which no word was executed
+-- a module before any of its words is executed
 abbrev pub unexecuted : ℕ × LoadedModule → CoveredState
 unexecuted r = record { id = r.0; name = r.1.name; start = text_start r.1; executed = replicate (text_words r.1) false }
 

@@ -10,7 +10,7 @@ abbrev pub covered : (ℕ → List (ℕ × LoadedModule)) → (ℕ → Option �
 covered rows executed zero = with_table (rows zero) (record { live = []; gone = [] })
 covered rows executed (suc k) = with_table (rows (suc k)) (with_executed (executed k) (covered rows executed k))
 
--- the address is that of a word of this module, and the word was executed
+-- the module has a word at this address, and it was executed
 abbrev pub is_executed : ℕ → CoveredState → Bool
 is_executed at m = is_word_among m.start (length m.executed) at && get_or m.executed ((at - m.start) / 4) false
 
@@ -18,7 +18,7 @@ is_executed at m = is_word_among m.start (length m.executed) at && get_or m.exec
 abbrev pub is_listed : CoverageState → ℕ → ℕ → Bool
 is_listed c id at = list_any (λ m. m.id == id && is_executed at m) (c.gone ++ c.live)
 
--- the module with this id is in the table, and the address is that of a word of its text segment
+-- the table has the module with this id, and its text segment has a word at this address
 abbrev pub has_word : List (ℕ × LoadedModule) → ℕ → ℕ → Bool
 has_word rows id at = list_any (λ r. r.0 == id && is_word_among (text_start r.1) (text_words r.1) at) rows
 

@@ -21,8 +21,7 @@ abbrev pub ended_at : Option ℕ → ℕ → List Range
 ended_at None at = []
 ended_at (Some from) at = record { from = from; to = at } ∷ []
 
--- the longest ranges among these words, of which the first is at this address; the words before it that were executed
--- began at `begun`
+-- the longest ranges among these words, the first at this address. The executed words just before it began at `begun`
 abbrev pub ranges_from : Option ℕ → ℕ → List Bool → List Range
 ranges_from begun at [] = ended_at begun at
 ranges_from begun at (true ∷ words) = ranges_from (Some (begun_at begun at)) (at + 4) words

@@ -33,7 +33,7 @@ impl Model for Covered {
 }
 
 impl Covered {
-    /// A module of which no word was executed.
+    /// A module before any of its words is executed.
     pub(crate) fn new(alloc: Global, id: Ident, module: &LoadedModule) -> Result<Covered, NoMemory>
         ensures { IfOk result (λ m. m ≡ unexecuted (id, module.now)) }
     {

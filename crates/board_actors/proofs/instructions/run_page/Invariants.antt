@@ -1,4 +1,4 @@
-use Rattle.std.proofs.Common.{◌≡◌, ℕ, ◌+◌, ◌-◌, ◌/◌, ◌%◌, ◌<◌}
+use Rattle.std.proofs.Common.{◌≡◌, ℕ, ◌+◌, ◌/◌, ◌%◌}
 use Rattle.ppc_core.specs.Stepping.{at_pc}
 use Rattle.board_bus.specs.Seen.{bus_by}
 use Rattle.board_actors.proofs.Bursting.{RunsBelow}
@@ -8,7 +8,7 @@ use Rattle.board_actors.proofs.instructions.run_page.Given as goal
 abbrev pub invariant-loop-next : goal.invariant-loop-next
 invariant-loop-next g l =
     let seen = bus_by (λ d. (goal.Device-dyn g (d.vtable, d.value)).kind_of d.value) (λ d. (goal.Device-dyn g (d.vtable, d.value)).words_of d.value) in
-    (k : ℕ) × (l.made ≡ l.fn.from.made + k) × RunsBelow k (at_pc l.initial.regs l.fn.from.pc) (seen l.fn.bus) (at_pc l.regs l.pc) (seen l.fn.bus) × (l.made < l.end) × (l.pc / 4096 ≡ l.page) × (l.pc % 4 ≡ 0)
+    (k : ℕ) × (k + l.at.left ≡ l.fn.from.left) × RunsBelow k (at_pc l.initial.regs l.fn.from.pc) (seen l.fn.bus) (at_pc l.regs l.at.pc) (seen l.fn.bus) × (l.at.pc / 4096 ≡ l.page) × (l.at.pc % 4 ≡ 0) × (l.made ≡ l.fn.made)
 
 abbrev pub decreases-loop-next : goal.decreases-loop-next
-decreases-loop-next g l = l.end - l.made
+decreases-loop-next g l = l.at.left

@@ -1,6 +1,6 @@
-use Rattle.std.proofs.Common.{◌-◌, ◌≤◌}
-use Rattle.ppc_core.specs.Stepping.{at_pc}
+use Rattle.std.proofs.Common.{◌≡◌, ◌+◌, ◌≤◌, ℕ}
 use Rattle.board_bus.specs.Seen.{bus_by}
+use Rattle.board_actors.specs.Instructions.{left_of, reached}
 use Rattle.board_actors.proofs.Bursting.{RunsBelow}
 use Rattle.board_actors.proofs.instructions.run_words.Given as goal
 
@@ -8,7 +8,7 @@ use Rattle.board_actors.proofs.instructions.run_words.Given as goal
 abbrev pub invariant-loop-burst : goal.invariant-loop-burst
 invariant-loop-burst g l =
     let seen = bus_by (λ d. (goal.Device-dyn g (d.vtable, d.value)).kind_of d.value) (λ d. (goal.Device-dyn g (d.vtable, d.value)).words_of d.value) in
-    RunsBelow l.burst.made l.initial.regs (seen l.initial.bus) (at_pc l.regs l.burst.pc) (seen l.bus) × (l.burst.made ≤ l.burst.end) × (l.burst.end ≤ l.most)
+    (k : ℕ) × (k + left_of l.burst ≡ l.made) × RunsBelow k l.fn.regs (seen l.fn.bus) (reached l.burst l.regs) (seen l.bus) × (l.made ≤ l.most)
 
 abbrev pub decreases-loop-burst : goal.decreases-loop-burst
-decreases-loop-burst g l = l.burst.end - l.burst.made
+decreases-loop-burst g l = left_of l.burst

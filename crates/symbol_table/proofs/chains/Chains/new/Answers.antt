@@ -11,7 +11,8 @@ invariant_of-result c =
     let none : c.new-3.result.items ≡ [] = c.new-3.ensures.items in
     let names = ap (λ (xs : List ℕ). length xs) c.in_ok-names.ensures.heads ∙ length-replicate {A = ℕ} 64 0 in
     let values = ap (λ (xs : List ℕ). length xs) c.in_ok-values.ensures.heads ∙ length-replicate {A = ℕ} 64 0 in
-    let runs : c.new-4.result.items ≡ [] = c.new-4.ensures.items in
+    let hashes : c.new-4.result.items ≡ [] = c.new-4.ensures.items in
+    let runs : c.new-5.result.items ≡ [] = c.new-5.ensures.items in
     rw none (
       omega arith,
       omega arith,
@@ -27,4 +28,6 @@ invariant_of-result c =
       omega arith,
       ap (λ (xs : List ℕ). length xs) runs,
       rw runs (record { within = omega arith; each = λ i h. absurd (omega arith) }),
+      omega arith,
+      hashes,
     )

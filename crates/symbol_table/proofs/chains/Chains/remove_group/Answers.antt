@@ -11,5 +11,5 @@ add_runs-requires-clause-runs c =
     let size = c.deref.ensures.len in
     let within = c.first_of-first.ensures.within in
     let le : first ≤ length runs = omega arith in
-    rw (c.deref-5.ensures.value, c.truncate.ensures.items)
+    rw (c.deref-7.ensures.value, c.truncate.ensures.items)
     (runs_kept list c.drop_group.new.list.items runs first c.self.invariant.6 le c.drop_group.ensures.within c.drop_group.ensures.before)
