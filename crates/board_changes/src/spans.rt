@@ -254,4 +254,11 @@ impl Spans {
     {
         &self.done
     }
+
+    /// Forgets the spans that have ended.
+    pub fn forget_done(&mut self)
+        ensures { self.new ≡ record self.old { done = [] } }
+    {
+        self.done.clear();
+    }
 }
