@@ -10,7 +10,7 @@ use crate::input::{Input, InputPart, part_len};
 use crate::record_folder::{Flush, Presence, RecordFolder};
 use std::alloc::{AllocError, Global};
 use std::collections::BTreeMap;
-use wind_outside::Put;
+use wind_outside::{Fetched, Put};
 
 /// The numbers, from 1 on, of the calls that fail; the number of calls made; and the number of
 /// failed ones.
@@ -242,5 +242,26 @@ impl RecordFolder for MemRecordFolder {
                 Put::Failed
             }
         }
+    }
+
+    fn read(&mut self, alloc: Global, name: &str, limit: u32) -> Fetched {
+        if self.calls.count() {
+            return Fetched::Failed;
+        }
+        match self.files.get(name) {
+            None => Fetched::Missing,
+            Some(bytes) if bytes.len() > limit as usize => Fetched::TooLong,
+            Some(bytes) => match Vec::from_slice(alloc, bytes) {
+                Ok(copy) => Fetched::Found(copy),
+                Err(AllocError) => Fetched::NoMemory,
+            },
+        }
+    }
+
+    fn clear_beside(&mut self, _alloc: Global, _name: &str) -> Put {
+        if self.calls.count() {
+            return Put::Failed;
+        }
+        Put::Done
     }
 }
