@@ -4,6 +4,7 @@ use Rattle.std.specs.Prelude.{◌==◌, ◌||◌, nat_le}
 use Rattle.std.specs.List.{list_any, sum_by}
 use Rattle.std.specs.Option.{option_map}
 use Rattle.std.proofs.lemmas.Bool.Decides.{nat_tests}
+use Rattle.std.proofs.lemmas.List.Sums.{sum_by_push}
 use Rattle.std.proofs.lemmas.List.{append_assoc, append_cancel_left, append-nil, length-append, length-take-le}
 use Rattle.id_table.specs.Sorting.{first}
 use Rattle.wind_base.specs.Limits.{greatest_word}
@@ -168,8 +169,7 @@ pub serving_begins : (len : ℕ) (events : List (ℕ × Event)) → Serving len 
 serving_begins len events = record { done = []; whole = refl; split = (let all : len ≡ len - 0 = omega arith in ap (λ n. served n events) all); text = refl; sum = refl; within = omega arith; last_is = refl }
 
 bytes_more : (xs : List (ℕ × Event)) (x : ℕ × Event) → bytes_of (xs ++ x ∷ []) ≡ bytes_of xs + bytes_asked x.1
-bytes_more [] x = omega arith
-bytes_more (y ∷ xs) x = omega (arith, bytes_more xs x)
+bytes_more xs x = sum_by_push (λ y. bytes_asked y.1) xs x
 
 module _ (len : ℕ) (events rest : List (ℕ × Event)) (ticks : List ℕ) (bytes last : ℕ) (s : Serving len events rest ticks bytes last) where
   -- the next one is served too

@@ -1,9 +1,10 @@
 -- The start of a record: the board without one, and windplay's run of it.
-use Rattle.std.proofs.Common.{◌≡◌, ℕ, ◌+◌, ◌<◌, ◌≤◌, true, false, cond, List, [], ◌∷◌, length, Option, None, Some, refl, sym, ap, ◌∙◌, subst, arith}
+use Rattle.std.proofs.Common.{◌≡◌, ℕ, ◌+◌, ◌<◌, ◌≤◌, true, false, cond, List, [], ◌∷◌, length, Option, None, Some, refl, sym, ap, ◌∙◌, subst, arith, zero-add}
 use Rattle.std.specs.Prelude.{nat_lt}
 use Rattle.std.specs.List.{All, sum_by}
 use Rattle.std.proofs.lemmas.Bool.Decides.{nat_tests}
 use Rattle.std.proofs.lemmas.List.{length-append}
+use Rattle.std.proofs.lemmas.List.Sums.{sum_by-cons}
 use Rattle.std.proofs.lemmas.List.Elements.{All-cons, All-nil}
 use Rattle.wind_base.specs.Limits.{longest_text_file}
 use Rattle.wind_base.specs.OutBuf.{Output}
@@ -47,13 +48,15 @@ planned law console ticks lines last within r =
 -- ---- the events of a record
 numbered_bytes : (n : ℕ) (xs : List (ℕ × Event)) → sum_by bytes_at (numbered n xs) ≡ bytes_of xs
 numbered_bytes n [] = refl
-numbered_bytes n (x ∷ xs) = ap (λ rest. bytes_asked x.1 + rest) (numbered_bytes (n + 1) xs)
+numbered_bytes n (x ∷ xs) =
+    sum_by-cons bytes_at (record { time = x.0; line = n; number = 1; event = x.1 }) (numbered (n + 1) xs)
+    ∙ ap (λ rest. bytes_asked x.1 + rest) (numbered_bytes (n + 1) xs) ∙ sym (sum_by-cons (λ y. bytes_asked y.1) x xs)
 
 no_bytes : (xs : List (ℕ × Event)) → bring_no_bytes xs ≡ true → bytes_of xs ≡ 0
 no_bytes [] e = refl
-no_bytes ((time, events.Tick) ∷ xs) e = let rest = no_bytes xs e in omega (arith, rest)
+no_bytes ((time, events.Tick) ∷ xs) e = sum_by-cons (λ y. bytes_asked y.1) (time, events.Tick) xs ∙ zero-add (bytes_of xs) ∙ no_bytes xs e
 no_bytes ((time, events.Rx bytes) ∷ xs) e = absurd (cc)
-no_bytes ((time, events.Irq slot) ∷ xs) e = let rest = no_bytes xs e in omega (arith, rest)
+no_bytes ((time, events.Irq slot) ∷ xs) e = sum_by-cons (λ y. bytes_asked y.1) (time, events.Irq slot) xs ∙ zero-add (bytes_of xs) ∙ no_bytes xs e
 
 last_late : (least : ℕ) (xs : List (ℕ × Event)) → AreRecordable least xs → least ≤ last_time least xs
 last_late least [] h = omega arith

@@ -1,8 +1,6 @@
-use Rattle.std.proofs.Common.{◌≡◌, ◌∙◌, ap, arith, length, rules, sym}
-use Rattle.std.proofs.lemmas.List.{length-take-le}
+use Rattle.std.proofs.Common.{◌≡◌, ◌∙◌, ap, arith, length, refl, rules, sym}
 use Rattle.std.proofs.lemmas.Result.{err_from_is_err_and}
-use Rattle.tick_file.specs.Writing.{recorded}
-use Rattle.live_session.specs.Cutting.{IsServed, whole_lines}
+use Rattle.live_session.specs.Cutting.{IsServed}
 use Rattle.live_session.proofs.Cuts.{cut_done, cut_not, served_as, served_few, text_short}
 use Rattle.live_session.proofs.reading.cut.Goals as goal
 
@@ -13,30 +11,30 @@ returns-in_err-events-clause-err c =
 
 pub overflow_sub-unserved : goal.overflow_sub-unserved
 overflow_sub-unserved c =
-    let few = served_few c.len.result c.deref.result.now in
-    omega (arith, c.in_ok-served.ensures.count, few, ap length c.deref.ensures.value)
+    let few = served_few (length c.args.console.now) c.deref.result.now in
+    omega (arith, c.in_ok-served.ensures.count, few, ap length c.deref.ensures.value, c.in_ok-events.events.ok.0, c.len.ensures)
 
 -- the bytes of two lines aren't there
 pub returns-then-unserved-gt1-clause-err : goal.returns-then-unserved-gt1-clause-err
 returns-then-unserved-gt1-clause-err c =
     let s : IsServed (length c.args.console.now) c.in_ok-events.events.items c.in_ok-served.served.ticks.items c.in_ok-served.served.bytes c.in_ok-served.served.lines c.in_ok-served.served.last =
-    served_as (length c.args.console.now) _ c.in_ok-events.events.items _ _ _ _ _ c.len.ensures c.deref.ensures.value c.in_ok-served.ensures in
+    served_as (length c.args.console.now) _ c.in_ok-events.events.items _ _ _ _ _ refl c.deref.ensures.value c.in_ok-served.ensures in
     λ known kept_console kept_ticks cut.
     cut_not c.writing_law.ensures.written c.args.console.now c.args.ticks.now c.in_ok-events.events.items (sym c.whole_lines.ensures ∙ c.in_ok-events.ensures.ok.0) c.in_ok-events.ensures.ok.1
-    _ _ _ _ s (omega arith) kept_console kept_ticks cut
+    _ _ _ _ s (omega (arith, c.in_ok-events.events.ok.0, c.len.ensures)) kept_console kept_ticks cut
 
 -- the bytes of one line at most
 pub returns-clause-ok : goal.returns-clause-ok
 returns-clause-ok c =
     let s : IsServed (length c.args.console.now) c.in_ok-events.events.items c.in_ok-served.served.ticks.items c.in_ok-served.served.bytes c.in_ok-served.served.lines c.in_ok-served.served.last =
-    served_as (length c.args.console.now) _ c.in_ok-events.events.items _ _ _ _ _ c.len.ensures c.deref.ensures.value c.in_ok-served.ensures in
+    served_as (length c.args.console.now) _ c.in_ok-events.events.items _ _ _ _ _ refl c.deref.ensures.value c.in_ok-served.ensures in
     cut_done c.writing_law.ensures.written c.args.console.now c.args.ticks.now c.in_ok-events.events.items (sym c.whole_lines.ensures ∙ c.in_ok-events.ensures.ok.0) c.in_ok-events.ensures.ok.1
-    _ _ _ _ s (omega arith) _ (search rules)
+    _ _ _ _ s (omega (arith, c.in_ok-events.events.ok.0, c.len.ensures)) _ (search rules)
 
 pub returns-clause-short : goal.returns-clause-short
 returns-clause-short c =
     let s : IsServed (length c.args.console.now) c.in_ok-events.events.items c.in_ok-served.served.ticks.items c.in_ok-served.served.bytes c.in_ok-served.served.lines c.in_ok-served.served.last =
-    served_as (length c.args.console.now) _ c.in_ok-events.events.items _ _ _ _ _ c.len.ensures c.deref.ensures.value c.in_ok-served.ensures in (
+    served_as (length c.args.console.now) _ c.in_ok-events.events.items _ _ _ _ _ refl c.deref.ensures.value c.in_ok-served.ensures in (
       search rules,
       text_short c.writing_law.ensures.written c.args.console.now c.args.ticks.now c.in_ok-events.events.items (sym c.whole_lines.ensures ∙ c.in_ok-events.ensures.ok.0) c.in_ok-events.ensures.ok.1 _ _ _ _ s,
     )

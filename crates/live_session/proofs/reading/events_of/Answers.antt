@@ -18,8 +18,9 @@ returns-in_err-schedule-clause-err c =
 -- ---- an event after another
 pub loop-time-init : goal.loop-time-init
 loop-time-init c =
-    reading_begins c.args.lines.now c.in_ok-schedule.schedule.events
-    (λ xs h is. ap (λ (t : Timetable). t.events) (c.in_ok-schedule.ensures.value ∙ ap timetable_of is ∙ (c.writing_law.ensures.written xs h).0))
+    rw c.new-events.ensures.items
+    (reading_begins c.args.lines.now c.in_ok-schedule.schedule.events
+    (λ xs h is. ap (λ (t : Timetable). t.events) (c.in_ok-schedule.ensures.value ∙ ap timetable_of is ∙ (c.writing_law.ensures.written xs h).0)))
 
 pub returns-then-not-is_recordable-clause-err : goal.returns-then-not-is_recordable-clause-err
 returns-then-not-is_recordable-clause-err c = λ known.
@@ -27,17 +28,17 @@ returns-then-not-is_recordable-clause-err c = λ known.
     reading_unfit c.writing_law.ensures.more _ _ _ _ _ c.loop-time.invariant c.in-Some.time c.in-Some.event (sym c.in-Some.ensures)
     (λ fits. let yes = c.is_recordable.ensures.1 fits in cc)
 
-pub returns-in_default-clause-err : goal.returns-in_default-clause-err
-returns-in_default-clause-err c = λ known.
+pub returns-in_default-after_text-clause-err : goal.returns-in_default-after_text-clause-err
+returns-in_default-after_text-clause-err c = λ known.
     reading_other c.writing_law.ensures.more _ _ _ _ _ c.loop-time.invariant c.in-Some.time c.in-Some.event (sym c.in-Some.ensures)
-    c.deref.result.now (c.deref.ensures.value ∙ c.in_ok-line.ensures) c.in_default.ensures
+    c.deref.result.now (c.deref.ensures.value ∙ c.in_ok-line.ensures) c.in_default-after_text.ensures
 
 pub loop-time-preserved : goal.loop-time-preserved
 loop-time-preserved c =
     let fits : (c.loop-time.least ≤ c.in-Some.time) × (c.in-Some.time ≤ greatest_word) × IsInRange c.in-Some.event = c.is_recordable.ensures.0 (search rules) in
     rw (c.in_ok-push_event.ensures, c.advance.ensures)
     (reading_more c.writing_law.ensures.more _ _ _ _ _ c.loop-time.invariant c.in-Some.time c.in-Some.event (sym c.in-Some.ensures)
-    c.deref.result.now c.in-Some-2.after.now (c.deref.ensures.value ∙ c.in_ok-line.ensures) c.in-Some-2.ensures fits.0 fits.1 fits.2)
+    c.deref.result.now c.in-Some-after_text.after.now (c.deref.ensures.value ∙ c.in_ok-line.ensures) c.in-Some-after_text.ensures fits.0 fits.1 fits.2)
 
 pub loop-time-smaller : goal.loop-time-smaller
 loop-time-smaller c = rw c.advance.ensures (fewer_left _ _ (sym c.in-Some.ensures))
@@ -51,7 +52,7 @@ returns-then-is_empty-clause-ok c =
       c.loop-time.invariant.fits,
     )
 
-pub returns-else-is_empty-clause-err : goal.returns-else-is_empty-clause-err
-returns-else-is_empty-clause-err c = λ known.
+pub returns-clause-err : goal.returns-clause-err
+returns-clause-err c = λ known.
     reading_short c.writing_law.ensures.more _ _ _ _ _ c.loop-time.invariant (sym c.in_default.ensures)
     (named_by c.loop-time.rest.now (sym c.is_empty.ensures ∙ c.if-is_empty.false))

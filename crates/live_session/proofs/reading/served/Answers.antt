@@ -4,13 +4,13 @@ use Rattle.live_session.proofs.Cuts.{serving_begins, serving_ends, serving_more}
 use Rattle.live_session.proofs.reading.served.Goals as goal
 
 pub loop-first-init : goal.loop-first-init
-loop-first-init c = serving_begins c.args.len c.args.events.now
+loop-first-init c = rw c.new-ticks.ensures.items (serving_begins c.args.len c.args.events.now)
 
 -- the line of the next event
 pub loop-first-preserved : goal.loop-first-preserved
 loop-first-preserved c =
     let x = c.in-Some.first.now in
-    rw (c.in_ok-extend_from_slice.ensures, c.bytes_asked.ensures)
+    rw (c.in_ok-extend_from_slice.ensures, c.bytes_asked-bytes.ensures)
     (serving_more _ _ _ _ _ _ c.loop-first.invariant c.writing_law.ensures.more x.0 x.1 c.in-Some.more.now c.deref.result.now c.in-Some.ensures.0 c.in-Some.ensures.1 (c.deref.ensures.value ∙ c.in_ok-line.ensures))
 
 pub overflow_sub-lines : goal.overflow_sub-lines

@@ -1,4 +1,4 @@
-use Rattle.std.proofs.Common.{◌≡◌, ◌∙◌, ◌++◌, ◌∷◌, [], ap, sym, subst}
+use Rattle.std.proofs.Common.{◌≡◌, ◌∙◌, ◌++◌, ◌∷◌, [], ap, rules, sym}
 use Rattle.std.proofs.lemmas.List.{nil_from_length}
 use Rattle.live_session.specs.Cutting.{whole_lines}
 use Rattle.live_session.proofs.Cuts.{ends_torn, ends_whole, other_byte}
