@@ -108,6 +108,13 @@ fn push_event(events: &mut Vec<(u64, Event)>, time: u64, event: Event) -> Result
     Ok(())
 }
 
+// Adds bytes at the end of a text.
+fn push_bytes(text: &mut Vec<u8>, bytes: &[u8]) -> Result<(), AllocError>
+    ensures { OnOk result (text.new.items ≡ text.old.items ++ bytes.now) }
+{
+    text.extend_from_slice(bytes)
+}
+
 // The events of these lines, if they are the lines of events later than 0.
 fn events_of(alloc: Global, lines: &[u8]) -> Result<Vec<(u64, Event)>, NotContinued>
     ensures ok { IfOk result (λ events. (lines.now ≡ recorded events.items) × AreRecordable 1 events.items) }
@@ -191,7 +198,7 @@ fn served(alloc: Global, events: &[(u64, Event)], len: usize) -> Result<ServedEv
     while let Some((first, more)) = first_served(rest, len - bytes) {
         let (time, event) = *first;
         let line = line_of(alloc, time, event)?;
-        ticks.extend_from_slice(&line)?;
+        push_bytes(&mut ticks, &line)?;
         bytes += bytes_asked(event);
         last = time;
         rest = more;

@@ -1,4 +1,4 @@
-use Rattle.std.proofs.Common.{◌≡◌, ◌∙◌, ap, arith, length, refl, rules, sym}
+use Rattle.std.proofs.Common.{◌∙◌, ap, arith, length, refl, rules, sym}
 use Rattle.std.proofs.lemmas.Result.{err_from_is_err_and}
 use Rattle.live_session.specs.Cutting.{IsServed}
 use Rattle.live_session.proofs.Cuts.{cut_done, cut_not, served_as, served_few, text_short}

@@ -10,7 +10,7 @@ loop-first-init c = rw c.new-ticks.ensures.items (serving_begins c.args.len c.ar
 pub loop-first-preserved : goal.loop-first-preserved
 loop-first-preserved c =
     let x = c.in-Some.first.now in
-    rw (c.in_ok-extend_from_slice.ensures, c.bytes_asked-bytes.ensures)
+    rw (c.in_ok-push_bytes.ensures, c.bytes_asked-bytes.ensures)
     (serving_more _ _ _ _ _ _ c.loop-first.invariant c.writing_law.ensures.more x.0 x.1 c.in-Some.more.now c.deref.result.now c.in-Some.ensures.0 c.in-Some.ensures.1 (c.deref.ensures.value ∙ c.in_ok-line.ensures))
 
 pub overflow_sub-lines : goal.overflow_sub-lines
