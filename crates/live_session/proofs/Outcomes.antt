@@ -1,5 +1,5 @@
 -- The status of a session after its record was written, or not.
-use Rattle.std.proofs.Common.{◌≡◌, ◌≢◌, ℕ, List, true, Option, Result, Ok, Err, refl, sym, ap, ◌∙◌, subst, inr}
+use Rattle.std.proofs.Common.{◌≡◌, ◌≢◌, ℕ, List, [], true, Option, Result, Ok, Err, refl, sym, ap, ◌∙◌, subst, inr}
 use Rattle.std.specs.Prelude.{IfErr, OnOk, is_ok}
 use Rattle.wind_session.specs.declared.run.RunEnd.{RunEnd}
 use Rattle.wind_outside.specs.Files.{Files}

@@ -248,13 +248,15 @@ impl RecordFolder for MemRecordFolder {
         if self.calls.count() {
             return Fetched::Failed;
         }
-        match self.files.get(name) {
-            None => Fetched::Missing,
-            Some(bytes) if bytes.len() > limit as usize => Fetched::TooLong,
-            Some(bytes) => match Vec::from_slice(alloc, bytes) {
-                Ok(copy) => Fetched::Found(copy),
-                Err(AllocError) => Fetched::NoMemory,
-            },
+        let Some(bytes) = self.files.get(name) else {
+            return Fetched::Missing;
+        };
+        if bytes.len() > limit as usize {
+            return Fetched::TooLong;
+        }
+        match Vec::from_slice(alloc, bytes) {
+            Ok(bytes) => Fetched::Found(bytes),
+            Err(AllocError) => Fetched::NoMemory,
         }
     }
 
