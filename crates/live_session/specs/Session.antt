@@ -223,10 +223,16 @@ pub record IsUntouched (before after : LiveAround) : Type 0 where
   pub outside : after.session.logged ≡ before.session.logged
   pub input : after.input ≡ before.input
 
+-- a record may be written, and what its session takes over is there
+pub record MayBegin (c : CommandState) (files : Option Files) : Type 0 where
+  pub permitted : IsPermitted c files
+  pub kept : Kept
+  pub takes : TakesOver c.continues c kept files
+
 -- only files of a record that may be written were written
 pub record IsUnopened (c : CommandState) (before after : Option Files) : Type 0 where
   pub writes : WritesFor c before after
-  pub permitted : IsPermitted c before ⊎ (after ≡ before)
+  pub permitted : MayBegin c before ⊎ (after ≡ before)
 
 -- what these arguments leave
 abbrev pub Leaves : Status → Option CommandState → List (Option DeviceState) → LiveAround → LiveAround → Type 0

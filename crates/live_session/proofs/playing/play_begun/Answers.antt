@@ -186,7 +186,7 @@ returns-in-Err-clause-leaves g c = λ devices kept limit_is takes begins.
       record { outside = refl; input = refl },
       record {
         writes = subst (λ (f : Option Files). WritesFor command f (g.D.RecordFolder.files c.open_record.new.records)) c.may_record.ensures.files c.open_record.ensures.writes;
-        permitted = inl (c.may_record.ensures.permitted (search rules));
+        permitted = inl (record { permitted = c.may_record.ensures.permitted (search rules); kept = kept; takes = takes });
       },
     )
 
