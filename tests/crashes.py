@@ -1,7 +1,8 @@
 #!/usr/bin/env python3
 """Kills live sessions between any two of their system calls, and replays what each leaves.
 
-What a session had shown has to be a prefix of what the replay of its record writes. A session that sets an older
+What a session had shown has to be a prefix of what the replay of its record writes, and of what a session shows that
+goes on from it; this one's record has to replay what it showed. A session that sets an older
 record aside has to leave each of its files under its name or with `.old`. A session is stopped at each of its system
 calls by ptrace, and killed there. Linux on x86-64 and AArch64 only. It prints a line for each session that differs,
 and one that counts them. It ends with 1 if one differs.
@@ -16,6 +17,8 @@ import sys
 import tempfile
 
 TYPED = b'1+2\n.ticks 2\ns = semBCreate(0, 0)\nsemTake s, 2\n.ticks 3\n.irqs 2 every 9 0\n.ticks 2 every 30\nprintf("%d\\n", tickGet())\n'
+# What is typed after a crash.
+MORE = b'7+8\n.ticks 9\n'
 # The files of an older record.
 OLDER = {'console.txt': b'an older console', 'ticks.txt': b'an older tick file', 'command.txt': b'older words'}
 # Requests of ptrace, and an option of it: a child doesn't outlive its tracer.
@@ -75,6 +78,19 @@ def replayed(program, folder):
     return done.stdout
 
 
+def goes_on(live, play, folder, shown):
+    """Whether a session goes on from the record that a killed one left."""
+    begun = os.path.exists(os.path.join(folder, 'r', 'command.txt'))
+    words = [live, '--continue=r', '--quiet-after=500']
+    done = subprocess.run(words, cwd=folder, input=MORE, capture_output=True, timeout=100, check=False)
+    if not begun:
+        return done.returncode == 9 and done.stdout == b''
+    with open(os.path.join(folder, 'r', 'console.txt'), 'rb') as file:
+        console = file.read()
+    return (done.returncode == 0 and done.stdout.startswith(shown) and console.endswith(MORE[:4])
+            and replayed(play, folder) == done.stdout)
+
+
 def in_all(live, play):
     """How many sessions were killed at their stops, and how many of them differ."""
     count = differing = 0
@@ -87,6 +103,9 @@ def in_all(live, play):
             if not again.startswith(shown) or (not came and again != shown):
                 differing += 1
                 print(f'killed at stop {count}: differs')
+            elif not goes_on(live, play, folder, shown):
+                differing += 1
+                print(f'going on after stop {count}: differs')
     return count, differing
 
 

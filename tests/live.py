@@ -267,6 +267,61 @@ def set_aside(cases):
                     and held(folder, 'console.txt') == older['console.txt'])
 
 
+def put(folder, name, text):
+    """Makes these the bytes of a file of a record."""
+    with open(os.path.join(folder, 'r', name), 'wb') as file:
+        file.write(text)
+
+
+def go_on(program, folder, *words):
+    """A session that goes on from a record: its status, what it showed, and what it said."""
+    done = subprocess.run([program, '--continue=r', *words], cwd=folder, input=b'7+8\n', capture_output=True, timeout=100)
+    return done.returncode, done.stdout, done.stderr
+
+
+def going_on(cases):
+    """Sessions that go on from a record, whole or torn."""
+    typed = b'1+2\n.ticks 2\nprintf("%d\\n", tickGet())\n.irqs 2 every 5 0\n5\n'
+    with tempfile.TemporaryDirectory() as folder:
+        live(cases.live, folder, typed)
+        whole = {name: held(folder, name) for name in RECORD}
+
+        def torn(name, count, status):
+            for file in RECORD:
+                put(folder, file, whole[file][:count] if file == name else whole[file])
+            ended, out, _ = go_on(cases.live, folder)
+            if status == 9:
+                same = all(held(folder, file) == (whole[file][:count] if file == name else whole[file]) for file in RECORD)
+                return ended == 9 and out == b'' and same
+            return ended == 0 and out.endswith(b'value = 15 = 0xf\n-> ') and replay(cases.play, folder)[1] == out
+
+        for count in range(len(whole['ticks.txt']) + 1):
+            cases.check(f'a tick file cut at {count}', torn('ticks.txt', count, 0))
+        last = len(whole['console.txt']) - 2
+        for count in range(len(whole['console.txt']) + 1):
+            cases.check(f'a console file cut at {count}', torn('console.txt', count, 0 if count >= last else 9))
+        for count in range(len(whole['command.txt'])):
+            cases.check(f'words cut at {count}', torn('command.txt', count, 9))
+        for name, text in (('ticks.txt', b'every 5 10\n'), ('ticks.txt', b'tick  5\n'), ('ticks.txt', b'tick 0\n'), ('ticks.txt', b'# tick 5\n'),
+                           ('command.txt', whole['command.txt'].replace(b'--board=1', b'--board=2'))):
+            for file in RECORD:
+                put(folder, file, text if file == name else whole[file])
+            ended, out, err = go_on(cases.live, folder)
+            cases.check(f'no record: {text}', ended == 9 and out == b'' and name.encode() in err and held(folder, name) == text)
+        for words in (['--record=q'], ['--force']):
+            cases.check(f'--continue and {words}', go_on(cases.live, folder, *words)[0] == 1)
+        os.remove(os.path.join(folder, 'r', 'console.txt'))
+        cases.check('a record without its console file', go_on(cases.live, folder)[0] == 9)
+    with tempfile.TemporaryDirectory() as folder:
+        os.mkdir(os.path.join(folder, 'm'))
+        place('function/function.o', folder, 'f.o')
+        _, shown, _ = live(cases.live, folder, b'ld < f.o\nld < no.o\n', '--modules=m')
+        place('deadlock/deadlock.o', folder, 'f.o')
+        place('deadlock/deadlock.o', folder, 'no.o')
+        ended, out, err = go_on(cases.live, folder, '--modules=m')
+        cases.check('a record with modules', ended == 0 and out.startswith(shown) and replay(cases.play, folder)[1] == out)
+
+
 def refusals(cases):
     """Records that stay, or are not written."""
     with tempfile.TemporaryDirectory() as folder:
@@ -333,6 +388,7 @@ def main():
     modules(cases)
     module_outside(cases)
     set_aside(cases)
+    going_on(cases)
     refusals(cases)
     filling(cases)
     for seed in range(300):

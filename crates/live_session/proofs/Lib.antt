@@ -1,6 +1,8 @@
 pub mod Announcing
 pub mod Closings
 pub mod CommandLemmas
+pub mod Cuts
+pub mod Earlier
 pub mod Flow
 pub mod Limits
 pub mod Journaling
@@ -18,6 +20,7 @@ pub mod Scenes
 pub mod Sending
 pub mod Spacings
 pub mod Starting
+pub mod Taking
 pub mod Ticking
 pub mod Typing
 pub mod Whole

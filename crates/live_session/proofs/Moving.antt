@@ -126,15 +126,15 @@ pub record ServesMore (c : CommandState) (request : Request) (part : List ℕ) (
   pub runs : Runs end c.modules begin around l a
   pub serves : Wherever c.modules l a (λ shelf setup old. Serves c request part refusal shelf setup old (moment l a told mid end None) next)
 
-module _ (c : CommandState) (request : Request) (part : List ℕ) (refusal : Option Refusal) (begin l : LiveState) (around a : Around) (told : Messages) (opened mid : Store) (end : RunEnd) (unsaved : Option Unsaved) (none : unsaved ≡ None) (next : Moment) (position : Position)
+module _ (c : CommandState) (most : ℕ) (request : Request) (part : List ℕ) (refusal : Option Refusal) (begin l : LiveState) (around a : Around) (told : Messages) (opened mid : Store) (end : RunEnd) (unsaved : Option Unsaved) (none : unsaved ≡ None) (next : Moment) (position : Position)
     (s : ServesMore c request part refusal begin l around a told mid end next) (asks : request ≡ request_of position part) where
   -- wherever the session began
   pub talk_more : (xs : Parts) → position ≡ position_of LineStart xs
-      → Wherever c.modules begin around (λ shelf setup old. IsTalk c xs shelf setup old begin around opened (moment l a told mid end unsaved))
-      → Wherever c.modules begin around (λ shelf setup old. IsTalk c (xs ++ (part, refusal) ∷ []) shelf setup old begin around opened next)
+      → Wherever c.modules begin around (λ shelf setup old. IsTalk c most xs shelf setup old begin around opened (moment l a told mid end unsaved))
+      → Wherever c.modules begin around (λ shelf setup old. IsTalk c most (xs ++ (part, refusal) ∷ []) shelf setup old begin around opened next)
   talk_more xs there talks = λ shelf setup old here.
-      let talk : IsTalk c xs shelf setup old begin around opened (moment l a told mid end None) =
-      subst (λ (u : Option Unsaved). IsTalk c xs shelf setup old begin around opened (moment l a told mid end u)) none (talks shelf setup old here) in
+      let talk : IsTalk c most xs shelf setup old begin around opened (moment l a told mid end None) =
+      subst (λ (u : Option Unsaved). IsTalk c most xs shelf setup old begin around opened (moment l a told mid end u)) none (talks shelf setup old here) in
       let now : IsHere c.modules shelf setup old l a = here_on c.modules shelf setup old begin around here end l a s.runs s.going in
       let same : request ≡ request_of (position_of LineStart xs) part = asks ∙ ap (λ (p : Position). request_of p part) there in
       record {

@@ -1,11 +1,12 @@
 -- The status of a session after its record was written, or not.
-use Rattle.std.proofs.Common.{◌≡◌, ◌≢◌, ℕ, List, [], true, false, Option, Result, Ok, Err, refl, sym, ap, ◌∙◌, subst, inr}
+use Rattle.std.proofs.Common.{◌≡◌, ◌≢◌, ℕ, List, [], true, Option, Result, Ok, Err, refl, sym, ap, ◌∙◌, subst, inr}
 use Rattle.std.specs.Prelude.{IfErr, OnOk, is_ok}
 use Rattle.wind_session.specs.declared.run.RunEnd.{RunEnd}
 use Rattle.wind_outside.specs.Files.{Files}
 use Rattle.live_session.specs.Command.{CommandState}
 use Rattle.live_session.specs.Ending.{IsGoing}
-use Rattle.live_session.specs.Saving.{IsOpened, replay_limit}
+use Rattle.live_session.specs.Continuing.{Kept}
+use Rattle.live_session.specs.Saving.{IsOpened}
 use Rattle.live_session.specs.Session.{IsRefusal, IsStatusOf, IsStop, IsTyped, Parts, status_unless}
 use Rattle.live_session.specs.declared.saving.Unsaved.{Unsaved}
 use Rattle.live_session.specs.declared.saving.Unsaved.TheVariants as unsaved
@@ -53,10 +54,10 @@ pub after_status : {A : Type 0} (written : Result A Unsaved) (s after : Status) 
 after_status (Ok a) s after end is h = subst (λ (t : Status). IsStatusOf end t) (sym is.ok) h
 after_status (Err failure) s after end is h = subst (λ (t : Status). IsStatusOf end t) (sym is.err) (unless_status failure end s h)
 
-pub after_typed : {A : Type 0} (written : Result A Unsaved) (s after : Status) (old new : Option (List ℕ)) (console : List ℕ) (holds : Parts → Type 0) → IsAfter written s after → IsTyped s old new console holds → IsTyped after old new console holds
-after_typed (Ok a) s after old new console holds is h = subst (λ (t : Status). IsTyped t old new console holds) (sym is.ok) h
-after_typed (Err failure) s after old new console holds is h =
-    subst (λ (t : Status). IsTyped t old new console holds) (sym is.err)
+pub after_typed : {A : Type 0} (written : Result A Unsaved) (s after : Status) (old new : Option (List ℕ)) (kept console : List ℕ) (holds : Parts → Type 0) → IsAfter written s after → IsTyped s old new kept console holds → IsTyped after old new kept console holds
+after_typed (Ok a) s after old new kept console holds is h = subst (λ (t : Status). IsTyped t old new kept console holds) (sym is.ok) h
+after_typed (Err failure) s after old new kept console holds is h =
+    subst (λ (t : Status). IsTyped t old new kept console holds) (sym is.err)
     (record { parts = h.parts; taken = h.taken; parts_are = h.parts_are; sent = h.sent; stop = unless_stop failure s new h.parts h.stop; quit_last = h.quit_last; held = h.held })
 
 pub after_recorded : {A : Type 0} (written : Result A Unsaved) (s after : Status) (recorded : Type 0) → IsAfter written s after → OnOk written recorded → after ≡ status.Ended → recorded
@@ -92,17 +93,17 @@ ended_going end s h e = subst (λ (t : Status). IsStatusOf end t) e h
 
 -- ---- a record that was not opened
 pub unopened_refusal : (failure : Unsaved) (c : CommandState) (files : Option Files) (rose : Type 0) → c.record_folder ≢ [] → (failure ≡ unsaved.Failed → rose) → IsRefusal (status_unless failure status.Ended) c files rose
-unopened_refusal unsaved.Failed c files rose named failed = (named, inr (failed refl))
+unopened_refusal unsaved.Failed c files rose named failed = (named, inr (inr (failed refl)))
 unopened_refusal unsaved.NoMemory c files rose named failed = tt
 
 pub unopened_status : (failure : Unsaved) → (status_unless failure status.Ended ≢ status.Usage) × (status_unless failure status.Ended ≢ status.ReadFault) × (status_unless failure status.Ended ≢ status.WriteFault)
 unopened_status unsaved.Failed = (λ e. cc, λ e. cc, λ e. cc)
 unopened_status unsaved.NoMemory = (λ e. cc, λ e. cc, λ e. cc)
 
--- ---- or was: it is empty
-pub opened_record : (c : CommandState) (console ticks : List ℕ) (steps : ℕ) (old new : Option Files) → console ≡ [] → ticks ≡ [] → steps ≡ 0
-    → IsOpened c console ticks (replay_limit steps false) old new → IsOpened c [] [] 0 old new
-opened_record c console ticks steps old new no_console no_ticks no_steps opened =
-    subst (λ n. IsOpened c [] [] n old new) no_steps
-    (subst (λ text. IsOpened c [] text steps old new) no_ticks
-    (subst (λ text. IsOpened c text ticks steps old new) no_console opened))
+-- ---- or was: it holds what was taken over
+pub opened_record : (c : CommandState) (kept : Kept) (console ticks : List ℕ) (limit : ℕ) (old new : Option Files) → console ≡ kept.console → ticks ≡ kept.ticks → kept.limit ≡ limit
+    → IsOpened c console ticks limit old new → IsOpened c kept.console kept.ticks kept.limit old new
+opened_record c kept console ticks limit old new console_is ticks_is limit_is opened =
+    subst (λ n. IsOpened c kept.console kept.ticks n old new) (sym limit_is)
+    (subst (λ text. IsOpened c kept.console text limit old new) ticks_is
+    (subst (λ text. IsOpened c text ticks limit old new) console_is opened))

@@ -21,22 +21,28 @@ use Rattle.live_session.specs.Command.{CommandState}
 use Rattle.live_session.specs.Saving.{IsReplayText, board_digit, profile_digit}
 
 -- the limit is read back from its digits
-limit_value : (n : ℕ) → n ≤ most_steps → number_value most_steps (decimal n) ≡ Some n
+pub digits_few : (n : ℕ) → n ≤ most_steps → length (decimal n) ≤ 13
+digits_few n within = length-decimal-le 13 n (omega arith) (omega (arith, within)) (omega (arith, within))
+
+pub limit_read : (n : ℕ) → n ≤ most_steps → decimal_value most_steps (decimal n) ≡ Some n
 unfolding decimal_value
-limit_value n within =
+limit_read n within =
     let text = decimal n in
     let small : n < 2 ^ 64 = omega (arith, within) in
-    let few : length text ≤ 13 = length-decimal-le 13 n (omega arith) (omega (arith, within)) small in
     let some : 0 < length text = decimal_nonempty n small in
     let value : digits_value 10 text ≡ n = (decimal_is_IsNumeral n small).1 in
-    let fits : nat_le (length text) 13 ≡ true = grind (arith, nat_tests) in
     let full : (length text == 0) ≡ false = grind (arith, nat_tests) in
     let numeral : is_numeral text ≡ true = ap (λ b. not b && list_all is_ascii_digit text) full ∙ decimal_digits n small in
     let inside : nat_le (digits_value 10 text) most_steps ≡ true = grind (arith, nat_tests) in
-    ap (λ b. cond b (decimal_value most_steps text) None) fits
-    ∙ ap (λ b. cond b (number_within most_steps text) None) numeral
+    ap (λ b. cond b (number_within most_steps text) None) numeral
     ∙ ap (λ b. cond b (Some (digits_value 10 text)) None) inside
     ∙ ap Some value
+
+limit_value : (n : ℕ) → n ≤ most_steps → number_value most_steps (decimal n) ≡ Some n
+limit_value n within =
+    let few : length (decimal n) ≤ 13 = digits_few n within in
+    let fits : nat_le (length (decimal n)) 13 ≡ true = grind (arith, nat_tests) in
+    ap (λ b. cond b (decimal_value most_steps (decimal n)) None) fits ∙ limit_read n within
 
 -- what is made of the values of the six words
 abbrev made_of : List ℕ → List ℕ → List ℕ → Option ℕ → Option Profile → Option BoardKind → Option SessionCommand

@@ -26,17 +26,13 @@ use Rattle.live_session.proofs.Replays.{limit_reached, limit_within}
 use Rattle.live_session.proofs.Scenes.{all_held, console_written, limit_written, ticks_written}
 
 -- ---- whatever the files were
-pub current_saved : (c : CommandState) (l : LiveState) (old new : Option Files) → IsSound l → IsSaved c l.console.bytes l.ticks.bytes l.board.steps old new → IsCurrent c l new
-current_saved c l old new sound saved = record {
-  limit = l.board.steps;
-  within = omega arith;
-  few = sound.few;
-  held = all_held c l.console.bytes l.ticks.bytes l.board.steps old saved.with_console saved.with_ticks new saved.first saved.second saved.last;
+pub opening_current : (c : CommandState) (l : LiveState) (limit : ℕ) (old new : Option Files) → l.board.steps ≡ 0 → limit ≤ most_steps → IsSaved c l.console.bytes l.ticks.bytes limit old new → IsCurrent c l new
+opening_current c l limit old new none few saved = record {
+  limit = limit;
+  within = omega (arith, none);
+  few = few;
+  held = all_held c l.console.bytes l.ticks.bytes limit old saved.with_console saved.with_ticks new saved.first saved.second saved.last;
 }
-
--- at the opening
-pub opening_current : (c : CommandState) (l : LiveState) (old new : Option Files) → IsSound l → IsSaved c l.console.bytes l.ticks.bytes (replay_limit l.board.steps false) old new → IsCurrent c l new
-opening_current c l old new sound saved = current_saved c l old new sound saved
 
 -- ---- if they were current
 module _ (law : WritingLaw) (c : CommandState) (l : LiveState) (end : RunEnd) (limit : ℕ) (sound : IsSound l) (reached : l.board.steps ≤ limit) (few : limit ≤ most_steps) (old new : Option Files) (now : IsCurrent c l old) where

@@ -60,11 +60,11 @@ are_more (x ∷ xs) y mid new takes are part longest =
     (are.0, subst (λ (o : Option (List ℕ)). IsLongest x.0 o) after are.1, are_more xs y mid new takes are.2 part longest)
 
 -- ---- what has been typed so far, and what holds of the parts
-pub record Typing (old now : Option (List ℕ)) (console : List ℕ) (position : Position) (count : ℕ) (holds : Parts → Type 0) : Type 0 where
+pub record Typing (old now : Option (List ℕ)) (kept console : List ℕ) (position : Position) (count : ℕ) (holds : Parts → Type 0) : Type 0 where
   pub parts : Parts
   pub taken : Takes old now (joined parts)
   pub parts_are : AreParts parts now
-  pub sent : console ≡ sent_by Start parts
+  pub sent : console ≡ kept ++ sent_by Start parts
   pub there : position ≡ position_of Start parts
   pub counted : length parts ≡ count
   pub none : NoneQuits Start parts
@@ -74,12 +74,12 @@ takes_nothing : (left : Option (List ℕ)) → Takes left left []
 takes_nothing None = refl
 takes_nothing (Some bytes) = refl
 
-pub typing_begins : (left : Option (List ℕ)) (console : List ℕ) (holds : Parts → Type 0) → console ≡ [] → holds [] → Typing left left console Start 0 holds
-typing_begins left console holds none held = record {
+pub typing_begins : (left : Option (List ℕ)) (kept console : List ℕ) (holds : Parts → Type 0) → console ≡ kept → holds [] → Typing left left kept console Start 0 holds
+typing_begins left kept console holds same held = record {
   parts = [];
   taken = takes_nothing left;
   parts_are = tt;
-  sent = none;
+  sent = same ∙ sym (append-nil kept);
   there = refl;
   counted = refl;
   none = tt;
@@ -103,8 +103,8 @@ pub record TakesPart (mid new : Option (List ℕ)) (position : Position) (part :
   pub asks : request ≡ request_of position part
   pub sends : later ≡ console ++ sent_unless refusal (sent_of request part)
 
-module _ (old mid new : Option (List ℕ)) (position : Position) (count : ℕ) (part : List ℕ) (request : Request) (refusal : Option Refusal) (console later : List ℕ) (holds more : Parts → Type 0)
-    (t : Typing old mid console position count holds) (taking : TakesPart mid new position part request refusal console later)
+module _ (old mid new : Option (List ℕ)) (position : Position) (count : ℕ) (part : List ℕ) (request : Request) (refusal : Option Refusal) (kept console later : List ℕ) (holds more : Parts → Type 0)
+    (t : Typing old mid kept console position count holds) (taking : TakesPart mid new position part request refusal console later)
     (holds_on : (xs : Parts) → position ≡ position_of Start xs → holds xs → more (xs ++ (part, refusal) ∷ [])) where
   y : List ℕ × Option Refusal
   y = (part, refusal)
@@ -121,16 +121,17 @@ module _ (old mid new : Option (List ℕ)) (position : Position) (count : ℕ) (
   unfolding y
   all_parts = are_more t.parts y mid new taking.takes t.parts_are taking.is_part taking.longest
 
-  all_sent : later ≡ sent_by Start (t.parts ++ y ∷ [])
+  all_sent : later ≡ kept ++ sent_by Start (t.parts ++ y ∷ [])
   unfolding y
   all_sent =
       taking.sends
       ∙ ap (λ bytes. bytes ++ sent_unless refusal (sent_of request part)) t.sent
-      ∙ ap (λ (r : Request). sent_by Start t.parts ++ sent_unless refusal (sent_of r part)) asks_there
-      ∙ sym (sent_more Start t.parts y)
+      ∙ append_assoc kept (sent_by Start t.parts) (sent_unless refusal (sent_of request part))
+      ∙ ap (λ (r : Request). kept ++ (sent_by Start t.parts ++ sent_unless refusal (sent_of r part))) asks_there
+      ∙ ap (λ bytes. kept ++ bytes) (sym (sent_more Start t.parts y))
 
   -- the part doesn't ask for the end
-  pub typed_more : request ≢ requests.Obey lines.Quit → Typing old new later (position_after position part) (count + 1) more
+  pub typed_more : request ≢ requests.Obey lines.Quit → Typing old new kept later (position_after position part) (count + 1) more
   unfolding y
   typed_more other = record {
     parts = t.parts ++ y ∷ [];
@@ -144,7 +145,7 @@ module _ (old mid new : Option (List ℕ)) (position : Position) (count : ℕ) (
   }
 
   -- or it asks for it
-  pub typed_quit : (s : Status) → request ≡ requests.Obey lines.Quit → IsTyped s old new later more
+  pub typed_quit : (s : Status) → request ≡ requests.Obey lines.Quit → IsTyped s old new kept later more
   unfolding y
   typed_quit s quits =
       let by_quit : EndsByQuit (t.parts ++ y ∷ []) = record {
@@ -165,9 +166,9 @@ module _ (old mid new : Option (List ℕ)) (position : Position) (count : ℕ) (
       }
 
 -- the conversation stopped before another part
-pub typed_until : (s : Status) (old now : Option (List ℕ)) (console : List ℕ) (position : Position) (count : ℕ) (holds : Parts → Type 0) → Typing old now console position count holds
-    → ((parts : Parts) → length parts ≡ count → IsStop s now parts) → IsTyped s old now console holds
-typed_until s old now console position count holds t stop = record {
+pub typed_until : (s : Status) (old now : Option (List ℕ)) (kept console : List ℕ) (position : Position) (count : ℕ) (holds : Parts → Type 0) → Typing old now kept console position count holds
+    → ((parts : Parts) → length parts ≡ count → IsStop s now parts) → IsTyped s old now kept console holds
+typed_until s old now kept console position count holds t stop = record {
   parts = t.parts;
   taken = t.taken;
   parts_are = t.parts_are;
@@ -178,7 +179,7 @@ typed_until s old now console position count holds t stop = record {
 }
 
 -- and nothing was taken since
-pub typed_heard : (s : Status) (old mid now : Option (List ℕ)) (console : List ℕ) (position : Position) (count : ℕ) (holds : Parts → Type 0) → now ≡ mid → Typing old mid console position count holds
-    → ((parts : Parts) → IsStop s mid parts) → IsTyped s old now console holds
-typed_heard s old mid now console position count holds kept t stop =
-    subst (λ (o : Option (List ℕ)). IsTyped s old o console holds) (sym kept) (typed_until s old mid console position count holds t (λ parts counted. stop parts))
+pub typed_heard : (s : Status) (old mid now : Option (List ℕ)) (kept console : List ℕ) (position : Position) (count : ℕ) (holds : Parts → Type 0) → now ≡ mid → Typing old mid kept console position count holds
+    → ((parts : Parts) → IsStop s mid parts) → IsTyped s old now kept console holds
+typed_heard s old mid now kept console position count holds same t stop =
+    subst (λ (o : Option (List ℕ)). IsTyped s old o kept console holds) (sym same) (typed_until s old mid kept console position count holds t (λ parts counted. stop parts))

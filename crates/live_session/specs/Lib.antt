@@ -1,4 +1,6 @@
 pub mod Command
+pub mod Continuing
+pub mod Cutting
 pub mod DotLines
 pub mod Ending
 pub mod Folder

@@ -1,5 +1,5 @@
 -- A live session as plain data.
-use Rattle.std.specs.Prelude.{◌≡◌, ℕ, ◌+◌, ◌≤◌, List, []}
+use Rattle.std.specs.Prelude.{◌≡◌, ℕ, ◌+◌, ◌≤◌, List}
 use Rattle.std.specs.declared.dyn_box.DynBox.{DynBox}
 use Rattle.std.specs.declared.alloc.Global.{Global}
 use Rattle.wind_base.specs.Limits.{most_steps}
@@ -68,11 +68,11 @@ IsRun end shelf setup l old now = IsAfterRun end shelf setup l.console.bytes l.t
 pub record GoesOn (end : RunEnd) (shelf : Shelf) (l : LiveState) (now : Outside) (m : LiveState) (later : Outside) : Type 0 where
   pub goes : (setup : Setup) (old : Outside) → IsLiveAt shelf setup l old now → IsRun end shelf setup m old later
 
--- a session begins: its record is empty, and no step was made
-pub record Begins (setup : Setup) (l : LiveState) : Type 0 where
+-- a session begins: its record is this console file with this tick file, and no step was made
+pub record BeginsWith (setup : Setup) (console ticks : List ℕ) (l : LiveState) : Type 0 where
   pub sound : IsSound l
-  pub empty : l.console.bytes ≡ []
-  pub no_ticks : l.ticks.bytes ≡ []
+  pub console_is : l.console.bytes ≡ console
+  pub ticks_is : l.ticks.bytes ≡ ticks
   pub no_steps : l.board.steps ≡ 0
   pub live : (shelf : Shelf) (old : Outside) → IsLiveAt shelf setup l old old
 

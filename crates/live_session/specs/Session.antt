@@ -1,5 +1,5 @@
 -- What a live session leaves.
-use Rattle.std.specs.Prelude.{◌≡◌, ◌≢◌, ◌⊎◌, ◌↔◌, ℕ, ◌-◌, ◌^◌, false, List, [], ◌∷◌, ◌++◌, Option, Some, None, IfSome, length}
+use Rattle.std.specs.Prelude.{◌≡◌, ◌≢◌, ◌⊎◌, ◌↔◌, ℕ, ◌-◌, ◌^◌, true, false, if◌then◌else◌, List, [], ◌∷◌, ◌++◌, Option, Some, None, IfSome, length}
 use Rattle.std.specs.Option.{option_map}
 use Rattle.wind_outside.specs.Devices.{DeviceState}
 use Rattle.wind_outside.specs.Files.{Files}
@@ -14,6 +14,7 @@ use Rattle.wind_session.specs.Runs.{Ran}
 use Rattle.wind_session.specs.declared.run.RunEnd.{RunEnd}
 use Rattle.wind_session.specs.declared.run.RunEnd.TheVariants as ends
 use Rattle.live_session.specs.Command.{CommandState}
+use Rattle.live_session.specs.Continuing.{IsForeign, Kept, TakesOver}
 use Rattle.live_session.specs.Ending.{IsAfterRun, IsGoing, is_quiet}
 use Rattle.live_session.specs.Input.{IsLongest, IsPart, Takes}
 use Rattle.live_session.specs.LiveAround.{LiveAround, ReadFailed, RecordFailed, Store, WriteFailed}
@@ -22,7 +23,7 @@ use Rattle.live_session.specs.Moments.{CanGoOn, Moment, RunsFor, moment}
 use Rattle.live_session.specs.Obeying.{Serves}
 use Rattle.live_session.specs.Positions.{position_after, request_of, sent_of}
 use Rattle.live_session.specs.Saving.{IsFree, IsOpened, IsReplayText, IsSaved, IsTaken, WritesFor, WritesOnly, replay_limit}
-use Rattle.live_session.specs.Seen.{Begins, LiveState}
+use Rattle.live_session.specs.Seen.{BeginsWith, LiveState}
 use Rattle.live_session.specs.declared.dot_line.DotLine.TheVariants as lines
 use Rattle.live_session.specs.declared.record.Refusal.{Refusal}
 use Rattle.live_session.specs.declared.saving.Unsaved.{Unsaved}
@@ -92,12 +93,13 @@ abbrev pub IsStop : Status → Option (List ℕ) → Parts → Type 0
 IsStop status.Ended left parts = IsWhole left parts
 IsStop s left parts = Unit {0}
 
--- these bytes were sent, and they are those of the parts that were taken from the input; and this holds of the parts
-pub record IsTyped (s : Status) (old new : Option (List ℕ)) (console : List ℕ) (holds : Parts → Type 0) : Type 0 where
+-- these bytes were sent after those that were taken over, and they are those of the parts that were taken from the input;
+-- and this holds of the parts
+pub record IsTyped (s : Status) (old new : Option (List ℕ)) (kept console : List ℕ) (holds : Parts → Type 0) : Type 0 where
   pub parts : Parts
   pub taken : Takes old new (joined parts)
   pub parts_are : AreParts parts new
-  pub sent : console ≡ sent_by LineStart parts
+  pub sent : console ≡ kept ++ sent_by LineStart parts
   pub stop : IsStop s new parts
   pub quit_last : IsQuitLast parts
   pub held : holds parts
@@ -110,10 +112,14 @@ AreServed c shelf setup old position (x ∷ xs) now later =
     (next : Moment) × CanGoOn now × Serves c (request_of position x.0) x.0 x.1 shelf setup old now next
     × AreServed c shelf setup old (position_after position x.0) xs next later
 
--- the board ran, and then the parts were served
-pub record IsTalk (c : CommandState) (parts : Parts) (shelf : Shelf) (setup : Setup) (old : Outside) (begin : LiveState) (around : Around) (opened : Store) (later : Moment) : Type 0 where
+-- the most steps of the first run: those of the replay of what was taken over, or as many as after a part
+abbrev pub first_steps : CommandState → ℕ → ℕ
+first_steps c limit = if c.continues then limit else c.quiet_after
+
+-- the board ran for at most this many steps, and then the parts were served
+pub record IsTalk (c : CommandState) (first_most : ℕ) (parts : Parts) (shelf : Shelf) (setup : Setup) (old : Outside) (begin : LiveState) (around : Around) (opened : Store) (later : Moment) : Type 0 where
   pub first : Moment
-  pub opening : RunsFor c.quiet_after shelf setup old begin around opened first
+  pub opening : RunsFor first_most shelf setup old begin around opened first
   pub served : AreServed c shelf setup old LineStart parts first later
 
 -- ---- how it ended
@@ -168,15 +174,15 @@ pub record IsSafe (c : CommandState) (shelf : Shelf) (setup : Setup) (opened new
   pub opening : IsReplayed c shelf setup old.bytes opened old.bytes
   pub always : IsAlwaysReplayed c shelf setup old.bytes (scene opened old.bytes) (scene new now.bytes)
 
--- a record that is there may be set aside, or there is none, or none is asked for
+-- a record that is there may be set aside, or the session goes on from it, or there is none, or none is asked for
 abbrev pub IsPermitted : CommandState → Option Files → Type 0
-IsPermitted c files = c.record_folder ≢ [] → c.force ≡ false → IsFree c.record_folder files
+IsPermitted c files = c.record_folder ≢ [] → c.force ≡ false → c.continues ≡ false → IsFree c.record_folder files
 
 -- a session was played with these arguments: its console file and its tick file, for which windplay starts a run; the
 -- board of the first steps of that run; and what was shown is the text of these steps. It began with an empty record,
--- which was written after an older one was set aside, and each part of the input did what it asks for, until the record
--- was written at the end. At every moment since the beginning, what was shown is a prefix of what a replay of the
--- record's files writes
+-- which was written after an older one was set aside, or with the record from which it goes on; and each part of the
+-- input did what it asks for, until the record was written at the end. At every moment since the beginning, what was shown
+-- is a prefix of what a replay of the record's files writes
 pub record Played (s : Status) (c : CommandState) (devices : List (Option DeviceState)) (before after : LiveAround) : Type 0 where
   pub begin : LiveState
   pub live : LiveState
@@ -188,11 +194,13 @@ pub record Played (s : Status) (c : CommandState) (devices : List (Option Device
   pub planned : plan_of (Some live.console.bytes) (Some live.ticks.bytes) ≡ Start live.console.bytes (timetable_of live.ticks.bytes)
   pub run : IsAfterRun end (shelf_of before.session.files c) (setup_of c devices) live.console.bytes live.ticks.bytes live.board before.session.logged after.session.logged
   pub status_is : IsStatusOf end s
-  pub begins : Begins (setup_of c devices) begin
+  pub kept : Kept
+  pub takes : TakesOver c.continues c kept before.records
+  pub begins : BeginsWith (setup_of c devices) kept.console kept.ticks begin
   pub unopened : c.record_folder ≡ [] → opened.files ≡ before.records
-  pub opens : c.record_folder ≢ [] → IsOpened c [] [] 0 before.records opened.files
-  pub typed : IsTyped s before.input after.input live.console.bytes
-      (λ parts. IsTalk c parts (shelf_of before.session.files c) (setup_of c devices) before.session.logged begin before.session opened (moment live after.session told closed end unsaved))
+  pub opens : c.record_folder ≢ [] → IsOpened c kept.console kept.ticks kept.limit before.records opened.files
+  pub typed : IsTyped s before.input after.input kept.console live.console.bytes
+      (λ parts. IsTalk c (first_steps c kept.limit) parts (shelf_of before.session.files c) (setup_of c devices) before.session.logged begin before.session opened (moment live after.session told closed end unsaved))
   pub permitted : IsPermitted c before.records
   pub writes : WritesFor c before.records after.records
   pub since : WritesOnly c.record_folder opened.files after.records
@@ -202,11 +210,12 @@ pub record Played (s : Status) (c : CommandState) (devices : List (Option Device
   pub safe : c.record_folder ≢ [] → IsSafe c (shelf_of before.session.files c) (setup_of c devices) opened.files after.records before.session.logged after.session.logged
 
 -- ---- a session that was not played
--- its status: memory may run out at any time; otherwise there is a record that is not to be replaced, or asking for it,
--- making its folder or writing its files failed, so that the count of faults of its folder rose
+-- its status: memory may run out at any time; otherwise there is a record that is not to be replaced, or none from which
+-- the session can go on; or asking for it, reading it, making its folder or writing its files failed, so that the count of
+-- faults of its folder rose
 abbrev pub IsRefusal : Status → CommandState → Option Files → Type 0 → Type 0
 IsRefusal status.NoMemory c files rose = Unit {0}
-IsRefusal status.Unrecorded c files rose = (c.record_folder ≢ []) × (((c.force ≡ false) × IsTaken c.record_folder files) ⊎ rose)
+IsRefusal status.Unrecorded c files rose = (c.record_folder ≢ []) × (((c.force ≡ false) × (c.continues ≡ false) × IsTaken c.record_folder files) ⊎ (((c.continues ≡ true) × IfSome files (IsForeign c)) ⊎ rose))
 IsRefusal s c files rose = ⊥
 
 -- nothing was read, fetched or shown
@@ -214,10 +223,16 @@ pub record IsUntouched (before after : LiveAround) : Type 0 where
   pub outside : after.session.logged ≡ before.session.logged
   pub input : after.input ≡ before.input
 
+-- a record may be written, and what its session takes over is there
+pub record MayBegin (c : CommandState) (files : Option Files) : Type 0 where
+  pub permitted : IsPermitted c files
+  pub kept : Kept
+  pub takes : TakesOver c.continues c kept files
+
 -- only files of a record that may be written were written
 pub record IsUnopened (c : CommandState) (before after : Option Files) : Type 0 where
   pub writes : WritesFor c before after
-  pub permitted : IsPermitted c before ⊎ (after ≡ before)
+  pub permitted : MayBegin c before ⊎ (after ≡ before)
 
 -- what these arguments leave
 abbrev pub Leaves : Status → Option CommandState → List (Option DeviceState) → LiveAround → LiveAround → Type 0

@@ -252,9 +252,9 @@ pub(crate) fn converse<I: Input, F: Folder, O: Sink, E: Sink, D: RecordFolder>(
     out: &mut O,
     err: &mut E,
     records: &mut D,
+    first: u64,
 ) -> Closing
     requires target { IsTarget target }
-    requires empty { (live_seen ⟦<dyn Device as Device>⟧ live.old).console.bytes ≡ [] }
     requires sound { IsSound (live_seen ⟦<dyn Device as Device>⟧ live.old) }
     ensures runs { Runs result.end target.entry.command.now.modules.now
         (live_seen ⟦<dyn Device as Device>⟧ live.old) (around ⟦<F as Folder>⟧ ⟦<O as Sink>⟧ folder.old out.old)
@@ -263,10 +263,11 @@ pub(crate) fn converse<I: Input, F: Folder, O: Sink, E: Sink, D: RecordFolder>(
     ensures unended { result.unsaved ≢ None → result.status ≢ status.Ended }
     ensures unrecorded { result.status ≡ status.Unrecorded → result.unsaved ≡ Some unsaved.Failed }
     ensures typed { IsTyped result.status (I.left input.old) (I.left input.new)
+        (live_seen ⟦<dyn Device as Device>⟧ live.old).console.bytes
         (live_seen ⟦<dyn Device as Device>⟧ live.new).console.bytes
         (λ parts. Wherever target.entry.command.now.modules.now
         (live_seen ⟦<dyn Device as Device>⟧ live.old) (around ⟦<F as Folder>⟧ ⟦<O as Sink>⟧ folder.old out.old)
-        (λ shelf setup old. IsTalk (command_state target.entry.command.now) parts shelf setup old
+        (λ shelf setup old. IsTalk (command_state target.entry.command.now) first parts shelf setup old
         (live_seen ⟦<dyn Device as Device>⟧ live.old) (around ⟦<F as Folder>⟧ ⟦<O as Sink>⟧ folder.old out.old)
         (store ⟦<D as RecordFolder>⟧ records.old)
         (moment (live_seen ⟦<dyn Device as Device>⟧ live.new) (around ⟦<F as Folder>⟧ ⟦<O as Sink>⟧ folder.new out.new)
@@ -282,8 +283,7 @@ pub(crate) fn converse<I: Input, F: Folder, O: Sink, E: Sink, D: RecordFolder>(
     ensures input_faults { I.faults input.old ≤ I.faults input.new }
 {
     let mut position = Position::Start;
-    let steps = target.command.quiet_after;
-    let mut went = run(alloc, target, live, folder, out, err, records, steps);
+    let mut went = run(alloc, target, live, folder, out, err, records, first);
     for _ in 0..u64::MAX {
         if !is_going(went) {
             return closing_of(went);

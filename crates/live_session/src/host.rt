@@ -14,7 +14,7 @@ use std::io::{BufRead, ErrorKind, Read, Write};
 use std::rt::Files;
 use std::{fs, io};
 use wind_base::limits::CHUNK_BYTES;
-use wind_outside::{Counted, Put};
+use wind_outside::{Counted, Fetched, Folder, Put};
 
 /// A stream that is read.
 pub type HostInput<R> = Counted<R>;
@@ -172,5 +172,19 @@ impl<R: Files + Drop> RecordFolder for Counted<R> {
             return Put::Failed;
         }
         Put::Done
+    }
+
+    fn read(&mut self, alloc: Global, name: &str, limit: u32) -> Fetched {
+        self.fetch(alloc, name, limit)
+    }
+
+    fn clear_beside(&mut self, alloc: Global, name: &str) -> Put {
+        match beside(alloc, name) {
+            Ok(path) => self.set_aside(alloc, &path),
+            Err(_) => {
+                self.count_fault();
+                Put::Failed
+            }
+        }
     }
 }

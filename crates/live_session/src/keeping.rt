@@ -40,7 +40,8 @@ pub(crate) fn may_record<E: Sink, D: RecordFolder>(
     ensures files { D.files records.new ≡ D.files records.old }
     ensures never_falls { D.faults records.old ≤ D.faults records.new }
 {
-    if target.command.record.is_empty() || target.command.force {
+    let command = target.command;
+    if command.record.is_empty() || command.force || command.continues {
         return true;
     }
     let name = target.command.record.as_bytes();
@@ -59,6 +60,43 @@ pub(crate) fn may_record<E: Sink, D: RecordFolder>(
             false
         }
     }
+}
+
+/// Writes the record of a session with this limit, or says why not.
+fn write_files<E: Sink, D: RecordFolder>(
+    alloc: Global,
+    target: Target,
+    live: &Live,
+    err: &mut E,
+    records: &mut D,
+    limit: u64,
+) -> Result<(), Unsaved>
+    requires target { IsTarget target }
+    ensures ok { OnOk result (IsSaved (command_state target.entry.command.now)
+        (live_seen ⟦<dyn Device as Device>⟧ live.now).console.bytes
+        (live_seen ⟦<dyn Device as Device>⟧ live.now).ticks.bytes
+        limit (D.files records.old) (D.files records.new)) }
+    ensures parts { IsSavedInPart (command_state target.entry.command.now)
+        (live_seen ⟦<dyn Device as Device>⟧ live.now).console.bytes
+        (live_seen ⟦<dyn Device as Device>⟧ live.now).ticks.bytes
+        limit (D.files records.old) (D.files records.new) }
+    ensures others { KeepsOthers target.entry.command.now.record.now (D.files records.old) (D.files records.new) }
+    ensures failed { result ≡ Err unsaved.Failed → Rose (D.faults records.old) (D.faults records.new) }
+    ensures never_falls { D.faults records.old ≤ D.faults records.new }
+    ensures quiet { OnOk result (messages ⟦<E as Sink>⟧ err.new ≡ messages ⟦<E as Sink>⟧ err.old) }
+    ensures told { IfErr result (λ failure. IsTold (failure_text target.entry.command.now.record.now failure)
+        (messages ⟦<E as Sink>⟧ err.old) (messages ⟦<E as Sink>⟧ err.new)) }
+{
+    let saved = save(alloc, records, target, &live.record, limit);
+    match saved {
+        Ok(()) => {}
+        Err(Unsaved::Failed) => {
+            let name = target.command.record.as_bytes();
+            tell_of(err, name, b": the record was not written\n");
+        }
+        Err(Unsaved::NoMemory) => tell_no_memory(err),
+    }
+    saved
 }
 
 /// Writes the record of a session whose board's last run ended like this, or says why not.
@@ -90,36 +128,27 @@ pub(crate) fn write_record<E: Sink, D: RecordFolder>(
         (messages ⟦<E as Sink>⟧ err.old) (messages ⟦<E as Sink>⟧ err.new)) }
 {
     let limit = replay_limit(live.board.steps(), end == RunEnd::Quiet);
-    let saved = save(alloc, records, target, &live.record, limit);
-    match saved {
-        Ok(()) => {}
-        Err(Unsaved::Failed) => {
-            let name = target.command.record.as_bytes();
-            tell_of(err, name, b": the record was not written\n");
-        }
-        Err(Unsaved::NoMemory) => tell_no_memory(err),
-    }
-    saved
+    write_files(alloc, target, live, err, records, limit)
 }
 
 /// Makes the folder of the record, sets an older record aside if the command has `--force`, and
-/// writes the record of a session that begins. Says why not. Does nothing if no record is asked for.
+/// writes the record of a session that begins, with this limit. Says why not. Does nothing if no
+/// record is asked for.
 pub(crate) fn open_record<E: Sink, D: RecordFolder>(
     alloc: Global,
     target: Target,
     live: &Live,
     err: &mut E,
     records: &mut D,
+    limit: u64,
 ) -> Result<(), Unsaved>
     requires target { IsTarget target }
-    requires few { (live_seen ⟦<dyn Device as Device>⟧ live.now).board.steps ≤ most_steps }
     ensures unnamed { target.entry.command.now.record.now ≡ [] → OnErr result ⊥
         × (D.files records.new ≡ D.files records.old) }
     ensures ok { OnOk result (target.entry.command.now.record.now ≢ [] → IsOpened (command_state target.entry.command.now)
         (live_seen ⟦<dyn Device as Device>⟧ live.now).console.bytes
         (live_seen ⟦<dyn Device as Device>⟧ live.now).ticks.bytes
-        (replay_limit_lem (live_seen ⟦<dyn Device as Device>⟧ live.now).board.steps false)
-        (D.files records.old) (D.files records.new)) }
+        limit (D.files records.old) (D.files records.new)) }
     ensures writes { WritesFor (command_state target.entry.command.now) (D.files records.old) (D.files records.new) }
     ensures failed { result ≡ Err unsaved.Failed → Rose (D.faults records.old) (D.faults records.new) }
     ensures never_falls { D.faults records.old ≤ D.faults records.new }
@@ -137,7 +166,7 @@ pub(crate) fn open_record<E: Sink, D: RecordFolder>(
         tell_of(err, name, b": its files can't be renamed to NAME.old\n");
         return Err(failure);
     }
-    write_record(alloc, target, live, err, records, RunEnd::Limit)
+    write_files(alloc, target, live, err, records, limit)
 }
 
 /// Writes the record now, if the command names a folder for it. Says what became of it.

@@ -4,6 +4,7 @@
 
 mod aside;
 mod command;
+mod continuing;
 mod conversation;
 mod dot_line;
 mod events;
@@ -16,6 +17,7 @@ mod memory;
 mod messages;
 mod playing;
 mod program;
+mod reading;
 mod record;
 mod record_folder;
 mod running;

@@ -10,7 +10,7 @@ use crate::input::{Input, InputPart, part_len};
 use crate::record_folder::{Flush, Presence, RecordFolder};
 use std::alloc::{AllocError, Global};
 use std::collections::BTreeMap;
-use wind_outside::Put;
+use wind_outside::{Fetched, Put};
 
 /// The numbers, from 1 on, of the calls that fail; the number of calls made; and the number of
 /// failed ones.
@@ -242,5 +242,28 @@ impl RecordFolder for MemRecordFolder {
                 Put::Failed
             }
         }
+    }
+
+    fn read(&mut self, alloc: Global, name: &str, limit: u32) -> Fetched {
+        if self.calls.count() {
+            return Fetched::Failed;
+        }
+        let Some(bytes) = self.files.get(name) else {
+            return Fetched::Missing;
+        };
+        if bytes.len() > limit as usize {
+            return Fetched::TooLong;
+        }
+        match Vec::from_slice(alloc, bytes) {
+            Ok(bytes) => Fetched::Found(bytes),
+            Err(AllocError) => Fetched::NoMemory,
+        }
+    }
+
+    fn clear_beside(&mut self, _alloc: Global, _name: &str) -> Put {
+        if self.calls.count() {
+            return Put::Failed;
+        }
+        Put::Done
     }
 }

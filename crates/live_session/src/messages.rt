@@ -9,6 +9,7 @@ ghost use Rattle.live_session.specs.Seen.{live_seen};
 ghost use Rattle.live_session.specs.Telling.{help_text, memory_text, numbers_text, own_line, refusal_text as refusal_text_lem, state_text};
 
 use crate::live::Live;
+use crate::reading::{NotContinued, RecordFile};
 use crate::record::Refusal;
 use itoa::Buffer;
 use std::alloc::{AllocError, Global};
@@ -92,6 +93,24 @@ pub(crate) fn tell_limit<E: Sink>(err: &mut E, live: &Live, end: RunEnd) {
     };
     let advice = b"; .break aborts the shell's call\n";
     put_pieces(err, b"windlive: still running: ", who, advice);
+}
+
+/// Says why a session doesn't go on from the record in the folder with this name.
+pub(crate) fn tell_not_continued<E: Sink>(err: &mut E, name: &[u8], reason: NotContinued) {
+    match reason {
+        NotContinued::Foreign(RecordFile::Console) => {
+            tell_of(err, name, b": console.txt isn't there, or over 1 MiB\n");
+        }
+        NotContinued::Foreign(RecordFile::Ticks) => {
+            tell_of(err, name, b": ticks.txt isn't that of a record\n");
+        }
+        NotContinued::Foreign(RecordFile::Command) => {
+            let text = b": command.txt isn't that of a record with this --profile and --board\n";
+            tell_of(err, name, text);
+        }
+        NotContinued::Failed => tell_of(err, name, b": can't be read\n"),
+        NotContinued::NoMemory => tell_no_memory(err),
+    }
 }
 
 // Adds a number after a word.

@@ -3,11 +3,13 @@
 
 ghost use Rattle.std.specs.Prelude.{◌≡◌, ◌+◌, ◌<◌, ◌≤◌, ◌^◌, ◌∷◌, ◌++◌, [], max, length, Some, None, OnOk, IfOk, IfSome, IfNone};
 ghost use Rattle.std.specs.Fmt.{decimal};
-ghost use Rattle.wind_base.specs.Limits.{greatest_word};
+ghost use Rattle.wind_base.specs.Limits.{greatest_word, longest_text_file};
 ghost use Rattle.wind_base.specs.OutBuf.{appended};
 ghost use Rattle.tick_file.specs.Writing.{event_line};
+ghost use Rattle.live_session.specs.Cutting.{IsTextOf};
 ghost use Rattle.live_session.specs.Record.{IsRecord, IsWithinFile, number_text};
 
+use crate::reading::Texts;
 use itoa::Buffer;
 use std::alloc::{AllocError, Global};
 use tick_file::Event;
@@ -15,7 +17,7 @@ use wind_base::limits::TEXT_FILE_BYTES;
 use wind_base::{NoMemory, OutBuf};
 
 // The greatest time of a tick file.
-const GREATEST_TIME: u128 = 4_294_967_295;
+pub(crate) const GREATEST_TIME: u64 = 4_294_967_295;
 
 /// The record of a session.
 #[derive(Drop)]
@@ -54,23 +56,35 @@ impl From<AllocError> for Refusal {
     }
 }
 
-impl Record {
-    /// An empty record, with room for all that its files can hold.
-    pub(crate) fn new(alloc: Global) -> Result<Record, NoMemory>
-        ensures empty { IfOk result (λ r. (r.console.bytes ≡ []) × (r.ticks.bytes ≡ [])
-            × (r.lines ≡ 0) × (r.last ≡ 0)) }
-        ensures record { IfOk result (λ r. IsRecord r.ticks r.lines r.last) }
-        ensures console { IfOk result (λ r. IsWithinFile r.console) }
-    {
-        let console = OutBuf::reserved(alloc, TEXT_FILE_BYTES)?;
-        let ticks = OutBuf::reserved(alloc, TEXT_FILE_BYTES)?;
-        Ok(Record {
-            console,
-            ticks,
-            lines: 0,
-            last: 0,
-        })
-    }
+// A text of a record, with room for all that its file can hold.
+fn text_of(alloc: Global, bytes: &[u8]) -> Result<OutBuf, NoMemory>
+    requires { length bytes.now ≤ longest_text_file }
+    ensures holds { IfOk result (λ text. text.bytes ≡ bytes.now) }
+    ensures within { IfOk result (λ text. IsWithinFile text) }
+{
+    let mut text = OutBuf::reserved(alloc, TEXT_FILE_BYTES)?;
+    let _ = text.put(bytes);
+    Ok(text)
+}
+
+/// The record of these texts.
+pub(crate) fn record_of(alloc: Global, texts: &Texts) -> Result<Record, NoMemory>
+    requires console { length texts.now.console.items ≤ longest_text_file }
+    requires ticks { length texts.now.ticks.items ≤ longest_text_file }
+    requires texts { IsTextOf texts.now.console.items texts.now.ticks.items texts.now.lines texts.now.last }
+    ensures holds { IfOk result (λ r. (r.console.bytes ≡ texts.now.console.items) × (r.ticks.bytes ≡ texts.now.ticks.items)
+        × (r.lines ≡ texts.now.lines) × (r.last ≡ texts.now.last)) }
+    ensures record { IfOk result (λ r. IsRecord r.ticks r.lines r.last) }
+    ensures console { IfOk result (λ r. IsWithinFile r.console) }
+{
+    let console = text_of(alloc, &texts.console)?;
+    let ticks = text_of(alloc, &texts.ticks)?;
+    Ok(Record {
+        console,
+        ticks,
+        lines: texts.lines,
+        last: texts.last,
+    })
 }
 
 /// Adds the line of an event at this time, and the bytes that it brings.
@@ -97,7 +111,7 @@ pub(crate) fn due_time(now: u128, last: u64, from: u128, period: u64) -> Option<
 {
     let due = from.saturating_add(u128::from(period));
     let time = now.saturating_add(1).max(u128::from(last)).max(due);
-    if time > GREATEST_TIME {
+    if time > u128::from(GREATEST_TIME) {
         return None;
     }
     Some(time as u64)

@@ -2,13 +2,14 @@
 
 ghost use Rattle.std.specs.Prelude.{◌≡◌, ℕ, ◌≤◌, Option, IfSome};
 ghost use Rattle.wind_outside.specs.Counts.{Rose};
-ghost use Rattle.wind_outside.specs.Files.{Files};
+ghost use Rattle.wind_outside.specs.Files.{Files, IsFetchOf, IsWithin};
+ghost use Rattle.wind_outside.specs.declared.folder.Fetched.TheVariants as fetched;
 ghost use Rattle.wind_outside.specs.declared.sink.Put.TheVariants as puts;
 ghost use Rattle.live_session.specs.Folder.{IsPresence, Lengthened, Replaced, SetAside};
 ghost use Rattle.live_session.specs.declared.record_folder.Presence.TheVariants as presence;
 
 use std::alloc::Global;
-use wind_outside::Put;
+use wind_outside::{Fetched, Put};
 
 /// Whether there is a file.
 #[derive(Clone, Copy, Debug, PartialEq, Eq)]
@@ -77,6 +78,23 @@ pub trait RecordFolder {
     fn set_aside(&mut self, alloc: Global, name: &str) -> Put
         ensures done { result ≡ puts.Done → SetAside (files self.old) (files self.new) name.now }
         ensures kept { result ≡ puts.Failed → files self.new ≡ files self.old }
+        ensures failed { result ≡ puts.Failed → Rose (faults self.old) (faults self.new) }
+        ensures never_falls { faults self.old ≤ faults self.new };
+
+    /// Reads the file with this name, if it has at most so many bytes. That can fail, and counts as a
+    /// fault, or run out of memory.
+    fn read(&mut self, alloc: Global, name: &str, limit: u32) -> Fetched
+        ensures kept { files self.new ≡ files self.old }
+        ensures answers { IfSome (files self.old) (λ held. IsFetchOf (held name.now) limit result) }
+        ensures within { IsWithin limit result }
+        ensures failed { result ≡ fetched.Failed → Rose (faults self.old) (faults self.new) }
+        ensures never_falls { faults self.old ≤ faults self.new };
+
+    /// Clears what a write of the file with this name has left beside its place, if it was cut off.
+    /// The files that a contract sees don't change. The real folder puts `.old` after the name of the
+    /// file with `.new`. That can fail, and counts as a fault.
+    fn clear_beside(&mut self, alloc: Global, name: &str) -> Put
+        ensures kept { files self.new ≡ files self.old }
         ensures failed { result ≡ puts.Failed → Rose (faults self.old) (faults self.new) }
         ensures never_falls { faults self.old ≤ faults self.new };
 }

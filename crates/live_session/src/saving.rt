@@ -1,6 +1,7 @@
 //! The files of a record.
 
-ghost use Rattle.std.specs.Prelude.{◌≡◌, ◌⊎◌, ◌≤◌, ◌++◌, Err, IfOk, OnOk, OnErr, string_bytes};
+ghost use Rattle.std.specs.Prelude.{◌≡◌, ◌⊎◌, ◌≤◌, ◌++◌, ◌∷◌, [], ℕ, Err, IfOk, OnOk, OnErr, string_bytes};
+ghost use Rattle.std.specs.Fmt.{decimal};
 ghost use Rattle.wind_base.specs.Limits.{most_steps};
 ghost use Rattle.wind_outside.specs.Counts.{Rose};
 ghost use Rattle.live_session.specs.Folder.{Lengthened, Replaced};
@@ -114,9 +115,10 @@ fn board_digit(board: BoardKind) -> &'static [u8]
     }
 }
 
-// The words with which windplay replays the record, one in each line.
-fn command_text(alloc: Global, command: &Command, limit: u64) -> Result<Vec<u8>, AllocError>
-    ensures { IfOk result (λ text. text.items ≡ command_text_lem (command_state command.now) limit) }
+/// The words with which windplay replays the record, one in each line, up to the digits of the limit.
+pub(crate) fn command_front(alloc: Global, command: &Command) -> Result<Vec<u8>, AllocError>
+    ensures { IfOk result (λ text. (limit : ℕ) → text.items ++ (decimal limit ++ 10 ∷ [])
+        ≡ command_text_lem (command_state command.now) limit) }
 {
     let mut text = Vec::new(alloc);
     add_word(&mut text, "--console=", b"console.txt")?;
@@ -124,11 +126,17 @@ fn command_text(alloc: Global, command: &Command, limit: u64) -> Result<Vec<u8>,
     add_word(&mut text, "--modules=", b"modules")?;
     add_word(&mut text, "--profile=", profile_digit(command.profile))?;
     add_word(&mut text, "--board=", board_digit(command.board))?;
-    add_word(
-        &mut text,
-        "--limit=",
-        Buffer::new().format(limit).as_bytes(),
-    )?;
+    text.extend_from_slice(b"--limit=")?;
+    Ok(text)
+}
+
+// The words with which windplay replays the record, one in each line.
+fn command_text(alloc: Global, command: &Command, limit: u64) -> Result<Vec<u8>, AllocError>
+    ensures { IfOk result (λ text. text.items ≡ command_text_lem (command_state command.now) limit) }
+{
+    let mut text = command_front(alloc, command)?;
+    text.extend_from_slice(Buffer::new().format(limit).as_bytes())?;
+    text.extend_from_slice(b"\n")?;
     Ok(text)
 }
 

@@ -3,9 +3,11 @@
 #![tactic(auto)]
 
 mod modules;
+mod replaying;
 mod screen;
 
 use crate::modules::Modules;
+use crate::replaying::Watched;
 use crate::screen::{Screen, Shows};
 use live_session::{
     HostInput, HostRecordFolder, HostTerminal, Input, Status, command_of, is_at_terminal,
@@ -56,8 +58,10 @@ fn play<I: Input, E: Print + Drop>(around: Around, input: &mut I, err: &mut Host
     match command_of(alloc, around.words) {
         Ok(command) if !command.record.is_empty() => {
             let texts = Screen::new(rt.stderr(), Shows::Texts, around.is_open);
-            let mut modules = Modules::new(alloc, rt, &command, texts);
-            play_with(around, input, &mut modules, err)
+            let is_replaying = Cell::new(command.continues);
+            let mut modules = Modules::new(alloc, rt, &command, &is_replaying, texts);
+            let mut watched = Watched::new(input, &is_replaying);
+            play_with(around, &mut watched, &mut modules, err)
         }
         _ => play_with(around, input, &mut HostFolder::new(rt), err),
     }

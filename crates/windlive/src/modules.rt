@@ -26,8 +26,19 @@ pub(crate) struct Modules<'a, R: Files + Copy + Drop, P: Print + Drop> {
     record: &'a str,
     // whether the copies of an older record may still be in their place
     has_older: Cell<bool>,
+    // whether the session still replays a record, so that its modules are the copies there
+    is_replaying: &'a Cell<bool>,
     // where the program says what the record lacks
     texts: P,
+}
+
+// The copies of modules in a record, by the paths that their files had.
+#[derive(Drop)]
+struct Copies<'a, 'b, R: Files + Copy + Drop> {
+    folder: &'b mut HostFolder<R>,
+    // the names of the folder of modules and of the record's folder
+    name: &'a str,
+    record: &'a str,
 }
 
 // Whether a name is that of a file in its folder: it names no other folder.
@@ -36,6 +47,18 @@ fn is_file_name(name: &str) -> bool {
         && name != "."
         && name != ".."
         && name.as_bytes().iter().all(|byte| *byte != b'/')
+}
+
+// The name of a file in the folder with this name.
+fn file_of<'b>(folder: &str, path: &'b str) -> &'b str {
+    let name = path.strip_prefix(folder).unwrap_or(path);
+    name.strip_prefix("/").unwrap_or(name)
+}
+
+// The path of a copy in a record's folder.
+fn copy_path(alloc: Global, record: &str, file: &str) -> Result<String, AllocError> {
+    let folder = wind_session::path_in(alloc, record, "modules")?;
+    wind_session::path_in(alloc, &folder, file)
 }
 
 // What is kept of a file, for a fetch of at most so many bytes.
@@ -58,8 +81,15 @@ fn answer_of(alloc: Global, kept: Option<&KeptFile>, limit: u32) -> Fetched
 
 impl<'a, R: Files + Copy + Drop, P: Print + Drop> Modules<'a, R, P> {
     /// The folder of modules of a command with a record. With `--force` the copies of an older record
-    /// are set aside before the first copy. `texts` takes the messages.
-    pub(crate) fn new(alloc: Global, rt: R, command: &Command<'a>, texts: P) -> Modules<'a, R, P> {
+    /// are set aside before the first copy. While `is_replaying` is true, the modules are the copies
+    /// in the record. `texts` takes the messages.
+    pub(crate) fn new(
+        alloc: Global,
+        rt: R,
+        command: &Command<'a>,
+        is_replaying: &'a Cell<bool>,
+        texts: P,
+    ) -> Modules<'a, R, P> {
         Modules {
             rt,
             folder: HostFolder::new(rt),
@@ -67,6 +97,7 @@ impl<'a, R: Files + Copy + Drop, P: Print + Drop> Modules<'a, R, P> {
             name: command.modules,
             record: command.record,
             has_older: Cell::new(command.force),
+            is_replaying,
             texts,
         }
     }
@@ -78,12 +109,6 @@ impl<'a, R: Files + Copy + Drop, P: Print + Drop> Modules<'a, R, P> {
                 return;
             }
         }
-    }
-
-    // The name of a file of the folder.
-    fn file_of<'b>(&self, path: &'b str) -> &'b str {
-        let name = path.strip_prefix(self.name).unwrap_or(path);
-        name.strip_prefix("/").unwrap_or(name)
     }
 
     // Renames the folder of an older record's copies to `modules.old`, once.
@@ -102,7 +127,7 @@ impl<'a, R: Files + Copy + Drop, P: Print + Drop> Modules<'a, R, P> {
     fn write_copy(&self, alloc: Global, path: &str, file: &str) -> io::Result<()> {
         let folder = wind_session::path_in(alloc, self.record, "modules")?;
         self.set_older_aside(alloc, &folder)?;
-        let copy = wind_session::path_in(alloc, &folder, file)?;
+        let copy = copy_path(alloc, self.record, file)?;
         match self.kept.get(path) {
             Some(KeptFile::Found(bytes)) => {
                 make_folder(&self.rt, &folder)?;
@@ -114,7 +139,7 @@ impl<'a, R: Files + Copy + Drop, P: Print + Drop> Modules<'a, R, P> {
 
     // Copies what is kept of a file into the record, or says that the record lacks it.
     fn copy(&self, alloc: Global, path: &str) {
-        let file = self.file_of(path);
+        let file = file_of(self.name, path);
         if !is_file_name(file) {
             self.tell(file, " isn't in the record, since its name is a path\n");
         } else if self.write_copy(alloc, path, file).is_err() {
@@ -142,7 +167,7 @@ impl<'a, R: Files + Copy + Drop, P: Print + Drop> Modules<'a, R, P> {
     fn tell_change(&self, alloc: Global, path: &str) {
         if self.has_changed(alloc, path) {
             let text = " has changed; this record keeps the first: load it under another name\n";
-            self.tell(self.file_of(path), text);
+            self.tell(file_of(self.name, path), text);
         }
     }
 }
@@ -164,6 +189,42 @@ fn unless_absent(outcome: io::Result<()>) -> io::Result<()> {
     }
 }
 
+impl<R: Files + Copy + Drop> Folder for Copies<'_, '_, R> {
+    ghost use Rattle.std.specs.Prelude.{None};
+
+    ghost files = { λ _. None };
+
+    ghost requests = { λ _. None };
+
+    ghost faults = { λ c. c.folder.now.faults };
+
+    fn fetch(&mut self, alloc: Global, name: &str, limit: u32) -> Fetched {
+        let file = file_of(self.name, name);
+        if !is_file_name(file) {
+            return Fetched::Missing;
+        }
+        match copy_path(alloc, self.record, file) {
+            Ok(path) => self.folder.fetch(alloc, &path, limit),
+            Err(AllocError) => Fetched::NoMemory,
+        }
+    }
+}
+
+impl<R: Files + Copy + Drop, P: Print + Drop> Modules<'_, R, P> {
+    // Keeps what the record's copies, or the folder, say of a file.
+    fn keep(&mut self, alloc: Global, name: &str) -> Result<(), Unkept> {
+        if !self.is_replaying.get() {
+            return self.kept.keep(alloc, &mut self.folder, name);
+        }
+        let mut copies = Copies {
+            folder: &mut self.folder,
+            name: self.name,
+            record: self.record,
+        };
+        self.kept.keep(alloc, &mut copies, name)
+    }
+}
+
 impl<R: Files + Copy + Drop, P: Print + Drop> Folder for Modules<'_, R, P> {
     ghost use Rattle.std.specs.Prelude.{None};
 
@@ -178,12 +239,14 @@ impl<R: Files + Copy + Drop, P: Print + Drop> Folder for Modules<'_, R, P> {
             self.tell_change(alloc, name);
             return answer_of(alloc, self.kept.get(name), limit);
         }
-        match self.kept.keep(alloc, &mut self.folder, name) {
+        match self.keep(alloc, name) {
             Ok(()) => {}
             Err(Unkept::Failed) => return Fetched::Failed,
             Err(Unkept::NoMemory) => return Fetched::NoMemory,
         }
-        self.copy(alloc, name);
+        if !self.is_replaying.get() {
+            self.copy(alloc, name);
+        }
         answer_of(alloc, self.kept.get(name), limit)
     }
 }

@@ -25,7 +25,7 @@ pub loop-init : goal.loop-init
 loop-init g c = record {
   runs = c.run-went.ensures.runs;
   typing =
-      typing_begins _ _ _ (ap (λ (o : Output). o.bytes) c.run-went.ensures.record_is.console ∙ c.requires.empty)
+      typing_begins _ _ _ _ (ap (λ (o : Output). o.bytes) c.run-went.ensures.record_is.console)
       (λ shelf setup old here. record { first = _; opening = c.run-went.ensures.made shelf setup old here; served = refl });
   journal = c.run-went.ensures.journal;
   input_faults = omega arith;
@@ -52,9 +52,9 @@ loop-preserved g c =
       runs = runs_on c.loop.went.end _ _ _ _ _ _ _ _ _ ready.0 on.runs (stays_same _ on.runs.sound) served.ensures.runs;
       typing =
           rw c.position_after-position.ensures
-          (typed_more _ mid new c.loop.position c.loop.counter bytes c.request_of-request.result served.result.refusal _ _ _ _ on.typing
+          (typed_more _ mid new c.loop.position c.loop.counter bytes c.request_of-request.result served.result.refusal _ _ _ _ _ on.typing
           (record { takes = heard.0; is_part = heard.1; longest = heard.2; asks = c.request_of-request.ensures; sends = served.ensures.console })
-          (talk_more command c.request_of-request.result bytes served.result.refusal begin (live c.loop.live) before here (messages g.E.Sink c.loop.err)
+          (talk_more command c.args.first c.request_of-request.result bytes served.result.refusal begin (live c.loop.live) before here (messages g.E.Sink c.loop.err)
           (store g.D.RecordFolder c.args.records.now) (store g.D.RecordFolder c.loop.records) c.loop.went.end c.loop.went.unsaved ready.1 next c.loop.position
           (record { going = ready.0; runs = on.runs; serves = served.ensures.serves }) c.request_of-request.ensures)
           other);
@@ -78,7 +78,7 @@ returns-then-not-is_going-clause-unrecorded g c = rw c.closing_of.ensures (unrec
 pub returns-then-not-is_going-clause-typed : goal.returns-then-not-is_going-clause-typed
 returns-then-not-is_going-clause-typed g c =
     let stuck : IsGoing c.loop.went.end × (c.loop.went.unsaved ≡ None) → ⊥ = λ going. let given : c.is_going.result ≡ true = c.is_going.ensures.1 going in let differs : c.is_going.result ≡ false = search rules in cc in
-    rw c.closing_of.ensures (typed_until _ _ _ _ _ _ _ c.loop.invariant.typing (λ parts counted. stop_early c.loop.went.unsaved c.loop.went.end _ parts stuck))
+    rw c.closing_of.ensures (typed_until _ _ _ _ _ _ _ _ c.loop.invariant.typing (λ parts counted. stop_early c.loop.went.unsaved c.loop.went.end _ parts stuck))
 
 pub returns-then-not-is_going-clause-read_fault : goal.returns-then-not-is_going-clause-read_fault
 returns-then-not-is_going-clause-read_fault g c = rw c.closing_of.ensures (λ e. inr (c.loop.invariant.runs.read_fault (read_end c.loop.went.unsaved c.loop.went.end e)))
@@ -102,11 +102,11 @@ pub returns-in-Err-clause-typed : goal.returns-in-Err-clause-typed
 returns-in-Err-clause-typed g c =
     let live = live_by (λ d. (goal.Device-dyn g (d.vtable, d.value)).kind_of d.value) (λ d. (goal.Device-dyn g (d.vtable, d.value)).words_of d.value) in
     let ready : IsGoing c.loop.went.end × (c.loop.went.unsaved ≡ None) = c.is_going.ensures.0 (search rules) in
-    typed_as _ _ _ _ _ _
+    typed_as _ _ _ _ _ _ _
     (λ parts talks shelf setup old here.
-    subst (λ (f : Option Unsaved). IsTalk (command_state c.args.target.command.now) parts shelf setup old (live c.args.live.now) (around g.F.Folder g.O.Sink c.args.folder.now c.args.out.now) (store g.D.RecordFolder c.args.records.now)
+    subst (λ (f : Option Unsaved). IsTalk (command_state c.args.target.command.now) c.args.first parts shelf setup old (live c.args.live.now) (around g.F.Folder g.O.Sink c.args.folder.now c.args.out.now) (store g.D.RecordFolder c.args.records.now)
     (moment (live c.loop.live) (around g.F.Folder g.O.Sink c.loop.folder c.loop.out) (messages g.E.Sink c.loop.err) (store g.D.RecordFolder c.loop.records) c.loop.went.end f)) ready.1 (talks shelf setup old here))
-    (typed_heard c.in-Err.status _ _ _ _ _ _ _ c.in-Err.ensures.kept c.loop.invariant.typing
+    (typed_heard c.in-Err.status _ _ _ _ _ _ _ _ c.in-Err.ensures.kept c.loop.invariant.typing
     (λ parts. stop_heard c.in-Err.status _ parts c.in-Err.ensures.ended.1 (λ e. c.in-Err.ensures.over (ap (λ (s : Status). Err s) e))))
 
 pub returns-in-Err-clause-journal : goal.returns-in-Err-clause-journal
@@ -147,9 +147,9 @@ returns-then-is_quit-clause-typed g c =
     let heard = subst (λ (b : List ℕ). Takes mid new b × IsPart b × IsLongest b new) (sym c.as_slice-bytes.ensures.value) c.in-Ok.ensures.part in
     let quits : c.request_of-request.result ≡ requests.Obey lines.Quit = c.is_quit.ensures.0 (search rules) in
     rw c.closing_of-then-is_quit.ensures
-    (typed_quit _ mid new c.loop.position c.loop.counter bytes c.request_of-request.result served.result.refusal _ _ _ _ on.typing
+    (typed_quit _ mid new c.loop.position c.loop.counter bytes c.request_of-request.result served.result.refusal _ _ _ _ _ on.typing
     (record { takes = heard.0; is_part = heard.1; longest = heard.2; asks = c.request_of-request.ensures; sends = served.ensures.console })
-    (talk_more command c.request_of-request.result bytes served.result.refusal begin (live c.loop.live) before here (messages g.E.Sink c.loop.err)
+    (talk_more command c.args.first c.request_of-request.result bytes served.result.refusal begin (live c.loop.live) before here (messages g.E.Sink c.loop.err)
     (store g.D.RecordFolder c.args.records.now) (store g.D.RecordFolder c.loop.records) c.loop.went.end c.loop.went.unsaved ready.1 next c.loop.position
     (record { going = ready.0; runs = on.runs; serves = served.ensures.serves }) c.request_of-request.ensures)
     _ quits)
@@ -190,7 +190,7 @@ returns-clause-unrecorded g c = rw c.closing_of-2.ensures (unrecorded c.loop.wen
 pub returns-clause-typed : goal.returns-clause-typed
 returns-clause-typed g c =
     rw c.closing_of-2.ensures
-    (typed_until _ _ _ _ _ _ _ c.loop.invariant.typing (λ parts counted. stop_whole _ _ parts (inr (inr (omega (arith, counted))))))
+    (typed_until _ _ _ _ _ _ _ _ c.loop.invariant.typing (λ parts counted. stop_whole _ _ parts (inr (inr (omega (arith, counted))))))
 
 pub returns-clause-read_fault : goal.returns-clause-read_fault
 returns-clause-read_fault g c = rw c.closing_of-2.ensures (λ e. inr (c.loop.invariant.runs.read_fault (read_end c.loop.went.unsaved c.loop.went.end e)))

@@ -19,9 +19,9 @@ invariant-loop g l =
     let later = store g.D.RecordFolder l.records in
     record {
       runs : Runs l.went.end l.target.command.now.modules.now (live l.fn.live) before (live l.live) now;
-      typing : Typing (g.I.Input.left l.fn.input) (g.I.Input.left l.input) (live l.live).console.bytes l.position l.counter
+      typing : Typing (g.I.Input.left l.fn.input) (g.I.Input.left l.input) (live l.fn.live).console.bytes (live l.live).console.bytes l.position l.counter
           (λ parts. Wherever l.target.command.now.modules.now (live l.fn.live) before
-          (λ shelf setup old. IsTalk (command_state l.target.command.now) parts shelf setup old (live l.fn.live) before files
+          (λ shelf setup old. IsTalk (command_state l.target.command.now) l.first parts shelf setup old (live l.fn.live) before files
           (moment (live l.live) now (messages g.E.Sink l.err) later l.went.end l.went.unsaved)));
       journal : Journaled (command_state l.target.command.now) l.went.unsaved l.went.end (live l.fn.live) before files (live l.live) now later;
       input_faults : g.I.Input.faults l.fn.input ≤ g.I.Input.faults l.input;

@@ -1,33 +1,9 @@
-use Rattle.std.proofs.Common.{◌≡◌, ℕ, List, rules, subst, sym}
-use Rattle.wind_session.specs.Keeping.{messages}
+use Rattle.std.proofs.Common.{◌≡◌, rules, sym}
 use Rattle.live_session.specs.Ending.{is_quiet}
-use Rattle.live_session.specs.Moments.{IsTold}
 use Rattle.live_session.specs.Saving.{replay_limit}
-use Rattle.live_session.specs.Telling.{failure_text, unwritten_text}
-use Rattle.live_session.specs.declared.saving.Unsaved.{Unsaved}
-use Rattle.live_session.specs.declared.saving.Unsaved.TheVariants as unsaved
 use Rattle.live_session.proofs.keeping.write_record.Goals as goal
 
--- writing failed, which was told
-pub returns-in-Err-Failed-clause-told : goal.returns-in-Err-Failed-clause-told
-returns-in-Err-Failed-clause-told g c =
-    let failed : c.in-Err-Failed.field-0 ≡ unsaved.Failed = rw c.in-Err-Failed.is at c.in-Err-Failed.field-0-is in
-    rw c.in-Err-Failed.is
-    (subst (λ (failure : Unsaved). IsTold (failure_text c.args.target.command.now.record.now failure) (messages g.E.Sink c.args.err.now) (messages g.E.Sink c.tell_of.new.err)) (sym failed)
-    (subst (λ (name : List ℕ). IsTold (unwritten_text name) (messages g.E.Sink c.args.err.now) (messages g.E.Sink c.tell_of.new.err)) c.as_bytes-name.ensures.value c.tell_of.ensures.printed))
-
--- ---- what was written
-pub returns-in-Ok-clause-parts : goal.returns-in-Ok-clause-parts
-returns-in-Ok-clause-parts g c =
+pub returns-clause-parts : goal.returns-clause-parts
+returns-clause-parts g c =
     let same : c.replay_limit-limit.result ≡ replay_limit c.args.live.now.board.parts.clock.steps (is_quiet c.args.end) = search rules in
-    rw (sym same) c.save-saved.ensures.parts
-
-pub returns-in-Err-Failed-clause-parts : goal.returns-in-Err-Failed-clause-parts
-returns-in-Err-Failed-clause-parts g c =
-    let same : c.replay_limit-limit.result ≡ replay_limit c.args.live.now.board.parts.clock.steps (is_quiet c.args.end) = search rules in
-    rw (sym same) c.save-saved.ensures.parts
-
-pub returns-in-Err-NoMemory-clause-parts : goal.returns-in-Err-NoMemory-clause-parts
-returns-in-Err-NoMemory-clause-parts g c =
-    let same : c.replay_limit-limit.result ≡ replay_limit c.args.live.now.board.parts.clock.steps (is_quiet c.args.end) = search rules in
-    rw (sym same) c.save-saved.ensures.parts
+    rw (sym same) c.write_files.ensures.parts

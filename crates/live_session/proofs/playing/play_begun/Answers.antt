@@ -6,7 +6,7 @@ use Rattle.wind_session.proofs.AppendingLemmas.{rose_earlier}
 use Rattle.wind_session.specs.Keeping.{messages}
 use Rattle.live_session.specs.LiveAround.{live_around, store}
 use Rattle.live_session.specs.Saving.{IsOpened, WritesFor}
-use Rattle.live_session.specs.Session.{IsRefusal}
+use Rattle.live_session.specs.Session.{IsRefusal, first_steps}
 use Rattle.live_session.specs.Words.{command_state}
 use Rattle.live_session.specs.declared.saving.Unsaved.{Unsaved}
 use Rattle.live_session.specs.declared.saving.Unsaved.TheVariants as unsaved
@@ -16,23 +16,27 @@ use Rattle.live_session.proofs.Closings.{is_failure, no_failure, some_failure}
 use Rattle.live_session.proofs.OtherFiles.{for_both, for_kept, named_by, writes_both, writes_for, writes_record}
 use Rattle.live_session.proofs.Outcomes.{IsAfter, after_failed, after_recorded, after_status, after_typed, ended_going, ended_same, never_usage, opened_record, put_same, read_same, unopened_refusal, unopened_status}
 use Rattle.live_session.proofs.SavedFiles.{opening_current, safe_end}
-use Rattle.live_session.proofs.Whole.{plays}
+use Rattle.live_session.proofs.Whole.{plays, typed_from}
 use Rattle.live_session.proofs.playing.play_begun.Goals as goal
 
 -- ---- no record is asked for
 pub returns-then-is_empty-clause-leaves : goal.returns-then-is_empty-clause-leaves
-returns-then-is_empty-clause-leaves g c = λ devices begins.
+returns-then-is_empty-clause-leaves g c = λ devices kept limit_is takes begins.
     let closing = c.converse-closing in
     let folder = c.args.target.command.now.record.now in
     let none : folder ≡ [] = nil_from_length folder (eqb-true (length folder) 0 (sym c.is_empty.ensures ∙ c.if-is_empty.true)) in
-    inr (plays c.writing_law.ensures.written closing.result.status (command_state c.args.target.command.now) closing.result.end _ _
+    inr (plays c.writing_law.ensures.written closing.result.status (command_state c.args.target.command.now) kept closing.result.end _ _
     (live_around g.I.Input g.F.Folder g.O.Sink g.D.RecordFolder c.args.input.now c.args.folder.now c.args.out.now c.args.records.now)
     (live_around g.I.Input g.F.Folder g.O.Sink g.D.RecordFolder closing.new.input closing.new.folder closing.new.out closing.new.records)
     (messages g.E.Sink closing.new.err) closing.result.unsaved (store g.D.RecordFolder c.open_record.new.records) (store g.D.RecordFolder closing.new.records)
     (record {
       runs = closing.ensures.runs;
       status_is = closing.ensures.status_is;
-      typed = closing.ensures.typed;
+      typed = typed_from (command_state c.args.target.command.now) kept _ _ _ _ _ _ _ _
+          (live_around g.I.Input g.F.Folder g.O.Sink g.D.RecordFolder c.args.input.now c.args.folder.now c.args.out.now c.args.records.now)
+          (live_around g.I.Input g.F.Folder g.O.Sink g.D.RecordFolder closing.new.input closing.new.folder closing.new.out closing.new.records)
+          (messages g.E.Sink closing.new.err) closing.result.end closing.result.unsaved (store g.D.RecordFolder c.open_record.new.records) (store g.D.RecordFolder closing.new.records)
+          begins.console_is (c.first_steps-first.ensures ∙ ap (first_steps (command_state c.args.target.command.now)) (sym limit_is)) closing.ensures.typed;
       unopened = λ e. (c.open_record.ensures.unnamed e).1 ∙ c.may_record.ensures.files;
       opens = λ e. absurd (e none);
       writes =
@@ -46,33 +50,37 @@ returns-then-is_empty-clause-leaves g c = λ devices begins.
           absurd (named none);
       safe = λ named. absurd (named none);
     })
-    _ (c.may_record.ensures.permitted (search rules)) begins)
+    _ (c.may_record.ensures.permitted (search rules)) takes begins)
 
 pub returns-then-is_empty-clause-known : goal.returns-then-is_empty-clause-known
 returns-then-is_empty-clause-known g c = never_usage c.converse-closing.result.end c.converse-closing.result.status c.converse-closing.ensures.status_is
 
 -- ---- a file of the record was not written in the middle of the session
 pub returns-then-is_some-clause-leaves : goal.returns-then-is_some-clause-leaves
-returns-then-is_some-clause-leaves g c = λ devices begins.
+returns-then-is_some-clause-leaves g c = λ devices kept limit_is takes begins.
     let closing = c.converse-closing in
     let command = command_state c.args.target.command.now in
     let folder = c.args.target.command.now.record.now in
     let named : folder ≢ [] = named_by folder (sym c.is_empty.ensures ∙ c.if-is_empty.false) in
-    let opened = opening_current command _ _ _ begins.sound (c.in_default.ensures.ok named).saved in
+    let opened = opening_current command _ c.args.limit _ _ begins.no_steps c.requires.few (c.in_default.ensures.ok named).saved in
     let stuck = is_failure closing.result.unsaved (sym c.is_some.ensures ∙ c.if-is_some.true) in
-    inr (plays c.writing_law.ensures.written closing.result.status command closing.result.end _ _
+    inr (plays c.writing_law.ensures.written closing.result.status command kept closing.result.end _ _
     (live_around g.I.Input g.F.Folder g.O.Sink g.D.RecordFolder c.args.input.now c.args.folder.now c.args.out.now c.args.records.now)
     (live_around g.I.Input g.F.Folder g.O.Sink g.D.RecordFolder closing.new.input closing.new.folder closing.new.out closing.new.records)
     (messages g.E.Sink closing.new.err) closing.result.unsaved (store g.D.RecordFolder c.open_record.new.records) (store g.D.RecordFolder closing.new.records)
     (record {
       runs = closing.ensures.runs;
       status_is = closing.ensures.status_is;
-      typed = closing.ensures.typed;
+      typed = typed_from (command_state c.args.target.command.now) kept _ _ _ _ _ _ _ _
+          (live_around g.I.Input g.F.Folder g.O.Sink g.D.RecordFolder c.args.input.now c.args.folder.now c.args.out.now c.args.records.now)
+          (live_around g.I.Input g.F.Folder g.O.Sink g.D.RecordFolder closing.new.input closing.new.folder closing.new.out closing.new.records)
+          (messages g.E.Sink closing.new.err) closing.result.end closing.result.unsaved (store g.D.RecordFolder c.open_record.new.records) (store g.D.RecordFolder closing.new.records)
+          begins.console_is (c.first_steps-first.ensures ∙ ap (first_steps (command_state c.args.target.command.now)) (sym limit_is)) closing.ensures.typed;
       unopened = λ e. absurd (named e);
       opens = λ e.
           let saved = c.in_default.ensures.ok e in
-          subst (λ (f : Option Files). IsOpened command [] [] 0 f (g.D.RecordFolder.files c.open_record.new.records)) c.may_record.ensures.files
-          (opened_record _ _ _ _ _ _ begins.empty begins.no_ticks begins.no_steps saved);
+          subst (λ (f : Option Files). IsOpened command kept.console kept.ticks kept.limit f (g.D.RecordFolder.files c.open_record.new.records)) c.may_record.ensures.files
+          (opened_record _ kept _ _ _ _ _ begins.console_is begins.ticks_is limit_is saved);
       writes =
           for_both _ _ _ _
           (subst (λ (f : Option Files). WritesFor command f (g.D.RecordFolder.files c.open_record.new.records)) c.may_record.ensures.files c.open_record.ensures.writes)
@@ -86,36 +94,41 @@ returns-then-is_some-clause-leaves g c = λ devices begins.
       );
       safe = λ some. (opened, closing.ensures.journal.always named opened);
     })
-    _ (c.may_record.ensures.permitted (search rules)) begins)
+    _ (c.may_record.ensures.permitted (search rules)) takes begins)
 
 pub returns-then-is_some-clause-known : goal.returns-then-is_some-clause-known
 returns-then-is_some-clause-known g c = never_usage c.converse-closing.result.end c.converse-closing.result.status c.converse-closing.ensures.status_is
 
 -- ---- the record was written at the end, or not
 pub returns-clause-leaves : goal.returns-clause-leaves
-returns-clause-leaves g c = λ devices begins.
+returns-clause-leaves g c = λ devices kept limit_is takes begins.
     let closing = c.converse-closing in
     let writing = c.write_record-written in
     let command = command_state c.args.target.command.now in
     let folder = c.args.target.command.now.record.now in
     let named : folder ≢ [] = named_by folder (sym c.is_empty.ensures ∙ c.if-is_empty.false) in
-    let opened = opening_current command _ _ _ begins.sound (c.in_default.ensures.ok named).saved in
+    let opened = opening_current command _ c.args.limit _ _ begins.no_steps c.requires.few (c.in_default.ensures.ok named).saved in
     let none = no_failure closing.result.unsaved (sym c.is_some.ensures ∙ c.if-is_some.false) in
     let known : closing.result.status ≢ status.Unrecorded = λ e. some_failure _ _ (closing.ensures.unrecorded e) none in
     let after : IsAfter writing.result closing.result.status c.status_after-2.result = record { ok = c.status_after-2.ensures.ok; err = c.status_after-2.ensures.err } in
-    inr (plays c.writing_law.ensures.written c.status_after-2.result command closing.result.end _ _
+    inr (plays c.writing_law.ensures.written c.status_after-2.result command kept closing.result.end _ _
     (live_around g.I.Input g.F.Folder g.O.Sink g.D.RecordFolder c.args.input.now c.args.folder.now c.args.out.now c.args.records.now)
     (live_around g.I.Input g.F.Folder g.O.Sink g.D.RecordFolder closing.new.input closing.new.folder closing.new.out writing.new.records)
     (messages g.E.Sink closing.new.err) closing.result.unsaved (store g.D.RecordFolder c.open_record.new.records) (store g.D.RecordFolder closing.new.records)
     (record {
       runs = closing.ensures.runs;
       status_is = after_status writing.result closing.result.status c.status_after-2.result closing.result.end after closing.ensures.status_is;
-      typed = after_typed writing.result closing.result.status c.status_after-2.result _ _ _ _ after closing.ensures.typed;
+      typed = after_typed writing.result closing.result.status c.status_after-2.result _ _ _ _ _ after
+          (typed_from command kept _ _ _ _ _ _ _ _
+          (live_around g.I.Input g.F.Folder g.O.Sink g.D.RecordFolder c.args.input.now c.args.folder.now c.args.out.now c.args.records.now)
+          (live_around g.I.Input g.F.Folder g.O.Sink g.D.RecordFolder closing.new.input closing.new.folder closing.new.out closing.new.records)
+          (messages g.E.Sink closing.new.err) closing.result.end closing.result.unsaved (store g.D.RecordFolder c.open_record.new.records) (store g.D.RecordFolder closing.new.records)
+          begins.console_is (c.first_steps-first.ensures ∙ ap (first_steps command) (sym limit_is)) closing.ensures.typed);
       unopened = λ e. absurd (named e);
       opens = λ e.
           let saved = c.in_default.ensures.ok e in
-          subst (λ (f : Option Files). IsOpened command [] [] 0 f (g.D.RecordFolder.files c.open_record.new.records)) c.may_record.ensures.files
-          (opened_record _ _ _ _ _ _ begins.empty begins.no_ticks begins.no_steps saved);
+          subst (λ (f : Option Files). IsOpened command kept.console kept.ticks kept.limit f (g.D.RecordFolder.files c.open_record.new.records)) c.may_record.ensures.files
+          (opened_record _ kept _ _ _ _ _ begins.console_is begins.ticks_is limit_is saved);
       writes =
           for_both _ _ _ _
           (subst (λ (f : Option Files). WritesFor command f (g.D.RecordFolder.files c.open_record.new.records)) c.may_record.ensures.files c.open_record.ensures.writes)
@@ -136,7 +149,7 @@ returns-clause-leaves g c = λ devices begins.
         safe_end c.writing_law.ensures.written command closing.result.unsaved closing.result.end _ _ _ _ _ _ _ named opened closing.ensures.runs closing.ensures.journal none writing.ensures.parts,
       );
     })
-    _ (c.may_record.ensures.permitted (search rules)) begins)
+    _ (c.may_record.ensures.permitted (search rules)) takes begins)
 
 pub returns-clause-known : goal.returns-clause-known
 returns-clause-known g c =
@@ -161,7 +174,7 @@ returns-clause-keeps g c = c.converse-closing.ensures.runs.keeps
 
 -- ---- the record could not be opened
 pub returns-in-Err-clause-leaves : goal.returns-in-Err-clause-leaves
-returns-in-Err-clause-leaves g c = λ devices begins.
+returns-in-Err-clause-leaves g c = λ devices kept limit_is takes begins.
     let command = command_state c.args.target.command.now in
     let rose : Type 0 = Rose (g.D.RecordFolder.faults c.args.records.now) (g.D.RecordFolder.faults c.open_record.new.records) in
     let named : c.args.target.command.now.record.now ≢ [] = λ e. (c.in-Err.ensures.unnamed e).0 in
@@ -173,7 +186,7 @@ returns-in-Err-clause-leaves g c = λ devices begins.
       record { outside = refl; input = refl },
       record {
         writes = subst (λ (f : Option Files). WritesFor command f (g.D.RecordFolder.files c.open_record.new.records)) c.may_record.ensures.files c.open_record.ensures.writes;
-        permitted = inl (c.may_record.ensures.permitted (search rules));
+        permitted = inl (record { permitted = c.may_record.ensures.permitted (search rules); kept = kept; takes = takes });
       },
     )
 
@@ -188,7 +201,7 @@ returns-in-Err-clause-fault g c = rw c.status_after.ensures.err (λ e. absurd ((
 
 -- ---- nothing was played
 pub returns-then-not-may_record-clause-leaves : goal.returns-then-not-may_record-clause-leaves
-returns-then-not-may_record-clause-leaves g c = λ devices begins.
+returns-then-not-may_record-clause-leaves g c = λ devices kept limit_is takes begins.
     let no : c.may_record.result ≡ false = search rules in
     inl (c.may_record.ensures.refused no, record { outside = refl; input = refl }, record { writes = for_kept _ _ _ c.may_record.ensures.files; permitted = inr c.may_record.ensures.files })
 
