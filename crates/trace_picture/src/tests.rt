@@ -4,12 +4,15 @@ use crate::layout::Layout;
 use crate::objects::add_objects;
 use crate::rows::{add_areas, add_names};
 use crate::scale::Scale;
-use crate::{Kind, Mark, Ownership, Picture, QueueLength, RowName, add_picture, areas_of};
+use crate::{
+    Areas, Kind, Mark, Ownership, Picture, QueueLength, RowName, add_picture, band_of, bar_of,
+};
 use board_changes::{Awaited, Look, Span, Standing};
 use id_table::Ident;
 use kernel_world::Actor;
+use std::alloc::Global;
 use std::test::Fail;
-use wind_base::ShortName;
+use wind_base::{NoMemory, ShortName};
 
 // A row of the tests.
 fn row(id: Ident, name: &[u8]) -> RowName {
@@ -36,6 +39,18 @@ fn span(who: Ident, look: Look, from: u128, to: u128) -> Span {
         from,
         to,
     }
+}
+
+// The areas of spans.
+fn areas_of(alloc: Global, spans: &[Span]) -> Result<Areas, NoMemory> {
+    let mut areas = Areas::new(alloc);
+    for span in spans {
+        areas.add(bar_of(span))?;
+        if let Some(band) = band_of(span) {
+            areas.add(band)?;
+        }
+    }
+    Ok(areas)
 }
 
 #[test]
@@ -78,6 +93,8 @@ fn draws_areas_and_marks(rt: HostRuntime) -> Result<(), Fail> {
         routines: &[(1, 2)],
         owners: &owners,
         lengths: &[],
+        mutexes: &[1],
+        queues: &[],
         ticks: &[3, 3],
         marks: &marks,
         start: 0,
@@ -159,6 +176,8 @@ fn divides_a_pixel(rt: HostRuntime) -> Result<(), Fail> {
         routines: &[],
         owners: &[],
         lengths: &[],
+        mutexes: &[],
+        queues: &[],
         ticks: &[],
         marks: &[],
         start: 0,
@@ -176,6 +195,48 @@ fn divides_a_pixel(rt: HostRuntime) -> Result<(), Fail> {
 <title>1 tShell inherits a priority 80 %, 0 to 5</title></rect>
 <rect class=\"ready\" x=\"161.10\" y=\"90\" width=\"0.10\" height=\"16\">\
 <title>1 tShell ready, 11 to 12</title></rect>
+";
+    assert_eq!(rt; text.as_slice(), expected.as_slice());
+    Ok(())
+}
+
+// Bands of less than a pixel are drawn without their bars.
+#[test]
+fn draws_bands_alone(rt: HostRuntime) -> Result<(), Fail> {
+    let one = Ident::new(1).ok_or("id")?;
+    let rows = [row(one, b"tShell")];
+    let inherits = Look {
+        standing: Standing::Running,
+        object: None,
+        inherits: true,
+    };
+    let mut areas = Areas::new(rt.alloc());
+    for (from, to) in [(0, 4), (5, 6), (11, 12)] {
+        if let Some(band) = band_of(&span(one, inherits, from, to)) {
+            areas.add(band).or(Err("memory"))?;
+        }
+    }
+    let picture = Picture {
+        rows: &rows,
+        areas: areas.list(),
+        routines: &[],
+        owners: &[],
+        lengths: &[],
+        mutexes: &[],
+        queues: &[],
+        ticks: &[],
+        marks: &[],
+        start: 0,
+        end: 12_000,
+    };
+    let layout = Layout::new(rt.alloc(), &picture).or(Err("memory"))?;
+    let mut text = Vec::new(rt.alloc());
+    let scale = Scale::new(0, 12_000);
+    add_areas(rt.alloc(), &mut text, &picture, &layout, scale).or(Err("memory"))?;
+    let expected = b"<rect class=\"inherits\" x=\"160\" y=\"107\" width=\"1\" height=\"4\">\
+<title>1 tShell inherits a priority 100 %, 0 to 6</title></rect>
+<rect class=\"inherits\" x=\"161.10\" y=\"107\" width=\"0.10\" height=\"4\">\
+<title>1 tShell running, priority inherited, 11 to 12</title></rect>
 ";
     assert_eq!(rt; text.as_slice(), expected.as_slice());
     Ok(())
@@ -200,6 +261,11 @@ fn shares_rows_and_counts_messages(rt: HostRuntime) -> Result<(), Fail> {
     let lengths = [
         QueueLength {
             queue: 2,
+            time: 0,
+            messages: 2,
+        },
+        QueueLength {
+            queue: 2,
             time: 1,
             messages: 1,
         },
@@ -215,6 +281,8 @@ fn shares_rows_and_counts_messages(rt: HostRuntime) -> Result<(), Fail> {
         routines: &[],
         owners: &[],
         lengths: &lengths,
+        mutexes: &[],
+        queues: &[2],
         ticks: &[],
         marks: &[],
         start: 0,
@@ -227,8 +295,8 @@ fn shares_rows_and_counts_messages(rt: HostRuntime) -> Result<(), Fail> {
     add_objects(&mut text, &picture, &layout, scale).or(Err("memory"))?;
     let expected = b"<text x=\"5\" y=\"102\">1 first + 1</text>
 <text x=\"5\" y=\"132\">queue 2</text>
-<path class=\"length\" d=\"M160 136H160V136H460V120H1060V136H1360\">\
-<title>queue 2, at most 1 messages</title></path>
+<path class=\"length\" d=\"M160 120H160V120H460V128H1060V136H1360\">\
+<title>queue 2, at most 2 messages</title></path>
 ";
     assert_eq!(rt; text.as_slice(), expected.as_slice());
     Ok(())
