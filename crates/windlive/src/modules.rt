@@ -19,26 +19,24 @@ use wind_outside::{Fetched, Folder, HostFolder};
 #[derive(Drop)]
 pub(crate) struct Modules<'a, R: Files + Copy + Drop, P: Print + Drop> {
     rt: R,
-    folder: HostFolder<R>,
+    source: Source<'a, R>,
     kept: KeptFiles,
-    // the names of the folder and of the record's folder
-    name: &'a str,
-    record: &'a str,
     // whether the copies of an older record may still be in their place
     has_older: Cell<bool>,
-    // whether the session still replays a record, so that its modules are the copies there
-    is_replaying: &'a Cell<bool>,
     // where the program says what the record lacks
     texts: P,
 }
 
-// The copies of modules in a record, by the paths that their files had.
+// Where modules come from: the folder of modules, or, while the session replays a record, the copies
+// there.
 #[derive(Drop)]
-struct Copies<'a, 'b, R: Files + Copy + Drop> {
-    folder: &'b mut HostFolder<R>,
+struct Source<'a, R: Files + Copy + Drop> {
+    folder: HostFolder<R>,
     // the names of the folder of modules and of the record's folder
     name: &'a str,
     record: &'a str,
+    // whether the session still replays a record
+    is_replaying: &'a Cell<bool>,
 }
 
 // Whether a name is that of a file in its folder: it names no other folder.
@@ -90,14 +88,17 @@ impl<'a, R: Files + Copy + Drop, P: Print + Drop> Modules<'a, R, P> {
         is_replaying: &'a Cell<bool>,
         texts: P,
     ) -> Modules<'a, R, P> {
-        Modules {
-            rt,
+        let source = Source {
             folder: HostFolder::new(rt),
-            kept: KeptFiles::new(alloc, MODULE_FILE_BYTES),
             name: command.modules,
             record: command.record,
-            has_older: Cell::new(command.force),
             is_replaying,
+        };
+        Modules {
+            rt,
+            source,
+            kept: KeptFiles::new(alloc, MODULE_FILE_BYTES),
+            has_older: Cell::new(command.force),
             texts,
         }
     }
@@ -116,7 +117,7 @@ impl<'a, R: Files + Copy + Drop, P: Print + Drop> Modules<'a, R, P> {
         if !self.has_older.get() {
             return Ok(());
         }
-        let aside = wind_session::path_in(alloc, self.record, "modules.old")?;
+        let aside = wind_session::path_in(alloc, self.source.record, "modules.old")?;
         unless_absent(self.rt.remove_dir_all(alloc, &aside))?;
         unless_absent(self.rt.rename(folder, &aside))?;
         self.has_older.set(false);
@@ -125,9 +126,9 @@ impl<'a, R: Files + Copy + Drop, P: Print + Drop> Modules<'a, R, P> {
 
     // Makes the record's copy of a file what is kept of it.
     fn write_copy(&self, alloc: Global, path: &str, file: &str) -> io::Result<()> {
-        let folder = wind_session::path_in(alloc, self.record, "modules")?;
+        let folder = wind_session::path_in(alloc, self.source.record, "modules")?;
         self.set_older_aside(alloc, &folder)?;
-        let copy = copy_path(alloc, self.record, file)?;
+        let copy = copy_path(alloc, self.source.record, file)?;
         match self.kept.get(path) {
             Some(KeptFile::Found(bytes)) => {
                 make_folder(&self.rt, &folder)?;
@@ -139,7 +140,7 @@ impl<'a, R: Files + Copy + Drop, P: Print + Drop> Modules<'a, R, P> {
 
     // Copies what is kept of a file into the record, or says that the record lacks it.
     fn copy(&self, alloc: Global, path: &str) {
-        let file = file_of(self.name, path);
+        let file = file_of(self.source.name, path);
         if !is_file_name(file) {
             self.tell(file, " isn't in the record, since its name is a path\n");
         } else if self.write_copy(alloc, path, file).is_err() {
@@ -167,7 +168,7 @@ impl<'a, R: Files + Copy + Drop, P: Print + Drop> Modules<'a, R, P> {
     fn tell_change(&self, alloc: Global, path: &str) {
         if self.has_changed(alloc, path) {
             let text = " has changed; this record keeps the first: load it under another name\n";
-            self.tell(file_of(self.name, path), text);
+            self.tell(file_of(self.source.name, path), text);
         }
     }
 }
@@ -189,16 +190,19 @@ fn unless_absent(outcome: io::Result<()>) -> io::Result<()> {
     }
 }
 
-impl<R: Files + Copy + Drop> Folder for Copies<'_, '_, R> {
+impl<R: Files + Copy + Drop> Folder for Source<'_, R> {
     ghost use Rattle.std.specs.Prelude.{None};
 
     ghost files = { λ _. None };
 
     ghost requests = { λ _. None };
 
-    ghost faults = { λ c. c.folder.now.faults };
+    ghost faults = { λ s. s.folder.faults };
 
     fn fetch(&mut self, alloc: Global, name: &str, limit: u32) -> Fetched {
+        if !self.is_replaying.get() {
+            return self.folder.fetch(alloc, name, limit);
+        }
         let file = file_of(self.name, name);
         if !is_file_name(file) {
             return Fetched::Missing;
@@ -210,21 +214,6 @@ impl<R: Files + Copy + Drop> Folder for Copies<'_, '_, R> {
     }
 }
 
-impl<R: Files + Copy + Drop, P: Print + Drop> Modules<'_, R, P> {
-    // Keeps what the record's copies, or the folder, say of a file.
-    fn keep(&mut self, alloc: Global, name: &str) -> Result<(), Unkept> {
-        if !self.is_replaying.get() {
-            return self.kept.keep(alloc, &mut self.folder, name);
-        }
-        let mut copies = Copies {
-            folder: &mut self.folder,
-            name: self.name,
-            record: self.record,
-        };
-        self.kept.keep(alloc, &mut copies, name)
-    }
-}
-
 impl<R: Files + Copy + Drop, P: Print + Drop> Folder for Modules<'_, R, P> {
     ghost use Rattle.std.specs.Prelude.{None};
 
@@ -232,19 +221,19 @@ impl<R: Files + Copy + Drop, P: Print + Drop> Folder for Modules<'_, R, P> {
 
     ghost requests = { λ _. None };
 
-    ghost faults = { λ m. m.folder.faults };
+    ghost faults = { λ m. m.source.folder.faults };
 
     fn fetch(&mut self, alloc: Global, name: &str, limit: u32) -> Fetched {
         if self.kept.get(name).is_some() {
             self.tell_change(alloc, name);
             return answer_of(alloc, self.kept.get(name), limit);
         }
-        match self.keep(alloc, name) {
+        match self.kept.keep(alloc, &mut self.source, name) {
             Ok(()) => {}
             Err(Unkept::Failed) => return Fetched::Failed,
             Err(Unkept::NoMemory) => return Fetched::NoMemory,
         }
-        if !self.is_replaying.get() {
+        if !self.source.is_replaying.get() {
             self.copy(alloc, name);
         }
         answer_of(alloc, self.kept.get(name), limit)
