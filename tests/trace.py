@@ -58,7 +58,24 @@ FIGURES = {
         {"time": 54, "steps": 64, "ticks": 0, "calls": 8, "idle": 0},
         {1: ("tShell", 7, 109, 3, 7, 0, 0), 3: ("t1", 1, 15, 2, 1, 0, 0)},
     ),
+    "server": (
+        {"time": 2000, "steps": 199, "ticks": 4, "calls": 23, "idle": 1825},
+        {1: ("tShell", 15, 75, 5, 15, 0, 0), 4: ("server", 59, 296, 5, 7, 0, 0), 5: ("client", 1, 5, 2, 1, 0, 0)},
+    ),
 }
+# Its longest times, worked out by hand: the wait and what for, ready, the response, with an inherited priority.
+TIMES = {
+    "inheritance": {
+        1: (None, None, {"from": 25, "time": 1}, 0, {"from": 26, "time": 15}),
+        3: ({"from": 26, "time": 15}, {"for": "mutex", "id": 2}, None, 0, None),
+    },
+    "server": {
+        1: ({"from": 1022, "time": 978}, {"for": "console", "id": None}, None, 0, None),
+        4: ({"from": 152, "time": 867}, {"for": "message", "id": 2}, {"from": 78, "time": 20}, 0, None),
+        5: (None, None, {"from": 85, "time": 42}, 0, None),
+    },
+}
+TIMES_OF_TASK = ("longest_wait", "waited_for", "longest_ready", "longest_response", "longest_inherited")
 # The kinds of lines that are counted, and how a line reads.
 COUNTED = {
     "ticks": re.compile(rb"tick \d+$"),
@@ -212,21 +229,63 @@ def figures(session, windtrace, summary):
                 yield f"{name} of {task['name']} is {task[name]}, and {number} by the events"
 
 
+def longest(spans):
+    """The longest of some spans of a task, if there is one; those that follow one another without a gap are one."""
+    joined = []
+    for since, until in sorted(spans):
+        if joined and joined[-1][1] == since:
+            joined[-1][1] = until
+        else:
+            joined.append([since, until])
+    best = max(joined, key=lambda it: it[1] - it[0], default=None)
+    return best and {"from": best[0], "time": best[1] - best[0]}
+
+
+def longest_times(session, windtrace, summary):
+    """The longest times of a session's tasks that aren't those of its timeline. A timeline that shows an interrupt routine may
+    show another time ready, and areas with shares of several looks don't tell any."""
+    svg = run(windtrace, session, "--as", "timeline")[1]
+    found = [(it[0], it[1], int(it[2]), int(it[3])) for it in RECTANGLE.findall(svg)]
+    kinds = {b"waiting": "longest_wait", b"inherits": "longest_inherited"}
+    if not any(title == b"interrupt routine" for _, title, _, _ in found):
+        kinds[b"ready"] = "longest_ready"
+    for task in summary["tasks"]:
+        mine = [it for it in found if it[1].startswith(b"%d " % task["id"])]
+        if any(title.endswith(b" %") for _, title, _, _ in mine):
+            continue
+        for kind, name in kinds.items():
+            best = longest(it[2:] for it in mine if it[0] == kind)
+            if task[name] != best:
+                yield f"{name} of {task['name']} is {task[name]}, and {best} by the timeline"
+
+
 def summaries(session, windtrace):
     """What is wrong with the summaries of a session."""
     summary = json.loads(run(windtrace, session, "--as", "summary-json")[1])
     yield from figures(session, windtrace, summary)
+    yield from longest_times(session, windtrace, summary)
+    if session.name in TIMES:
+        times = {task["id"]: tuple(task[name] for name in TIMES_OF_TASK) for task in summary["tasks"]}
+        if times != TIMES[session.name]:
+            yield "the longest times are others than by hand"
     if session.name in FIGURES:
         of_run, of_tasks = FIGURES[session.name]
         tasks = {task["id"]: (task["name"], *(task[name] for name in FIGURES_OF_TASK)) for task in summary["tasks"]}
         if any(summary[name] != number for name, number in of_run.items()) or tasks != of_tasks:
             yield "the summary is another one than by hand"
     table = run(windtrace, session, "--as", "summary")[1].split(b"\n")
-    rows = [row.split(None, len(FIGURES_OF_TASK)) for row in table[2:-1]]
+    rows = [row.split(None, len(FIGURES_OF_TASK)) for row in table[2:2 + len(summary["tasks"])]]
     wanted = [[*((f"{task[name] // 10}.{task[name] % 10}%" if name == "share" else str(task[name])).encode()
                  for name in FIGURES_OF_TASK), f"{task['id']} {task['name']}".encode()] for task in summary["tasks"]]
     if rows != wanted:
         yield "the table has other rows than the summary"
+    rows = [row.split(None, 4)[:4] for row in table[3 + len(summary["tasks"]):-1]]
+    wanted = [[str(task[name]["time"] if task[name] else 0).encode() for name in ("longest_wait", "longest_ready")]
+              + [str(task["longest_response"]).encode()]
+              + [str(task["longest_inherited"]["time"] if task["longest_inherited"] else 0).encode()]
+              for task in summary["tasks"]]
+    if rows != wanted:
+        yield "the table has other times than the summary"
     head = ", ".join(f"{name} {summary[name]}" for name in ("time", "steps", "ticks", "calls", "idle"))
     if table[0] != head.encode():
         yield f"the table begins with {table[0]}"

@@ -10,6 +10,7 @@ pub mod Seeing
 pub mod Selecting
 pub mod SilentLines
 pub mod Telling
+pub mod Watched
 mod CommandLemmas
 mod LeftLemmas
 mod ProgramLemmas

@@ -9,6 +9,7 @@ use Rattle.trace_picture.specs.Areas.{areas_of}
 use Rattle.trace_session.specs.Choice.{chosen_lines, everything}
 use Rattle.trace_session.specs.Shown.{shown_areas}
 use Rattle.trace_session.specs.Spans.{part_of, spans_of}
+use Rattle.trace_session.specs.Watching.{span_lists_of}
 use Rattle.trace_text.specs.Pages.{count_of, is_instructions}
 
 -- how many instructions these lines tell of
@@ -52,3 +53,7 @@ pub record LinesLaw : Type 0 where
 pub record EverythingLaw : Type 0 where
   pub lines : (said : Answers) (s : State) (k : ℕ) → chosen_lines everything said s k ≡ lines_of said s k
   pub areas : (said : Answers) (s : State) (k : ℕ) → shown_areas everything (part_of everything said s k).done ≡ areas_of (spans_of said s k).done
+
+-- the spans of a run's summary are those of a picture of the whole run
+abbrev pub SummarySpansLaw : Type 0
+SummarySpansLaw = (said : Answers) (s : State) (k : ℕ) → (span_lists_of said s k).all ≡ (spans_of said s k).done

@@ -1,7 +1,7 @@
 //! Laws of the lines of a run, each as the clause of a function.
 
 ghost use Rattle.trace_session.specs.Bursts.{SilentLinesLaw};
-ghost use Rattle.trace_session.specs.Laws.{EverythingLaw, LinesLaw};
+ghost use Rattle.trace_session.specs.Laws.{EverythingLaw, LinesLaw, SummarySpansLaw};
 
 use trace_text::joining_law;
 use wind_machine::silent_law;
@@ -23,4 +23,9 @@ pub fn lines_law()
 /// If everything is chosen, the lines are those of the run, and a picture shows all its areas.
 pub fn everything_law()
     ensures { EverythingLaw }
+{}
+
+/// The spans of a run's summary are those of a picture of the whole run.
+pub fn summary_spans_law()
+    ensures { SummarySpansLaw }
 {}

@@ -1,20 +1,34 @@
 -- How deep a summary nests.
-use Rattle.std.proofs.Common.{◌≡◌, ℕ, ◌≤◌, sym, subst, arith}
+use Rattle.std.proofs.Common.{◌≡◌, ℕ, ◌≤◌, Option, None, Some, sym, subst, arith}
 use Rattle.serde_json.specs.Data.{Data, depth}
 use Rattle.serde_json.specs.Read.{max_depth}
-use Rattle.trace_state.proofs.Shallow.{list_within, member_within, object_within}
-use Rattle.trace_summary.specs.Data.{summary_data, task_data}
+use Rattle.board_changes.specs.declared.awaited.Awaited.{Awaited}
+use Rattle.trace_state.proofs.Shallow.{list_within, maybe_within, member_within, object_within}
+use Rattle.trace_state.specs.Tasks.{awaited_id, wait_data}
+use Rattle.trace_summary.specs.Data.{object_in, stretch_data, summary_data, task_data}
 use Rattle.trace_summary.specs.Summaries.{SummaryState}
 use Rattle.trace_summary.specs.declared.summary.TaskSummary.{TaskSummary}
+use Rattle.trace_summary.specs.declared.stretch.Stretch.{Stretch}
 
-task_within : (all : ℕ) (t : TaskSummary) → depth (task_data all t) ≤ 1
+-- ---- the longest times
+-- what it waited for
+wait_within : (o : Option Awaited) → depth (wait_data o) ≤ 1
+wait_within None = omega arith
+wait_within (Some object) = object_within _ 0 (member_within _ _ _ _ (maybe_within 0 (awaited_id object)) (member_within _ _ _ _ (omega arith) (omega arith)))
+
+stretch_within : (o : Option Stretch) → depth (stretch_data o) ≤ 1
+stretch_within None = omega arith
+stretch_within (Some s) = object_within _ 0 (member_within _ _ _ _ (omega arith) (member_within _ _ _ _ (omega arith) (omega arith)))
+
+-- ---- tasks
+task_within : (all : ℕ) (t : TaskSummary) → depth (task_data all t) ≤ 2
 task_within all t =
-    object_within _ 0 (member_within _ _ _ _ (omega arith) (member_within _ _ _ _ (omega arith) (member_within _ _ _ _ (omega arith) (member_within _ _ _ _ (omega arith) (member_within _ _ _ _ (omega arith) (member_within _ _ _ _ (omega arith) (member_within _ _ _ _ (omega arith) (member_within _ _ _ _ (omega arith) (omega arith)))))))))
+    object_within _ 1 (member_within _ _ _ _ (stretch_within t.times.inherited) (member_within _ _ _ _ (omega arith) (member_within _ _ _ _ (stretch_within t.times.ready) (member_within _ _ _ _ (wait_within (object_in t.times.wait)) (member_within _ _ _ _ (stretch_within t.times.wait) (member_within _ _ _ _ (omega arith) (member_within _ _ _ _ (omega arith) (member_within _ _ _ _ (omega arith) (member_within _ _ _ _ (omega arith) (member_within _ _ _ _ (omega arith) (member_within _ _ _ _ (omega arith) (member_within _ _ _ _ (omega arith) (member_within _ _ _ _ (omega arith) (omega arith))))))))))))))
 
--- three levels deep
-summary_within : (s : SummaryState) → depth (summary_data s) ≤ 3
+-- four levels deep
+summary_within : (s : SummaryState) → depth (summary_data s) ≤ 4
 summary_within s =
-    object_within _ 2 (member_within _ _ _ _ (list_within 1 (task_data s.steps) s.tasks (task_within s.steps)) (member_within _ _ _ _ (omega arith) (member_within _ _ _ _ (omega arith) (member_within _ _ _ _ (omega arith) (member_within _ _ _ _ (omega arith) (member_within _ _ _ _ (omega arith) (omega arith)))))))
+    object_within _ 3 (member_within _ _ _ _ (list_within 2 (task_data s.steps) s.tasks (task_within s.steps)) (member_within _ _ _ _ (omega arith) (member_within _ _ _ _ (omega arith) (member_within _ _ _ _ (omega arith) (member_within _ _ _ _ (omega arith) (member_within _ _ _ _ (omega arith) (omega arith)))))))
 
 -- so it can be read back
 pub is_shallow : (d : Data) (s : SummaryState) → d ≡ summary_data s → depth d ≤ max_depth

@@ -11,9 +11,9 @@ use Rattle.board_trace.specs.declared.who.Subject.{Subject}
 use Rattle.board_trace.specs.declared.who.Subject.TheVariants as subjects
 use Rattle.trace_summary.specs.Adding.{added, counts_in, none, noted, plus, sum_of, with_counts, with_task}
 use Rattle.trace_summary.specs.Figures.{calls_in, counts_of, exceptions_in, is_task, part_of, refusals_in, steps_in, sum_over, switches_in, total}
-use Rattle.trace_summary.specs.Summaries.{Known, TallyState, summary_of_task, tally_of, tasks_in, with_known, with_subject}
+use Rattle.trace_summary.specs.Summaries.{Known, TallyState, tally_of_task, tally_of, tasks_in, with_known, with_subject}
 use Rattle.trace_summary.specs.declared.counts.TaskCounts.{TaskCounts}
-use Rattle.trace_summary.specs.declared.summary.TaskSummary.{TaskSummary}
+use Rattle.trace_summary.specs.declared.tally.TaskTally.{TaskTally}
 use Rattle.trace_summary.proofs.Sums.{calls_add, calls_line, exceptions_add, idle_line, none_more, part_line, refusals_add, steps_add, switches_add, ticks_line}
 use Rattle.trace_summary.proofs.Tasks.{is_among, tasks_line, untold}
 use Rattle.trace_summary.proofs.Joining.{AddsUp}
@@ -26,10 +26,10 @@ same_counts : (a b c d e v w x y z : ℕ) → a ≡ v → b ≡ w → c ≡ x �
 same_counts a b c d e v w x y z p q r s t =
     ap (λ n. counts n b c d e) p ∙ ap (λ n. counts v n c d e) q ∙ ap (λ n. counts v w n d e) r ∙ ap (λ n. counts v w x n e) s ∙ ap (λ n. counts v w x y n) t
 
-abbrev tally : ℕ → ℕ → ℕ → List TaskSummary → TallyState
+abbrev tally : ℕ → ℕ → ℕ → List TaskTally → TallyState
 tally a b c ts = record { ticks = a; calls = b; idle = c; tasks = ts }
 
-same_tally : (a b c x y z : ℕ) (ts us : List TaskSummary) → a ≡ x → b ≡ y → c ≡ z → ts ≡ us → tally a b c ts ≡ tally x y z us
+same_tally : (a b c x y z : ℕ) (ts us : List TaskTally) → a ≡ x → b ≡ y → c ≡ z → ts ≡ us → tally a b c ts ≡ tally x y z us
 same_tally a b c x y z ts us p q r s = ap (λ n. tally n b c ts) p ∙ ap (λ n. tally x n c ts) q ∙ ap (λ n. tally x y n ts) r ∙ ap (tally x y z) s
 
 -- ---- a task
@@ -53,24 +53,24 @@ module _ (lines : List Line) (l : Line) where
   counts_same id is =
       same_counts _ _ _ _ _ _ _ _ _ _ (same_of id steps_in steps_add is) (same_of id switches_in switches_add is) (same_of id calls_in calls_add is) (same_of id refusals_in refusals_add is) (same_of id exceptions_in exceptions_add is)
 
-  abbrev row_with : Known → TaskCounts → TaskSummary
+  abbrev row_with : Known → TaskCounts → TaskTally
   row_with t c = record { id = t.id; name = t.name; counts = c }
 
-  task_line : (b : Bool) (t : Known) → is_task t.id (subject_of l.what) ≡ b → (if b then row_with t (plus (counts_of lines t.id) (counts_in l.what)) else summary_of_task lines t) ≡ summary_of_task later t
+  task_line : (b : Bool) (t : Known) → is_task t.id (subject_of l.what) ≡ b → (if b then row_with t (plus (counts_of lines t.id) (counts_in l.what)) else tally_of_task lines t) ≡ tally_of_task later t
   task_line true t is = ap (row_with t) (counts_more t.id is)
   task_line false t is = ap (row_with t) (counts_same t.id is)
 
   -- ---- tasks
-  rows_told : (id : ℕ) → subject_of l.what ≡ subjects.Task id → (ts : List Known) → map (added id (counts_in l.what)) (map (summary_of_task lines) ts) ≡ map (summary_of_task later) ts
+  rows_told : (id : ℕ) → subject_of l.what ≡ subjects.Task id → (ts : List Known) → map (added id (counts_in l.what)) (map (tally_of_task lines) ts) ≡ map (tally_of_task later) ts
   rows_told id is [] = refl
   rows_told id is (t ∷ ts) = ap₂ (λ r rs. r ∷ rs) (task_line (id == t.id) t (ap (is_task t.id) is)) (rows_told id is ts)
 
-  rows_same : ((id : ℕ) → is_task id (subject_of l.what) ≡ false) → (ts : List Known) → map (summary_of_task lines) ts ≡ map (summary_of_task later) ts
+  rows_same : ((id : ℕ) → is_task id (subject_of l.what) ≡ false) → (ts : List Known) → map (tally_of_task lines) ts ≡ map (tally_of_task later) ts
   rows_same is [] = refl
   rows_same is (t ∷ ts) = ap₂ (λ r rs. r ∷ rs) (task_line false t (is t.id)) (rows_same is ts)
 
 -- a task's row is there as the task is
-row_among : (lines : List Line) (id : ℕ) (ts : List Known) → list_any (λ t. t.id == id) (map (summary_of_task lines) ts) ≡ is_among id ts
+pub row_among : (lines : List Line) (id : ℕ) (ts : List Known) → list_any (λ t. t.id == id) (map (tally_of_task lines) ts) ≡ is_among id ts
 row_among lines id [] = refl
 row_among lines id (t ∷ ts) = ap (λ b. (t.id == id) || b) (row_among lines id ts)
 
@@ -84,21 +84,21 @@ module _ (views : List TaskView) (lines : List Line) where
   none_counted : (id : ℕ) → is_among id known ≡ false → none ≡ counts_of lines id
   none_counted id e = same_counts _ _ _ _ _ _ _ _ _ _ (none_of id steps_in e) (none_of id switches_in e) (none_of id calls_in e) (none_of id refusals_in e) (none_of id exceptions_in e)
 
-  abbrev rows : List TaskSummary
-  rows = map (summary_of_task lines) known
+  abbrev rows : List TaskTally
+  rows = map (tally_of_task lines) known
 
   row_by : (b : Bool) (id : ℕ) (name : List ℕ) → is_among id known ≡ b
-      → (if b then rows else rows ++ record { id = id; name = name; counts = none } ∷ []) ≡ map (summary_of_task lines) (if b then known else known ++ record { id = id; name = name } ∷ [])
+      → (if b then rows else rows ++ record { id = id; name = name; counts = none } ∷ []) ≡ map (tally_of_task lines) (if b then known else known ++ record { id = id; name = name } ∷ [])
   row_by true id name is = refl
   row_by false id name is =
-      let new : TaskCounts → TaskSummary = λ c. record { id = id; name = name; counts = c } in
-      ap (λ c. rows ++ new c ∷ []) (none_counted id is) ∙ sym (map-append (summary_of_task lines) known (record { id = id; name = name } ∷ []))
+      let new : TaskCounts → TaskTally = λ c. record { id = id; name = name; counts = c } in
+      ap (λ c. rows ++ new c ∷ []) (none_counted id is) ∙ sym (map-append (tally_of_task lines) known (record { id = id; name = name } ∷ []))
 
-  row_more : (id : ℕ) (name : List ℕ) → with_task id name rows ≡ map (summary_of_task lines) (with_known id name known)
+  row_more : (id : ℕ) (name : List ℕ) → with_task id name rows ≡ map (tally_of_task lines) (with_known id name known)
   row_more id name =
       ap (λ b. if b then rows else rows ++ record { id = id; name = name; counts = none } ∷ []) (row_among lines id known) ∙ row_by (is_among id known) id name refl
 
-  rows_noted : (l : Line) (who : Subject) → subject_of l.what ≡ who → with_counts who l.name (counts_in l.what) rows ≡ map (summary_of_task (with_line l lines)) (with_subject who l.name known)
+  rows_noted : (l : Line) (who : Subject) → subject_of l.what ≡ who → with_counts who l.name (counts_in l.what) rows ≡ map (tally_of_task (with_line l lines)) (with_subject who l.name known)
   rows_noted l (subjects.Task id) is = ap (map (added id (counts_in l.what))) (row_more id l.name) ∙ rows_told lines l id is (with_known id l.name known)
   rows_noted l subjects.Board is = rows_same lines l (λ id. ap (is_task id) is) known
   rows_noted l subjects.Interrupt is = rows_same lines l (λ id. ap (is_task id) is) known
@@ -107,4 +107,4 @@ module _ (views : List TaskView) (lines : List Line) where
 pub noted_line : (views : List TaskView) (lines : List Line) (l : Line) → noted l.time l.name l.what (tally_of views lines) ≡ tally_of views (with_line l lines)
 noted_line views lines l =
     same_tally _ _ _ _ _ _ _ _ (sym (ticks_line l lines)) (sym (calls_line l lines)) (sym (idle_line l lines))
-    (rows_noted views lines l (subject_of l.what) refl ∙ ap (map (summary_of_task (with_line l lines))) (sym (tasks_line views l lines)))
+    (rows_noted views lines l (subject_of l.what) refl ∙ ap (map (tally_of_task (with_line l lines))) (sym (tasks_line views l lines)))

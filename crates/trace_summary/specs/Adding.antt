@@ -1,5 +1,5 @@
 -- What one line adds to the figures of a run.
-use Rattle.std.specs.Prelude.{ℕ, ◌+◌, ◌-◌, ◌^◌, ◌==◌, min, if◌then◌else◌, List, [], ◌∷◌, ◌++◌, map}
+use Rattle.std.specs.Prelude.{ℕ, ◌+◌, ◌-◌, ◌^◌, ◌==◌, ◌&&◌, min, not, Bool, true, if◌then◌else◌, List, [], ◌∷◌, ◌++◌, map}
 use Rattle.std.specs.List.{list_any}
 use Rattle.board_changes.specs.declared.view.TaskView.{TaskView}
 use Rattle.board_trace.specs.Subjects.{subject_of}
@@ -8,8 +8,10 @@ use Rattle.board_trace.specs.declared.who.Subject.{Subject}
 use Rattle.board_trace.specs.declared.who.Subject.TheVariants as subjects
 use Rattle.trace_summary.specs.Figures.{calls_in, exceptions_in, idle_in, refusals_in, steps_in, switches_in, ticks_in}
 use Rattle.trace_summary.specs.Summaries.{TallyState}
+use Rattle.trace_summary.specs.Times.{SpanLists, times_of}
 use Rattle.trace_summary.specs.declared.counts.TaskCounts.{TaskCounts}
 use Rattle.trace_summary.specs.declared.summary.TaskSummary.{TaskSummary}
+use Rattle.trace_summary.specs.declared.tally.TaskTally.{TaskTally}
 
 -- ---- the figures of a task
 -- nothing was counted
@@ -34,23 +36,36 @@ plus c more = record {
 }
 
 -- ---- tasks
--- a task that lives when the run begins
-abbrev pub opening_task : TaskView → TaskSummary
-opening_task v = record { id = v.id; name = v.name; counts = none }
-
 -- adds a task, unless it is among these
-abbrev pub with_task : ℕ → List ℕ → List TaskSummary → List TaskSummary
+abbrev pub with_task : ℕ → List ℕ → List TaskTally → List TaskTally
 with_task id name ts = if list_any (λ t. t.id == id) ts then ts else ts ++ record { id = id; name = name; counts = none } ∷ []
 
+-- no two tasks have the same id
+abbrev pub are_distinct : List TaskTally → Bool
+are_distinct [] = true
+are_distinct (t ∷ ts) = not (list_any (λ other. other.id == t.id) ts) && are_distinct ts
+
+abbrev pub tally_id : TaskTally → ℕ
+tally_id t = t.id
+
+-- adds the tasks that live when the run begins
+abbrev pub with_opening : List TaskView → List TaskTally → List TaskTally
+with_opening [] ts = ts
+with_opening (v ∷ vs) ts = with_opening vs (with_task v.id v.name ts)
+
 -- adds these numbers if it is the task with this id
-abbrev pub added : ℕ → TaskCounts → TaskSummary → TaskSummary
+abbrev pub added : ℕ → TaskCounts → TaskTally → TaskTally
 added id more t = if id == t.id then record t { counts = plus t.counts more } else t
 
 -- adds them to those of the task that a line tells of
-abbrev pub with_counts : Subject → List ℕ → TaskCounts → List TaskSummary → List TaskSummary
+abbrev pub with_counts : Subject → List ℕ → TaskCounts → List TaskTally → List TaskTally
 with_counts (subjects.Task id) name more ts = map (added id more) (with_task id name ts)
 with_counts subjects.Board name more ts = ts
 with_counts subjects.Interrupt name more ts = ts
+
+-- a task with its longest times
+abbrev pub timed : SpanLists → TaskTally → TaskSummary
+timed spans t = record { id = t.id; name = t.name; counts = t.counts; times = times_of spans t.id }
 
 -- ---- a line
 -- the figures after a line that tells of what happens in a step that begins at this time, with the name of its task

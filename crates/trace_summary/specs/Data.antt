@@ -1,12 +1,17 @@
 -- The summary of a run as JSON.
-use Rattle.std.specs.Prelude.{ℕ, List, [], ◌∷◌, ◌++◌, codes}
-use Rattle.serde_json.specs.Data.{Data}
+use Rattle.std.specs.Prelude.{ℕ, List, [], ◌∷◌, ◌++◌, Option, None, Some, codes}
+use Rattle.serde_json.specs.Data.{Data, null}
+use Rattle.board_changes.specs.declared.awaited.Awaited.{Awaited}
 use Rattle.trace_state.specs.Board.{time_shown}
 use Rattle.trace_state.specs.Json.{list_of, number_of, object_of, text_of}
+use Rattle.trace_state.specs.Tasks.{wait_data}
 use Rattle.trace_summary.specs.Figures.{share}
+use Rattle.trace_summary.specs.Stretches.{length_of}
 use Rattle.trace_summary.specs.Summaries.{SummaryState}
 use Rattle.trace_summary.specs.declared.counts.TaskCounts.{TaskCounts}
 use Rattle.trace_summary.specs.declared.summary.TaskSummary.{TaskSummary}
+use Rattle.trace_summary.specs.declared.stretch.Stretch.{Stretch}
+use Rattle.trace_summary.specs.declared.times.TaskTimes.{TaskTimes}
 
 -- the steps of a task, of all steps, and its share in them
 abbrev pub step_members : ℕ → TaskCounts → List (List ℕ × Data)
@@ -17,10 +22,39 @@ abbrev pub call_members : TaskCounts → List (List ℕ × Data)
 call_members c =
     (codes "calls", number_of c.calls) ∷ (codes "refusals", number_of c.refusals) ∷ (codes "exceptions", number_of c.exceptions) ∷ []
 
+-- a stretch of time: when it begins and how long it is; null if there is none
+abbrev pub stretch_data : Option Stretch → Data
+stretch_data None = null
+stretch_data (Some s) = object_of ((codes "from", number_of (time_shown s.from)) ∷ (codes "time", number_of (time_shown (length_of s))) ∷ [])
+
+-- what the task waits for in it
+abbrev pub object_in : Option Stretch → Option Awaited
+object_in None = None
+object_in (Some s) = s.object
+
+-- its longest wait
+abbrev pub wait_members : Option Stretch → List (List ℕ × Data)
+wait_members wait = (codes "longest_wait", stretch_data wait) ∷ (codes "waited_for", wait_data (object_in wait)) ∷ []
+
+-- its other longest times
+abbrev pub time_members : TaskTimes → List (List ℕ × Data)
+time_members t =
+    (codes "longest_ready", stretch_data t.ready)
+    ∷ (codes "longest_response", number_of (time_shown t.response))
+    ∷ (codes "longest_inherited", stretch_data t.inherited)
+    ∷ []
+
+-- what was counted of it, and its longest times
+abbrev pub count_members : ℕ → TaskCounts → List (List ℕ × Data)
+count_members all c = step_members all c ++ call_members c
+
+abbrev pub longest_members : TaskTimes → List (List ℕ × Data)
+longest_members t = wait_members t.wait ++ time_members t
+
 -- a task, of all steps
 abbrev pub task_data : ℕ → TaskSummary → Data
 task_data all t =
-    object_of (((codes "id", number_of t.id) ∷ (codes "name", text_of t.name) ∷ []) ++ (step_members all t.counts ++ call_members t.counts))
+    object_of (((codes "id", number_of t.id) ∷ (codes "name", text_of t.name) ∷ []) ++ (count_members all t.counts ++ longest_members t.times))
 
 -- the run
 abbrev pub run_members : SummaryState → List (List ℕ × Data)

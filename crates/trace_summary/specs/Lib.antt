@@ -1,4 +1,8 @@
 pub mod Figures
+pub mod Stretches
+pub mod Times
+pub mod Progress
+pub mod LongestLaws
 pub mod Summaries
 pub mod Adding
 pub mod Data

@@ -1,18 +1,22 @@
 //! The figures of a run as JSON.
 
-ghost use Rattle.std.specs.Prelude.{◌≡◌, IfOk, OnOk};
+ghost use Rattle.std.specs.Prelude.{◌≡◌, IfOk, OnOk, codes};
 ghost use Rattle.serde_json.specs.View.{view};
 ghost use Rattle.trace_state.specs.Board.{IsTextOf};
 ghost use Rattle.trace_state.specs.Held.{members_in};
-ghost use Rattle.trace_state.specs.Json.{list_of, with_all};
-ghost use Rattle.trace_summary.specs.Data.{call_members, run_members, step_members, summary_data, task_data};
+ghost use Rattle.trace_state.specs.Json.{list_of, with_all, with_member};
+ghost use Rattle.trace_summary.specs.Data.{call_members, count_members, longest_members, object_in as object_in_lem, run_members, step_members, stretch_data, summary_data, task_data, time_members, wait_members};
+ghost use Rattle.trace_state.specs.Tasks.{wait_data};
 ghost use Rattle.trace_summary.specs.Summaries.{summary_state};
 
 use crate::counts::TaskCounts;
+use crate::stretch::Stretch;
 use crate::summary::{Summary, TaskSummary, share};
+use crate::times::TaskTimes;
+use board_changes::Awaited;
 use serde_json::Value;
 use std::alloc::{AllocError, Global};
-use trace_state::{Items, Members, time_shown};
+use trace_state::{Items, Members, time_shown, wait_value};
 
 // Adds the steps of a task, and its share in all steps.
 fn add_steps(members: &mut Members, all: u64, counts: &TaskCounts) -> Result<(), AllocError>
@@ -32,6 +36,90 @@ fn add_calls(members: &mut Members, counts: &TaskCounts) -> Result<(), AllocErro
     members.put_number("exceptions", counts.exceptions)
 }
 
+// A stretch of time, or null.
+fn stretch_value(alloc: Global, stretch: &Option<Stretch>) -> Result<Value, AllocError>
+    ensures { IfOk result (λ v. view v ≡ stretch_data stretch.now) }
+{
+    let Some(stretch) = stretch else {
+        return Ok(Value::Null);
+    };
+    let mut members = Members::new(alloc);
+    members.put_number("from", time_shown(stretch.from))?;
+    members.put_number("time", time_shown(stretch.length()))?;
+    Ok(members.finish())
+}
+
+// What a task waits for in a stretch.
+fn object_in(stretch: &Option<Stretch>) -> Option<Awaited>
+    ensures { result ≡ object_in_lem stretch.now }
+{
+    match stretch {
+        Some(stretch) => stretch.object,
+        None => None,
+    }
+}
+
+// Puts a stretch of time at a key.
+fn put_stretch(
+    members: &mut Members,
+    alloc: Global,
+    key: &str,
+    stretch: &Option<Stretch>,
+) -> Result<(), AllocError>
+    ensures { OnOk result (members_in members.new
+        ≡ with_member key.now (stretch_data stretch.now) (members_in members.old)) }
+{
+    let value = stretch_value(alloc, stretch)?;
+    members.put(key, value)
+}
+
+// Puts what a task waits for in a stretch.
+fn put_object(
+    members: &mut Members,
+    alloc: Global,
+    wait: &Option<Stretch>,
+) -> Result<(), AllocError>
+    ensures { OnOk result (members_in members.new
+        ≡ with_member (codes "waited_for") (wait_data (object_in_lem wait.now)) (members_in members.old)) }
+{
+    let object = object_in(wait);
+    let value = wait_value(alloc, &object)?;
+    members.put("waited_for", value)
+}
+
+// Adds the longest wait of a task.
+fn add_wait(members: &mut Members, alloc: Global, wait: &Option<Stretch>) -> Result<(), AllocError>
+    ensures { OnOk result (members_in members.new ≡ with_all (wait_members wait.now) (members_in members.old)) }
+{
+    put_stretch(members, alloc, "longest_wait", wait)?;
+    put_object(members, alloc, wait)
+}
+
+// Adds the other longest times of a task.
+fn add_times(members: &mut Members, alloc: Global, times: &TaskTimes) -> Result<(), AllocError>
+    ensures { OnOk result (members_in members.new ≡ with_all (time_members times.now) (members_in members.old)) }
+{
+    put_stretch(members, alloc, "longest_ready", &times.ready)?;
+    members.put_number("longest_response", time_shown(times.response))?;
+    put_stretch(members, alloc, "longest_inherited", &times.inherited)
+}
+
+// Adds what was counted of a task.
+fn add_counts(members: &mut Members, all: u64, counts: &TaskCounts) -> Result<(), AllocError>
+    ensures { OnOk result (members_in members.new ≡ with_all (count_members all counts.now) (members_in members.old)) }
+{
+    add_steps(members, all, counts)?;
+    add_calls(members, counts)
+}
+
+// Adds the longest times of a task.
+fn add_longest(members: &mut Members, alloc: Global, times: &TaskTimes) -> Result<(), AllocError>
+    ensures { OnOk result (members_in members.new ≡ with_all (longest_members times.now) (members_in members.old)) }
+{
+    add_wait(members, alloc, &times.wait)?;
+    add_times(members, alloc, times)
+}
+
 // A task.
 fn task_value(alloc: Global, all: u64, task: &TaskSummary) -> Result<Value, AllocError>
     ensures { IfOk result (λ v. view v ≡ task_data all task.now) }
@@ -39,8 +127,8 @@ fn task_value(alloc: Global, all: u64, task: &TaskSummary) -> Result<Value, Allo
     let mut members = Members::new(alloc);
     members.put_number("id", u64::from(task.id))?;
     members.put_text("name", task.name.bytes())?;
-    add_steps(&mut members, all, &task.counts)?;
-    add_calls(&mut members, &task.counts)?;
+    add_counts(&mut members, all, &task.counts)?;
+    add_longest(&mut members, alloc, &task.times)?;
     Ok(members.finish())
 }
 

@@ -1,15 +1,14 @@
-//! Lists of tasks.
+//! Lists.
 
 ghost use Rattle.std.specs.Prelude.{◌≡◌, ◌++◌, ◌∷◌, [], OnOk};
 
-use crate::summary::TaskSummary;
 use wind_base::NoMemory;
 
-/// Adds a task at the end.
-pub(crate) fn push(tasks: &mut Vec<TaskSummary>, task: TaskSummary) -> Result<(), NoMemory>
-    ensures { OnOk result (tasks.new.items ≡ tasks.old.items ++ task ∷ []) }
+/// Adds an item at the end.
+pub(crate) fn push<T: Drop>(list: &mut Vec<T>, item: T) -> Result<(), NoMemory>
+    ensures { OnOk result (list.new.items ≡ list.old.items ++ item ∷ []) }
 {
-    if tasks.push(task).is_err() {
+    if list.push(item).is_err() {
         return Err(NoMemory);
     }
     Ok(())

@@ -4,9 +4,10 @@ ghost use Rattle.std.specs.Prelude.{◌≡◌};
 ghost use Rattle.trace_summary.specs.Figures.{share as share_lem};
 
 use crate::counts::TaskCounts;
+use crate::times::TaskTimes;
 use wind_base::ShortName;
 
-/// A task of a run, and what was counted of it.
+/// A task of a run, with its figures.
 #[derive(Drop)]
 pub struct TaskSummary {
     /// The task's id.
@@ -15,6 +16,8 @@ pub struct TaskSummary {
     pub name: ShortName,
     /// What was counted of it.
     pub counts: TaskCounts,
+    /// Its longest times.
+    pub times: TaskTimes,
 }
 
 /// The figures of a run.

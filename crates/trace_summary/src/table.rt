@@ -1,14 +1,15 @@
-//! The figures of a run as a table.
+//! The figures of a run as tables.
 
+use crate::stretch::Stretch;
 use crate::summary::{Summary, TaskSummary, share};
 use std::alloc::Global;
-use trace_text::{add, add_decimal, add_escaped, add_wide};
+use trace_text::{add, add_awaited, add_decimal, add_escaped, add_wide};
 use wind_base::NoMemory;
 
-// The columns of numbers are so wide.
+// The columns are so wide.
 const WIDTH: usize = 12;
 
-// The heads of the columns after the task.
+// The heads of the columns of the first table, after which the task comes.
 const HEADS: [&str; 6] = [
     "steps",
     "share",
@@ -17,6 +18,9 @@ const HEADS: [&str; 6] = [
     "refusals",
     "exceptions",
 ];
+
+// Those of the second table.
+const TIME_HEADS: [&str; 4] = ["wait", "ready", "response", "inherited"];
 
 // Adds spaces, so that what begins at `start` fills its column.
 fn fill(text: &mut Vec<u8>, start: usize) -> Result<(), NoMemory> {
@@ -44,14 +48,59 @@ fn add_share(text: &mut Vec<u8>, tenths: u64) -> Result<(), NoMemory> {
     fill(text, start)
 }
 
-// Adds the heads of the columns.
-fn add_heads(text: &mut Vec<u8>) -> Result<(), NoMemory> {
-    for head in HEADS {
+// Adds the heads of the columns, and that of the tasks.
+fn add_heads(text: &mut Vec<u8>, heads: &[&str]) -> Result<(), NoMemory> {
+    for head in heads {
         let start = text.len();
         add(text, head.as_bytes())?;
         fill(text, start)?;
     }
     add(text, b"task\n")
+}
+
+// Adds a time in its column.
+fn add_time(text: &mut Vec<u8>, time: u128) -> Result<(), NoMemory> {
+    let start = text.len();
+    add_wide(text, time)?;
+    fill(text, start)
+}
+
+// Adds the length of a stretch in its column, or 0.
+fn add_stretch(text: &mut Vec<u8>, stretch: &Option<Stretch>) -> Result<(), NoMemory> {
+    match stretch {
+        Some(stretch) => add_time(text, stretch.length()),
+        None => add_time(text, 0),
+    }
+}
+
+// Adds a task, by its id and name.
+fn add_name(text: &mut Vec<u8>, task: &TaskSummary) -> Result<(), NoMemory> {
+    add_decimal(text, u64::from(task.id))?;
+    add(text, b" ")?;
+    add_escaped(text, task.name.bytes())
+}
+
+// Adds what the task waited for in its longest wait, if it waited.
+fn add_object(text: &mut Vec<u8>, wait: &Option<Stretch>) -> Result<(), NoMemory> {
+    let Some(wait) = wait else {
+        return Ok(());
+    };
+    let Some(object) = wait.object else {
+        return Ok(());
+    };
+    add(text, b", waited for ")?;
+    add_awaited(text, object)
+}
+
+// Adds the row of a task's longest times.
+fn add_times(text: &mut Vec<u8>, task: &TaskSummary) -> Result<(), NoMemory> {
+    add_stretch(text, &task.times.wait)?;
+    add_stretch(text, &task.times.ready)?;
+    add_time(text, task.times.response)?;
+    add_stretch(text, &task.times.inherited)?;
+    add_name(text, task)?;
+    add_object(text, &task.times.wait)?;
+    add(text, b"\n")
 }
 
 // Adds the row of a task; `all` are the steps of the run.
@@ -63,9 +112,7 @@ fn add_task(text: &mut Vec<u8>, all: u64, task: &TaskSummary) -> Result<(), NoMe
     add_number(text, counts.calls)?;
     add_number(text, counts.refusals)?;
     add_number(text, counts.exceptions)?;
-    add_decimal(text, u64::from(task.id))?;
-    add(text, b" ")?;
-    add_escaped(text, task.name.bytes())?;
+    add_name(text, task)?;
     add(text, b"\n")
 }
 
@@ -87,13 +134,29 @@ fn add_run(text: &mut Vec<u8>, summary: &Summary) -> Result<(), NoMemory> {
     add(text, b"\n")
 }
 
-/// The text of the figures as a table, with a row for each task.
+// Adds the table of what was counted of each task.
+fn add_counts(text: &mut Vec<u8>, summary: &Summary) -> Result<(), NoMemory> {
+    add_heads(text, &HEADS)?;
+    for task in &summary.tasks {
+        add_task(text, summary.steps, task)?;
+    }
+    Ok(())
+}
+
+// Adds the table of the longest times of each task.
+fn add_longest(text: &mut Vec<u8>, tasks: &[TaskSummary]) -> Result<(), NoMemory> {
+    add_heads(text, &TIME_HEADS)?;
+    for task in tasks {
+        add_times(text, task)?;
+    }
+    Ok(())
+}
+
+/// The text of the figures as two tables, each with a row for each task.
 pub fn table_text(alloc: Global, summary: &Summary) -> Result<Vec<u8>, NoMemory> {
     let mut text = Vec::new(alloc);
     add_run(&mut text, summary)?;
-    add_heads(&mut text)?;
-    for task in &summary.tasks {
-        add_task(&mut text, summary.steps, task)?;
-    }
+    add_counts(&mut text, summary)?;
+    add_longest(&mut text, &summary.tasks)?;
     Ok(text)
 }

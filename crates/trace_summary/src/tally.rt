@@ -1,21 +1,32 @@
 //! What is counted of a run, line by line.
 
-ghost use Rattle.std.specs.Prelude.{◌≡◌, ◌≤◌, ◌==◌, ℕ, List, [], length, map, IfOk, OnOk};
+ghost use Rattle.std.specs.Prelude.{◌≡◌, ◌≤◌, ◌==◌, ℕ, true, List, [], length, map, IfOk, IfSome, OnOk};
 ghost use Rattle.std.specs.List.{list_any};
+ghost use Rattle.id_table.specs.Records.{StandsAt};
 ghost use Rattle.wind_base.specs.Limits.{longest_short_name};
 ghost use Rattle.board_changes.specs.declared.view.TaskView.{TaskView};
 ghost use Rattle.board_trace.specs.Runs.{Line, with_line};
-ghost use Rattle.trace_summary.specs.Adding.{added, noted, opening_task, with_counts, with_task};
+ghost use Rattle.trace_summary.specs.Adding.{added, are_distinct, noted, tally_id, timed, with_counts, with_task};
+ghost use Rattle.trace_summary.specs.Times.{span_lists};
 ghost use Rattle.trace_summary.specs.Figures.{calls_in as calls_in_lem, idle_in as idle_in_lem, ticks_in as ticks_in_lem};
 ghost use Rattle.trace_summary.specs.Summaries.{summary_of, summary_state, tally_of, tally_state};
 
 use crate::counts::{TaskCounts, counts_in, none};
 use crate::list::push;
 use crate::summary::{Summary, TaskSummary};
+use crate::times::{RunSpans, times_of};
 use board_changes::TaskView;
 use board_trace::{Happening, Subject, subject_of};
 use std::alloc::Global;
 use wind_base::{NoMemory, ShortName};
+
+/// A task of a run, and what was counted of it.
+#[derive(Drop)]
+struct TaskTally {
+    id: u32,
+    name: ShortName,
+    counts: TaskCounts,
+}
 
 /// What was counted of a run so far.
 #[derive(Drop)]
@@ -23,7 +34,7 @@ pub struct Tally {
     ticks: u64,
     calls: u64,
     idle: u64,
-    tasks: Vec<TaskSummary>,
+    tasks: Vec<TaskTally>,
 }
 
 // One for a tick.
@@ -56,26 +67,15 @@ fn idle_in(time: u128, happening: &Happening) -> u64
     }
 }
 
-// A task that lives when the run begins.
-fn opening(view: &TaskView) -> TaskSummary
-    ensures { result ≡ opening_task view.now }
-{
-    TaskSummary {
-        id: view.id.get(),
-        name: view.name.copied(),
-        counts: none(),
-    }
-}
-
 // The task with this id is among these.
-fn has_task(tasks: &[TaskSummary], id: u32) -> bool
+fn has_task(tasks: &[TaskTally], id: u32) -> bool
     ensures { result ≡ list_any (λ t. t.id == id) tasks.now }
 {
     tasks.iter().any(|task| task.id == id)
 }
 
 // Adds a task, unless it is among these.
-fn add_task(tasks: &mut Vec<TaskSummary>, id: u32, name: &[u8]) -> Result<(), NoMemory>
+fn add_task(tasks: &mut Vec<TaskTally>, id: u32, name: &[u8]) -> Result<(), NoMemory>
     requires { length name.now ≤ longest_short_name }
     ensures { OnOk result (tasks.new.items ≡ with_task id name.now tasks.old.items) }
 {
@@ -84,7 +84,7 @@ fn add_task(tasks: &mut Vec<TaskSummary>, id: u32, name: &[u8]) -> Result<(), No
     }
     push(
         tasks,
-        TaskSummary {
+        TaskTally {
             id,
             name: ShortName::cut(name),
             counts: none(),
@@ -92,7 +92,7 @@ fn add_task(tasks: &mut Vec<TaskSummary>, id: u32, name: &[u8]) -> Result<(), No
     )
 }
 
-impl TaskSummary {
+impl TaskTally {
     // Adds these numbers if it is the task with this id.
     fn add(&mut self, id: u32, more: TaskCounts)
         ensures { self.new ≡ added id more self.old }
@@ -104,7 +104,7 @@ impl TaskSummary {
 }
 
 // Adds these numbers to those of the task with this id.
-fn add_counts(tasks: &mut [TaskSummary], id: u32, more: TaskCounts)
+fn add_counts(tasks: &mut [TaskTally], id: u32, more: TaskCounts)
     ensures { tasks.new ≡ map (added id more) tasks.old }
 {
     for task in tasks.iter_mut() {
@@ -112,22 +112,80 @@ fn add_counts(tasks: &mut [TaskSummary], id: u32, more: TaskCounts)
     }
 }
 
+// Where the task with this id stands. Ids are never used again, so they rise, and it is found if it
+// is there; if they didn't, it might not be found.
+fn place_of(tasks: &[TaskTally], id: u32) -> Option<usize>
+    ensures { IfSome result (λ place. StandsAt tally_id tasks.now id place) }
+{
+    let place = tasks.partition_point(|task| task.id < id);
+    if place < tasks.len() && tasks[place].id == id {
+        return Some(place);
+    }
+    None
+}
+
+// Adds to the numbers of the task with this id, and the task before, unless it is among these.
+fn add_to(
+    tasks: &mut Vec<TaskTally>,
+    id: u32,
+    name: &[u8],
+    more: TaskCounts,
+) -> Result<(), NoMemory>
+    requires { length name.now ≤ longest_short_name }
+    ensures { OnOk result (are_distinct tasks.old.items ≡ true
+        → tasks.new.items ≡ map (added id more) (with_task id name.now tasks.old.items)) }
+{
+    if let Some(place) = place_of(tasks, id) {
+        tasks[place].add(id, more);
+        return Ok(());
+    }
+    add_task(tasks, id, name)?;
+    add_counts(tasks, id, more);
+    Ok(())
+}
+
 // Adds to the numbers of the task that a line tells of.
 fn add_told(
-    tasks: &mut Vec<TaskSummary>,
+    tasks: &mut Vec<TaskTally>,
     who: Subject,
     name: &[u8],
     more: TaskCounts,
 ) -> Result<(), NoMemory>
     requires { length name.now ≤ longest_short_name }
-    ensures { OnOk result (tasks.new.items ≡ with_counts who name.now more tasks.old.items) }
+    ensures { OnOk result (are_distinct tasks.old.items ≡ true
+        → tasks.new.items ≡ with_counts who name.now more tasks.old.items) }
 {
-    let Subject::Task(id) = who else {
-        return Ok(());
-    };
-    add_task(tasks, id, name)?;
-    add_counts(tasks, id, more);
-    Ok(())
+    match who {
+        Subject::Task(id) => add_to(tasks, id, name, more),
+        Subject::Board | Subject::Interrupt => Ok(()),
+    }
+}
+
+// A task with its longest times.
+fn with_times(task: &TaskTally, spans: &RunSpans) -> TaskSummary
+    ensures { result ≡ timed (span_lists spans.now) task.now }
+{
+    TaskSummary {
+        id: task.id,
+        name: task.name.copied(),
+        counts: task.counts,
+        times: times_of(spans, task.id),
+    }
+}
+
+// The tasks with their longest times.
+fn summaries(
+    alloc: Global,
+    tasks: &[TaskTally],
+    spans: &RunSpans,
+) -> Result<Vec<TaskSummary>, NoMemory>
+    ensures { IfOk result (λ v. v.items ≡ map (timed (span_lists spans.now)) tasks.now) }
+{
+    let mut list = Vec::new(alloc);
+    for task in tasks {
+        push(&mut list, with_times(task, spans))?;
+    }
+    Ok(list)
 }
 
 impl Tally {
@@ -137,7 +195,7 @@ impl Tally {
     {
         let mut tasks = Vec::new(alloc);
         for view in views {
-            push(&mut tasks, opening(view))?;
+            add_task(&mut tasks, view.id.get(), view.name.bytes())?;
         }
         Ok(Tally {
             ticks: 0,
@@ -150,7 +208,8 @@ impl Tally {
     // Adds what happens in a step that begins at this board time, to the task with this name.
     fn note(&mut self, time: u128, name: &[u8], happening: &Happening) -> Result<(), NoMemory>
         requires { length name.now ≤ longest_short_name }
-        ensures { OnOk result (tally_state self.new ≡ noted time name.now happening.now (tally_state self.old)) }
+        ensures { OnOk result (are_distinct self.old.tasks.items ≡ true
+            → tally_state self.new ≡ noted time name.now happening.now (tally_state self.old)) }
     {
         self.ticks = self.ticks.saturating_add(ticks_in(happening));
         self.calls = self.calls.saturating_add(calls_in(happening));
@@ -179,24 +238,25 @@ impl Tally {
         self.note(time, name, happening)
     }
 
-    /// The figures of a run that ends at this board time after this many steps.
-    pub fn finish(self, time: u128, steps: u64) -> Summary
-        ensures { (views : List TaskView) (lines : List Line) → tally_state self ≡ tally_of views lines
-            → summary_state result ≡ summary_of views lines time steps }
+    /// The figures of a run with these spans that ends at this board time after this many steps.
+    pub fn finish(
+        &self,
+        alloc: Global,
+        spans: &RunSpans,
+        time: u128,
+        steps: u64,
+    ) -> Result<Summary, NoMemory>
+        ensures { IfOk result (λ r. (views : List TaskView) (lines : List Line)
+            → tally_state self.now ≡ tally_of views lines
+            → summary_state r ≡ summary_of views lines (span_lists spans.now) time steps) }
     {
-        let Tally {
-            ticks,
-            calls,
-            idle,
-            tasks,
-        } = self;
-        Summary {
+        Ok(Summary {
             time,
             steps,
-            ticks,
-            calls,
-            idle,
-            tasks,
-        }
+            ticks: self.ticks,
+            calls: self.calls,
+            idle: self.idle,
+            tasks: summaries(alloc, &self.tasks, spans)?,
+        })
     }
 }
