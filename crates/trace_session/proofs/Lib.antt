@@ -5,6 +5,7 @@ pub mod Covering
 pub mod Items
 pub mod LineLaws
 pub mod Lines
+pub mod Living
 pub mod Puts
 pub mod Seeing
 pub mod Selecting

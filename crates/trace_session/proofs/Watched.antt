@@ -1,7 +1,5 @@
 -- The spans of a run under way.
-use Rattle.std.proofs.Common.{◌≡◌, ℕ, zero, suc, ◌+◌, Bool, true, false, if◌then◌else◌, Option, None, Some, refl, sym, ap, ap₂, ◌∙◌, arith, add-one}
-use Rattle.std.specs.Option.{option_map}
-use Rattle.kernel_world.specs.declared.actor.Actor.TheVariants.{Task as by_task, Interrupt}
+use Rattle.std.proofs.Common.{◌≡◌, ℕ, zero, suc, ◌+◌, if◌then◌else◌, refl, sym, ap, ap₂, ◌∙◌, arith, add-one}
 use Rattle.kernel_world.specs.declared.reply.Reply.{Reply}
 use Rattle.wind_machine.specs.Run.{Answers, after}
 use Rattle.wind_machine.specs.Silent.{SilentLaw, SilentSteps}
@@ -45,10 +43,3 @@ module _ (law : SilentLaw) (said : Answers) (s u : State) (i : ℕ) (here : u �
       ∙ ap₂ (λ (a b : State). watched_by (before_step a) old b) (sym (there k v steps.1)) (sym (there (suc k) t steps ∙ ap (after said s) (at_end k)))
       ∙ ap (λ b. if b then old else watched old t) (is_one_instruction v t steps.2)
       ∙ watched_on k v steps.1
-
--- ---- who runs
--- an interrupt routine is active, or none is
-pub active_by : (b : Bool) (old last run : Option ℕ) → (if b then Some Interrupt else option_map by_task last) ≡ Some Interrupt → old ≡ (if b then old else run)
-active_by true old last run is = refl
-active_by false old None run is = absurd (cc)
-active_by false old (Some who) run is = absurd (cc)

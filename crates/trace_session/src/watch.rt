@@ -11,9 +11,9 @@ ghost use Rattle.trace_session.specs.Watching.{no_watch, runner_in as runner_in_
 
 use board_changes::{Spans, TaskView};
 use id_table::Ident;
-use kernel_world::{Actor, World};
+use kernel_world::World;
 use std::alloc::Global;
-use trace_state::{last_actor, running_task};
+use trace_state::running_task;
 use trace_summary::RunSpans;
 use wind_base::NoMemory;
 use wind_outside::Device;
@@ -33,10 +33,10 @@ pub(crate) struct Watch {
 fn runner_in(old: Option<Ident>, world: &World) -> Option<Ident>
     ensures { result ≡ runner_in_lem old (world_seen ⟦<dyn Device as Device>⟧ world.now) }
 {
-    match last_actor(world) {
-        Some(Actor::Interrupt) => old,
-        _ => running_task(world),
+    if world.watch.active() {
+        return old;
     }
+    running_task(world)
 }
 
 impl Watch {

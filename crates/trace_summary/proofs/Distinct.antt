@@ -32,7 +32,7 @@ turned : (m n : ℕ) → (m == n) ≡ false → (n == m) ≡ false
 turned m n e = ne_eqb n m (λ same. eqb-false m n e (sym same))
 
 -- ---- the tasks of a run
-abbrev are_known : List Known → Bool
+abbrev pub are_known : List Known → Bool
 are_known [] = true
 are_known (t ∷ ts) = not (is_among t.id ts) && are_known ts
 
@@ -66,7 +66,7 @@ known_views : (vs : List TaskView) (ts : List Known) → are_known ts ≡ true �
 known_views [] ts e = e
 known_views (v ∷ vs) ts e = known_views vs (with_known v.id v.name ts) (known_with v.id v.name ts e)
 
-known_in : (views : List TaskView) (lines : List Line) → are_known (tasks_in views lines) ≡ true
+pub known_in : (views : List TaskView) (lines : List Line) → are_known (tasks_in views lines) ≡ true
 known_in views [] = known_views views [] refl
 known_in views (l ∷ older) = known_subject (subject_of l.what) l.name (tasks_in views older) (known_in views older)
 

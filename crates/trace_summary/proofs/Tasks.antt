@@ -10,7 +10,8 @@ use Rattle.board_trace.specs.declared.happening.Happening.{Happening}
 use Rattle.board_trace.specs.declared.who.Subject.{Subject}
 use Rattle.board_trace.specs.declared.who.Subject.TheVariants as subjects
 use Rattle.trace_summary.specs.Figures.{is_task, part_of, sum_over}
-use Rattle.trace_summary.specs.Summaries.{Known, tasks_in, with_known, with_subject}
+use Rattle.trace_summary.specs.Summaries.{Known, tasks_in, with_known, with_subject, with_views}
+use Rattle.trace_summary.specs.TasksLaws.{is_told, is_viewed}
 use Rattle.trace_summary.proofs.Joining.{joined_subject}
 
 -- a task with this id is among these
@@ -82,3 +83,78 @@ module _ (views : List TaskView) (l newest : Line) (older : List Line) where
 pub tasks_line : (views : List TaskView) (l : Line) (made : List Line) → tasks_in views (with_line l made) ≡ with_subject (subject_of l.what) l.name (tasks_in views made)
 tasks_line views l [] = refl
 tasks_line views l (newest ∷ older) = tasks_or views l newest older (joined newest.what l.what) (joined_subject newest.what l.what)
+
+-- ---- which tasks there are
+nothing_more : (b : Bool) → b ≡ (b || false)
+nothing_more true = refl
+nothing_more false = refl
+
+or_group : (a b c : Bool) → (a || (b || c)) ≡ ((a || b) || c)
+or_group true b c = refl
+or_group false b c = refl
+
+twice : (a b : Bool) → (a || b) ≡ (a || (a || b))
+twice true b = refl
+twice false b = refl
+
+or_turn : (a b c : Bool) → ((a || b) || c) ≡ (a || (c || b))
+or_turn true b c = refl
+or_turn false true true = refl
+or_turn false true false = refl
+or_turn false false true = refl
+or_turn false false false = refl
+
+among_more : (id : ℕ) (ts : List Known) (k : Known) → is_among id (ts ++ k ∷ []) ≡ (is_among id ts || (k.id == id))
+among_more id [] k = sym (nothing_more (k.id == id))
+among_more id (t ∷ ts) k = ap (λ b. (t.id == id) || b) (among_more id ts k) ∙ or_group (t.id == id) (is_among id ts) (k.id == id)
+
+-- a task that is there already adds none
+same_with : (b : Bool) (id who : ℕ) (ts : List Known) → is_among who ts ≡ true → (who == id) ≡ b → is_among id ts ≡ (is_among id ts || b)
+same_with false id who ts here is = nothing_more (is_among id ts)
+same_with true id who ts here is =
+    let there : is_among id ts ≡ true = ap (λ n. is_among n ts) (sym (eqb-true who id is)) ∙ here in
+    there ∙ sym (or_left (is_among id ts) true there)
+
+among_by : (b : Bool) (id who : ℕ) (name : List ℕ) (ts : List Known) → is_among who ts ≡ b
+    → is_among id (if b then ts else ts ++ record { id = who; name = name } ∷ []) ≡ (is_among id ts || (who == id))
+among_by true id who name ts is = same_with (who == id) id who ts is refl
+among_by false id who name ts is = among_more id ts (record { id = who; name = name })
+
+among_with : (id who : ℕ) (name : List ℕ) (ts : List Known) → is_among id (with_known who name ts) ≡ (is_among id ts || (who == id))
+among_with id who name ts = among_by (is_among who ts) id who name ts refl
+
+among_subject : (id : ℕ) (who : Subject) (name : List ℕ) (ts : List Known) → is_among id (with_subject who name ts) ≡ (is_among id ts || is_task id who)
+among_subject id (subjects.Task w) name ts = among_with id w name ts
+among_subject id subjects.Board name ts = nothing_more (is_among id ts)
+among_subject id subjects.Interrupt name ts = nothing_more (is_among id ts)
+
+among_views : (id : ℕ) (vs : List TaskView) (ts : List Known) → is_among id (with_views vs ts) ≡ (is_among id ts || is_viewed id vs)
+among_views id [] ts = nothing_more (is_among id ts)
+among_views id (v ∷ vs) ts =
+    among_views id vs (with_known v.id v.name ts)
+    ∙ ap (λ b. b || is_viewed id vs) (among_with id v.id v.name ts)
+    ∙ sym (or_group (is_among id ts) (v.id == id) (is_viewed id vs))
+
+-- each that lives at the start, and each that a line tells of
+pub among_tasks : (id : ℕ) (views : List TaskView) (lines : List Line) → is_among id (tasks_in views lines) ≡ (is_viewed id views || is_told id lines)
+among_tasks id views [] = among_views id views [] ∙ nothing_more (is_viewed id views)
+among_tasks id views (l ∷ older) =
+    among_subject id (subject_of l.what) l.name (tasks_in views older)
+    ∙ ap (λ b. b || is_task id (subject_of l.what)) (among_tasks id views older)
+    ∙ or_turn (is_viewed id views) (is_told id older) (is_task id (subject_of l.what))
+
+-- one line more
+module _ (id : ℕ) (l newest : Line) (older : List Line) where
+  told_or : (j : Option Happening) → ((x : Happening) → j ≡ Some x → (subject_of x ≡ subject_of newest.what) × (subject_of l.what ≡ subject_of newest.what))
+      → is_told id (joined_or j l newest older) ≡ (is_task id (subject_of l.what) || is_told id (newest ∷ older))
+  told_or None is = refl
+  told_or (Some x) is =
+      let s = is x refl in
+      let mine = is_task id (subject_of newest.what) in
+      ap (λ w. is_task id w || is_told id older) s.0
+      ∙ twice mine (is_told id older)
+      ∙ ap (λ w. is_task id w || (mine || is_told id older)) (sym s.1)
+
+pub told_line : (id : ℕ) (l : Line) (made : List Line) → is_told id (with_line l made) ≡ (is_task id (subject_of l.what) || is_told id made)
+told_line id l [] = refl
+told_line id l (newest ∷ older) = told_or id l newest older (joined newest.what l.what) (joined_subject newest.what l.what)

@@ -15,7 +15,7 @@ mod times;
 
 pub use counts::TaskCounts;
 pub use json::summary_text;
-pub use laws::longest_law;
+pub use laws::{longest_law, tasks_law};
 pub use stretch::Stretch;
 pub use summary::{Summary, TaskSummary, share};
 pub use table::table_text;

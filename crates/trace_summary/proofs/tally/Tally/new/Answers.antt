@@ -1,4 +1,4 @@
-use Rattle.std.proofs.Common.{◌≡◌, ◌+◌, List, [], drop, sym, ap, ◌∙◌}
+use Rattle.std.proofs.Common.{◌≡◌, ◌+◌, List, [], drop, sym, ap, ap₂, ◌∙◌}
 use Rattle.std.proofs.Math.ListN.{drop_of_length-le}
 use Rattle.board_changes.specs.declared.view.TaskView.{TaskView}
 use Rattle.trace_summary.specs.Adding.{with_opening, with_task}
@@ -16,7 +16,7 @@ loop-view-preserved c =
     let views = c.args.views.now in
     let i = c.loop-view.view-index in
     let v = c.view-item.result in
-    ap (with_opening (drop (i + 1) views)) (c.in_ok-add_task.ensures ∙ ap (λ name. with_task v.id name c.loop-view.tasks.items) c.bytes.ensures.value)
+    ap (with_opening (drop (i + 1) views)) (c.in_ok-add_task.ensures ∙ ap₂ (λ id name. with_task id name c.loop-view.tasks.items) c.get.ensures.same c.bytes.ensures.value)
     ∙ sym (one_opened views i v c.loop-view.tasks.items c.loop-view-test.true c.view-item.is)
     ∙ c.loop-view.invariant
 
