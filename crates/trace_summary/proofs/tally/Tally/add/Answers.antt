@@ -10,6 +10,6 @@ pub returns : goal.returns
 returns c =
     on_ok_weaker c.note.result
     (λ is views lines step old.
-        is (ap (λ (t : TallyState). are_distinct t.tasks) old ∙ rows_distinct views lines)
-        ∙ ap (noted c.args.time c.args.name.now c.args.happening.now) old ∙ noted_line views lines _)
+    is (ap (λ (t : TallyState). are_distinct t.tasks) old ∙ rows_distinct views lines)
+    ∙ ap (noted c.args.time c.args.name.now c.args.happening.now) old ∙ noted_line views lines _)
     c.note.ensures
