@@ -1,5 +1,5 @@
 -- The tasks that live in a run have rows in its summary.
-use Rattle.std.proofs.Common.{◌≡◌, ℕ, zero, suc, ◌+◌, ◌<◌, Bool, true, false, if◌then◌else◌, List, [], ◌∷◌, ◌++◌, map, Option, None, Some, refl, sym, ap, ap₂, ◌∙◌, arith}
+use Rattle.std.proofs.Common.{◌≡◌, ℕ, zero, suc, ◌+◌, Bool, true, false, if◌then◌else◌, List, [], ◌∷◌, ◌++◌, map, None, Some, refl, ap, ◌∙◌, arith}
 use Rattle.std.specs.Prelude.{◌||◌, ◌==◌, not}
 use Rattle.std.specs.List.{list_any}
 use Rattle.std.proofs.lemmas.Bool.{eqb-true, or_left, or_parts, or_right}
@@ -9,7 +9,6 @@ use Rattle.wind_machine.specs.Run.{Answers, after}
 use Rattle.wind_machine.specs.State.{State}
 use Rattle.board_changes.specs.Tasks.{changes_of, deletions, found, kept_changes, live_changes, newborn, task_changes}
 use Rattle.board_changes.specs.declared.change.Change.{Change}
-use Rattle.board_changes.specs.declared.change.Change.TheVariants as changes
 use Rattle.board_changes.specs.declared.view.TaskView.{TaskView}
 use Rattle.board_trace.specs.Before.{before_step}
 use Rattle.board_trace.specs.Messages.{messages}

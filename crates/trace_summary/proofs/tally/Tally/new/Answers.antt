@@ -1,6 +1,5 @@
-use Rattle.std.proofs.Common.{◌≡◌, ◌+◌, List, [], drop, sym, ap, ap₂, ◌∙◌}
+use Rattle.std.proofs.Common.{◌+◌, List, drop, sym, ap, ap₂, ◌∙◌}
 use Rattle.std.proofs.Math.ListN.{drop_of_length-le}
-use Rattle.board_changes.specs.declared.view.TaskView.{TaskView}
 use Rattle.trace_summary.specs.Adding.{with_opening, with_task}
 use Rattle.trace_summary.specs.Summaries.{TallyState}
 use Rattle.trace_summary.specs.declared.tally.TaskTally.{TaskTally}
