@@ -86,6 +86,14 @@ COUNTED = {
     "instructions": re.compile(rb"(\d+) instructions?$"),
     "idle": re.compile(rb"nobody is ready until (\d+)$"),
 }
+# What comes to an object and what leaves it, and how a line reads.
+MOVES = (
+    ("mutex", 0, re.compile(rb"owns mutex (\d+)$")), ("mutex", 1, re.compile(rb"no longer owns mutex (\d+)$")),
+    ("queue", 0, re.compile(rb"adds a message to queue (\d+)$")),
+    ("queue", 1, re.compile(rb"takes a message from queue (\d+)$")),
+    ("slot", 0, re.compile(rb"interrupt of slot (\d+)$")),
+    ("slot", 1, re.compile(rb"delivery of an interrupt of slot (\d+)$")),
+)
 FIGURES_OF_TASK = ("steps", "share", "switches", "calls", "refusals", "exceptions")
 LINE_START = re.compile(rb"^ *(\d+) +(\d+)  ")
 WRITES = re.compile(rb'^ *\d+ +\d+  .{16}  writes "(.*)"$')
@@ -205,6 +213,20 @@ def counted(lines, kind):
     return sum(int(it[1]) if kind in ("instructions", "idle") else 1 for it in found if it)
 
 
+def uses(texts):
+    """How objects were used, by some lines."""
+    rows = {}
+    for _, what in texts:
+        for kind, side, form in MOVES:
+            it = form.match(what)
+            if it:
+                row = rows.setdefault((kind, int(it[1])), [0, 0, 0])
+                row[side] += 1
+                row[2] = max(row[2], row[0] - row[1])
+    return [{"object": kind, "id": id_, "in": come, "out": gone, "most": most}
+            for (kind, id_), (come, gone, most) in rows.items()]
+
+
 def figures(session, windtrace, summary):
     """The figures of a session that aren't those of its events."""
     lines = [(LINE_START.match(line), line) for line in run(windtrace, session)[1].split(b"\n")[:-1]]
@@ -217,6 +239,8 @@ def figures(session, windtrace, summary):
     for name, number in run_figures.items():
         if summary[name] != number:
             yield f"{name} is {summary[name]}, and {number} by the events"
+    if summary["objects"] != uses(texts):
+        yield "objects were used in another way by the events"
     if {task["id"] for task in summary["tasks"]} != ids:
         yield "the summary has other tasks than the events"
     for task in summary["tasks"]:
@@ -279,13 +303,16 @@ def summaries(session, windtrace):
                  for name in FIGURES_OF_TASK), f"{task['id']} {task['name']}".encode()] for task in summary["tasks"]]
     if rows != wanted:
         yield "the table has other rows than the summary"
-    rows = [row.split(None, 4)[:4] for row in table[3 + len(summary["tasks"]):-1]]
+    rows = [row.split(None, 4)[:4] for row in table[3 + len(summary["tasks"]):3 + 2 * len(summary["tasks"])]]
     wanted = [[str(task[name]["time"] if task[name] else 0).encode() for name in ("longest_wait", "longest_ready")]
               + [str(task["longest_response"]).encode()]
               + [str(task["longest_inherited"]["time"] if task["longest_inherited"] else 0).encode()]
               for task in summary["tasks"]]
     if rows != wanted:
         yield "the table has other times than the summary"
+    rows = [row.split() for row in table[4 + 2 * len(summary["tasks"]):-1]]
+    if rows != [[str(it[name]).encode() for name in ("in", "out", "most", "object", "id")] for it in summary["objects"]]:
+        yield "the table has other objects than the summary"
     head = ", ".join(f"{name} {summary[name]}" for name in ("time", "steps", "ticks", "calls", "idle"))
     if table[0] != head.encode():
         yield f"the table begins with {table[0]}"

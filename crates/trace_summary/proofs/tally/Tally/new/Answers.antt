@@ -1,4 +1,4 @@
-use Rattle.std.proofs.Common.{◌+◌, List, drop, sym, ap, ap₂, ◌∙◌}
+use Rattle.std.proofs.Common.{◌+◌, List, [], drop, sym, ap, ap₂, ◌∙◌}
 use Rattle.std.proofs.Math.ListN.{drop_of_length-le}
 use Rattle.trace_summary.specs.Adding.{with_opening, with_task}
 use Rattle.trace_summary.specs.Summaries.{TallyState}
@@ -7,7 +7,7 @@ use Rattle.trace_summary.proofs.Distinct.{one_opened, opened}
 use Rattle.trace_summary.proofs.tally.Tally.new.Goals as goal
 
 abbrev opening_tally : List TaskTally → TallyState
-opening_tally tasks = record { ticks = 0; calls = 0; idle = 0; tasks = tasks }
+opening_tally tasks = record { ticks = 0; calls = 0; idle = 0; tasks = tasks; uses = [] }
 
 -- one more task
 pub loop-view-preserved : goal.loop-view-preserved
