@@ -2,9 +2,9 @@
 use Rattle.std.proofs.Common.{◌≡◌, ℕ, ◌+◌, ◌-◌, ◌≤◌, ◌^◌, Bool, true, false, if◌then◌else◌, List, [], ◌∷◌, ◌++◌, map, Option, None, Some, refl, sym, ap, ap₂, ◌∙◌, arith}
 use Rattle.std.specs.Prelude.{max, min, not, ◌&&◌, ◌||◌, ◌==◌}
 use Rattle.std.specs.List.{list_any}
-use Rattle.std.proofs.lemmas.Bool.{and_parts, eq-eqb, eqb-true, or_left, or_parts, or_right}
+use Rattle.std.proofs.lemmas.Bool.{and_parts, eq-eqb, eqb-true, or_parts}
 use Rattle.std.proofs.lemmas.List.{map-append}
-use Rattle.board_trace.specs.Runs.{Line, joined, joined_or, with_line}
+use Rattle.board_trace.specs.Runs.{Line, joined, joined_or, same_actor, with_line}
 use Rattle.board_trace.specs.declared.happening.Happening.{Happening}
 use Rattle.board_trace.specs.declared.happening.Happening.TheVariants as told
 use Rattle.trace_summary.specs.Adding.{sum_of}
@@ -59,7 +59,7 @@ turned x y e = turned_by (same_object y x) x y refl e
 -- ---- joined lines tell of no move
 still : (h g x : Happening) → joined h g ≡ Some x → (move_of x ≡ None) × (move_of h ≡ None) × (move_of g ≡ None)
 still (told.Instructions who n) (told.Instructions other m) x e =
-    let s = if_same _ (told.Instructions who (n + m)) x e in
+    let s = if_same (same_actor who other) (told.Instructions who (n + m)) x e in
     (ap move_of (sym s.1), refl, refl)
 still (told.Instructions who n) g x e = absurd (cc)
 still h g x e = absurd (cc)
@@ -106,13 +106,15 @@ same_usage o a b c x y z p q r = ap (λ n. usage o n b c) p ∙ ap (λ n. usage 
 
 -- nothing comes or leaves, something comes, something leaves
 at_rest : (o : Object) (a b c : ℕ) → a ≤ 2 ^ 64 - 1 → b ≤ 2 ^ 64 - 1 → a - b ≤ c → usage o (sum_of a 0) (sum_of b 0) (max (sum_of a 0 - sum_of b 0) c) ≡ usage o a b c
-at_rest o a b c low least covered = same_usage o _ _ _ _ _ _ (omega (arith, low)) (omega (arith, least)) (omega (arith, low, least, covered))
+at_rest o a b c low least covered =
+    same_usage o (sum_of a 0) (sum_of b 0) (max (sum_of a 0 - sum_of b 0) c) a b c (omega (arith, low)) (omega (arith, least)) (omega (arith, low, least, covered))
 
 at_entry : (o : Object) (a b c : ℕ) → b ≤ 2 ^ 64 - 1 → usage o (sum_of a 1) (sum_of b 0) (max (sum_of a 1 - sum_of b 0) c) ≡ entered (usage o a b c)
 at_entry o a b c least = let same : sum_of b 0 ≡ b = omega (arith, least) in ap (λ n. usage o (sum_of a 1) n (max (sum_of a 1 - n) c)) same
 
 at_exit : (o : Object) (a b c : ℕ) → a ≤ 2 ^ 64 - 1 → a - b ≤ c → usage o (sum_of a 0) (sum_of b 1) (max (sum_of a 0 - sum_of b 1) c) ≡ left (usage o a b c)
-at_exit o a b c low covered = same_usage o _ _ _ _ _ _ (omega (arith, low)) refl (omega (arith, low, covered))
+at_exit o a b c low covered =
+    same_usage o (sum_of a 0) (sum_of b 1) (max (sum_of a 0 - sum_of b 1) c) a (sum_of b 1) c (omega (arith, low)) refl (omega (arith, low, covered))
 
 module _ (o : Object) (a b c : ℕ) (low : a ≤ 2 ^ 64 - 1) (least : b ≤ 2 ^ 64 - 1) (covered : a - b ≤ c) where
   move_by : (mine enters : Bool) → usage o (sum_of a (if mine && enters then 1 else 0)) (sum_of b (if mine && not enters then 1 else 0)) (max (sum_of a (if mine && enters then 1 else 0) - sum_of b (if mine && not enters then 1 else 0)) c)
@@ -144,21 +146,6 @@ usage_line o l made =
 -- ---- objects
 abbrev is_among : Object → List Object → Bool
 is_among o os = list_any (λ p. same_object p o) os
-
-end_among : (o : Object) (os : List Object) → is_among o (os ++ o ∷ []) ≡ true
-end_among o [] = or_left (same_object o o) false (itself o)
-end_among o (p ∷ os) = or_right (same_object p o) (is_among o (os ++ o ∷ [])) (end_among o os)
-
-added_among : (b : Bool) (o : Object) (os : List Object) → is_among o os ≡ b → is_among o (if b then os else os ++ o ∷ []) ≡ true
-added_among true o os is = is
-added_among false o os is = end_among o os
-
--- an object that was added is there
-again : (mv : Option Move) (os : List Object) → with_mover mv (with_mover mv os) ≡ with_mover mv os
-again None os = refl
-again (Some m) os =
-    let made = with_object m.object os in
-    ap (λ b. if b then made else made ++ m.object ∷ []) (added_among (is_among m.object os) m.object os refl)
 
 module _ (l newest : Line) (older : List Line) where
   objects_or : (j : Option Happening) → ((x : Happening) → j ≡ Some x → (move_of x ≡ None) × (move_of newest.what ≡ None) × (move_of l.what ≡ None))
@@ -234,18 +221,19 @@ row_more lines o =
     let os = objects_in lines in
     ap (λ b. if b then usages lines else usages lines ++ unused o ∷ []) (rows_among lines o os) ∙ row_by (is_among o os) lines o os refl (never_used o lines)
 
-all_after : (lines : List Line) (l : Line) (mv : Option Move) → move_of l.what ≡ mv → (os : List Object) → map (after mv) (map (usage_of lines) os) ≡ map (usage_of (with_line l lines)) os
-all_after lines l mv is [] = refl
-all_after lines l mv is (o ∷ os) =
-    ap₂ (λ u us. u ∷ us) (sym (usage_line o l lines ∙ ap (λ m. after m (usage_of lines o)) is)) (all_after lines l mv is os)
+rows_moved : (lines : List Line) (l : Line) (m : Move) → move_of l.what ≡ Some m → (os : List Object) → map (moved m) (map (usage_of lines) os) ≡ map (usage_of (with_line l lines)) os
+rows_moved lines l m is [] = refl
+rows_moved lines l m is (o ∷ os) =
+    ap₂ (λ u us. u ∷ us) (sym (usage_line o l lines ∙ ap (λ mv. after mv (usage_of lines o)) is)) (rows_moved lines l m is os)
 
-unchanged : (us : List Usage) → map (after None) us ≡ us
-unchanged [] = refl
-unchanged (u ∷ us) = ap (λ rest. u ∷ rest) (unchanged us)
+rows_still : (lines : List Line) (l : Line) → move_of l.what ≡ None → (os : List Object) → map (usage_of lines) os ≡ map (usage_of (with_line l lines)) os
+rows_still lines l is [] = refl
+rows_still lines l is (o ∷ os) =
+    ap₂ (λ u us. u ∷ us) (sym (usage_line o l lines ∙ ap (λ mv. after mv (usage_of lines o)) is)) (rows_still lines l is os)
 
 usages_by : (lines : List Line) (l : Line) (mv : Option Move) → move_of l.what ≡ mv → with_move mv (usages lines) ≡ map (usage_of (with_line l lines)) (with_mover mv (objects_in lines))
-usages_by lines l None is = sym (unchanged (usages lines)) ∙ all_after lines l None is (objects_in lines)
-usages_by lines l (Some m) is = ap (map (moved m)) (row_more lines m.object) ∙ all_after lines l (Some m) is (with_object m.object (objects_in lines))
+usages_by lines l None is = rows_still lines l is (objects_in lines)
+usages_by lines l (Some m) is = ap (map (moved m)) (row_more lines m.object) ∙ rows_moved lines l m is (with_object m.object (objects_in lines))
 
 -- after one more line
 pub usages_line : (l : Line) (lines : List Line) → with_move (move_of l.what) (usages lines) ≡ usages (with_line l lines)

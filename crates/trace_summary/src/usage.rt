@@ -1,6 +1,6 @@
 //! How mutexes, queues and device slots were used, line by line.
 
-ghost use Rattle.std.specs.Prelude.{◌≡◌, Some, true, false, map, IfOk, OnOk};
+ghost use Rattle.std.specs.Prelude.{◌≡◌, if◌then◌else◌, map, IfOk, OnOk};
 ghost use Rattle.std.specs.List.{list_any};
 ghost use Rattle.trace_summary.specs.Usage.{coming as coming_lem, leaving as leaving_lem, move_of as move_of_lem, same_kind as same_kind_lem, same_object as same_object_lem};
 ghost use Rattle.trace_summary.specs.Using.{entered, left, moved, unused as unused_lem, with_move, with_usage};
@@ -133,17 +133,24 @@ impl Usage {
         self.exits = self.exits.saturating_add(1);
     }
 
+    // Something comes or leaves.
+    fn change(&mut self, enters: bool)
+        ensures { self.new ≡ (if enters then entered self.old else left self.old) }
+    {
+        if enters {
+            self.enter();
+        } else {
+            self.leave();
+        }
+    }
+
     // Something comes or leaves, if it is a move of this object.
     fn follow(&mut self, step: Move)
         ensures { self.new ≡ moved step self.old }
     {
-        if !same_object(self.object, step.object) {
-            return;
+        if same_object(self.object, step.object) {
+            self.change(step.enters);
         }
-        if step.enters {
-            return self.enter();
-        }
-        self.leave();
     }
 }
 
@@ -173,16 +180,30 @@ fn follow_all(uses: &mut [Usage], step: Move)
     }
 }
 
+// Adds a move.
+fn add_move(uses: &mut Vec<Usage>, step: Move) -> Result<(), NoMemory>
+    ensures { OnOk result (uses.new.items ≡ map (moved step) (with_usage step.object uses.old.items)) }
+{
+    add_object(uses, step.object)?;
+    follow_all(uses, step);
+    Ok(())
+}
+
+// Adds a move, if there is one.
+fn add_if(uses: &mut Vec<Usage>, step: Option<Move>) -> Result<(), NoMemory>
+    ensures { OnOk result (uses.new.items ≡ with_move step uses.old.items) }
+{
+    match step {
+        Some(step) => add_move(uses, step),
+        None => Ok(()),
+    }
+}
+
 /// Adds what happens to how objects were used.
 pub(crate) fn add_usage(uses: &mut Vec<Usage>, happening: &Happening) -> Result<(), NoMemory>
     ensures { OnOk result (uses.new.items ≡ with_move (move_of_lem happening.now) uses.old.items) }
 {
-    let Some(step) = move_of(happening) else {
-        return Ok(());
-    };
-    add_object(uses, step.object)?;
-    follow_all(uses, step);
-    Ok(())
+    add_if(uses, move_of(happening))
 }
 
 /// A copy of how objects were used.
