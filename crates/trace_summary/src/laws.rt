@@ -9,8 +9,8 @@ pub fn longest_law()
     ensures { LongestLaw }
 {}
 
-/// A summary has one row for each task that lives at the start and each that a line tells of, and no
-/// other row.
+/// A summary has one row for each task that lives at the start and each that a line tells of, and
+/// no other row.
 pub fn tasks_law()
     ensures { TasksLaw }
 {}
