@@ -62,6 +62,17 @@ FIGURES = {
         {"time": 2000, "steps": 199, "ticks": 4, "calls": 23, "idle": 1825},
         {1: ("tShell", 15, 75, 5, 15, 0, 0), 4: ("server", 59, 296, 5, 7, 0, 0), 5: ("client", 1, 5, 2, 1, 0, 0)},
     ),
+    "inversion": (
+        {"time": 49, "steps": 56, "ticks": 0, "calls": 10, "idle": 0},
+        {1: ("tShell", 7, 125, 5, 7, 0, 0), 3: ("t1", 1, 17, 2, 1, 0, 0), 4: ("t2", 1, 17, 1, 1, 0, 0),
+         5: ("t3", 1, 17, 1, 1, 0, 0)},
+    ),
+}
+# A priority inversion: t1, of priority 100, waits for a mutex without inheritance. Its owner has priority 200, and t2 and t3,
+# of priority 150, run before it.
+CONSOLES = {
+    "inversion": b"m = semMCreate(1)\ntaskPrioritySet 0, 200\nsemTake m, -1\nsp semTake, m, -1\n"
+                 b"taskSpawn 0, 150, 0, 4096, taskDelay, 0\ntaskSpawn 0, 150, 0, 4096, printf, \"medium\"\nsemGive m\n",
 }
 # Its longest times, worked out by hand: the wait and what for, ready, the response, with an inherited priority.
 TIMES = {
@@ -73,6 +84,12 @@ TIMES = {
         1: ({"from": 1022, "time": 978}, {"for": "console", "id": None}, None, 0, None),
         4: ({"from": 152, "time": 867}, {"for": "message", "id": 2}, {"from": 78, "time": 20}, 0, None),
         5: (None, None, {"from": 85, "time": 42}, 0, None),
+    },
+    "inversion": {
+        1: (None, None, {"from": 29, "time": 2}, 0, None),
+        3: ({"from": 23, "time": 22}, {"for": "mutex", "id": 2}, None, 0, None),
+        4: (None, None, None, 0, None),
+        5: (None, None, None, 0, None),
     },
 }
 TIMES_OF_TASK = ("longest_wait", "waited_for", "longest_ready", "longest_response", "longest_inherited")
@@ -318,6 +335,17 @@ def summaries(session, windtrace):
         yield f"the table begins with {table[0]}"
 
 
+def by_hand(windtrace):
+    """What is wrong with the summaries of the consoles that were worked out by hand."""
+    for name, console in CONSOLES.items():
+        with tempfile.TemporaryDirectory() as folder:
+            session = pathlib.Path(folder) / name
+            session.mkdir()
+            (session / "console.txt").write_bytes(console)
+            (session / "ticks.txt").write_bytes(b"")
+            yield from ((name, fault) for fault in summaries(session, windtrace))
+
+
 def missing(windtrace):
     """The consoles whose trace doesn't have its line."""
     for console, ticks, wanted in LINES:
@@ -343,11 +371,14 @@ def main():
     taken = [words for words in REFUSED if sessions and not is_refused(sessions[0], windtrace, words)]
     for words in taken:
         print(f"{' '.join(words)} is not refused")
+    others = list(by_hand(windtrace))
+    for name, fault in others:
+        print(f"{name}: {fault}")
     without = list(missing(windtrace))
     for console in without:
         print(f"{console}: its line is missing")
     print(f"{len(sessions)} sessions, {wrong} differ; {len(LINES)} lines, {len(without)} missing")
-    return 1 if wrong or taken or without or not sessions else 0
+    return 1 if wrong or taken or others or without or not sessions else 0
 
 
 if __name__ == "__main__":
