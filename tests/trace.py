@@ -92,6 +92,12 @@ TIMES = {
         5: (None, None, None, 0, None),
     },
 }
+# How its objects were used, worked out by hand: what came, what left, and the most at one time.
+USES = {
+    "inheritance": [("mutex", 2, 2, 1, 1)],
+    "server": [("queue", 2, 2, 2, 1)],
+    "inversion": [("mutex", 2, 2, 1, 1)],
+}
 TIMES_OF_TASK = ("longest_wait", "waited_for", "longest_ready", "longest_response", "longest_inherited")
 # The kinds of lines that are counted, and how a line reads.
 COUNTED = {
@@ -309,6 +315,10 @@ def summaries(session, windtrace):
         times = {task["id"]: tuple(task[name] for name in TIMES_OF_TASK) for task in summary["tasks"]}
         if times != TIMES[session.name]:
             yield "the longest times are others than by hand"
+    if session.name in USES:
+        found = [tuple(it[name] for name in ("object", "id", "in", "out", "most")) for it in summary["objects"]]
+        if found != USES[session.name]:
+            yield "objects were used in another way than by hand"
     if session.name in FIGURES:
         of_run, of_tasks = FIGURES[session.name]
         tasks = {task["id"]: (task["name"], *(task[name] for name in FIGURES_OF_TASK)) for task in summary["tasks"]}
