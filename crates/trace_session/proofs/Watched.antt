@@ -1,5 +1,5 @@
 -- The spans of a run under way.
-use Rattle.std.proofs.Common.{◌≡◌, ℕ, zero, suc, ◌+◌, if◌then◌else◌, refl, sym, ap, ap₂, ◌∙◌, arith, add-one}
+use Rattle.std.proofs.Common.{◌≡◌, ℕ, zero, suc, ◌+◌, if◌then◌else◌, Option, refl, sym, ap, ap₂, ◌∙◌, arith, add-one}
 use Rattle.kernel_world.specs.declared.reply.Reply.{Reply}
 use Rattle.wind_machine.specs.Run.{Answers, after}
 use Rattle.wind_machine.specs.Silent.{SilentLaw, SilentSteps}

@@ -1,6 +1,7 @@
 use Rattle.std.proofs.Common.{ap, ◌∙◌}
 use Rattle.wind_session.specs.BoardPlayerSeen.{board_by}
 use Rattle.board_trace.specs.Before.{before_step}
+use Rattle.board_trace.specs.Runs.{lines_of}
 use Rattle.board_trace.specs.Snapshots.{snapshot_of}
 use Rattle.board_trace.specs.declared.moment.BeforeStep.{BeforeStep}
 use Rattle.trace_summary.specs.Summaries.{tally_of}
@@ -16,7 +17,7 @@ returns-clause-tells g c =
     let new = state c.args.board.now in
     λ done first said next s u i is ready on holds. (
       holds.0,
-      c.in_ok-add_step.ensures.tally (next i) u _ _ is ready on.replied holds.1
+      c.in_ok-add_step.ensures.tally (next i) u (snapshot_of s.world).tasks (lines_of said s i) is ready on.replied holds.1
           ∙ ap (tally_of (snapshot_of s.world).tasks) (all_now said next s u _ _ i on),
       c.in_ok-add_step.ensures.watch
           ∙ ap (λ (b : BeforeStep). watched_by b (watch_state c.args.self.now.watch) new) is
