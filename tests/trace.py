@@ -58,7 +58,47 @@ FIGURES = {
         {"time": 54, "steps": 64, "ticks": 0, "calls": 8, "idle": 0},
         {1: ("tShell", 7, 109, 3, 7, 0, 0), 3: ("t1", 1, 15, 2, 1, 0, 0)},
     ),
+    "server": (
+        {"time": 2000, "steps": 199, "ticks": 4, "calls": 23, "idle": 1825},
+        {1: ("tShell", 15, 75, 5, 15, 0, 0), 4: ("server", 59, 296, 5, 7, 0, 0), 5: ("client", 1, 5, 2, 1, 0, 0)},
+    ),
+    "inversion": (
+        {"time": 49, "steps": 56, "ticks": 0, "calls": 10, "idle": 0},
+        {1: ("tShell", 7, 125, 5, 7, 0, 0), 3: ("t1", 1, 17, 2, 1, 0, 0), 4: ("t2", 1, 17, 1, 1, 0, 0),
+         5: ("t3", 1, 17, 1, 1, 0, 0)},
+    ),
 }
+# A priority inversion: t1, of priority 100, waits for a mutex without inheritance. Its owner has priority 200, and t2 and t3,
+# of priority 150, run before it.
+CONSOLES = {
+    "inversion": b"m = semMCreate(1)\ntaskPrioritySet 0, 200\nsemTake m, -1\nsp semTake, m, -1\n"
+                 b"taskSpawn 0, 150, 0, 4096, taskDelay, 0\ntaskSpawn 0, 150, 0, 4096, printf, \"medium\"\nsemGive m\n",
+}
+# Its longest times, worked out by hand: the wait and what for, ready, the response, with an inherited priority.
+TIMES = {
+    "inheritance": {
+        1: (None, None, {"from": 25, "time": 1}, 0, {"from": 26, "time": 15}),
+        3: ({"from": 26, "time": 15}, {"for": "mutex", "id": 2}, None, 0, None),
+    },
+    "server": {
+        1: ({"from": 1022, "time": 978}, {"for": "console", "id": None}, None, 0, None),
+        4: ({"from": 152, "time": 867}, {"for": "message", "id": 2}, {"from": 78, "time": 20}, 0, None),
+        5: (None, None, {"from": 85, "time": 42}, 0, None),
+    },
+    "inversion": {
+        1: (None, None, {"from": 29, "time": 2}, 0, None),
+        3: ({"from": 23, "time": 22}, {"for": "mutex", "id": 2}, None, 0, None),
+        4: (None, None, None, 0, None),
+        5: (None, None, None, 0, None),
+    },
+}
+# How its objects were used, worked out by hand: what came, what left, and the most at one time.
+USES = {
+    "inheritance": [("mutex", 2, 2, 1, 1)],
+    "server": [("queue", 2, 2, 2, 1)],
+    "inversion": [("mutex", 2, 2, 1, 1)],
+}
+TIMES_OF_TASK = ("longest_wait", "waited_for", "longest_ready", "longest_response", "longest_inherited")
 # The kinds of lines that are counted, and how a line reads.
 COUNTED = {
     "ticks": re.compile(rb"tick \d+$"),
@@ -69,6 +109,14 @@ COUNTED = {
     "instructions": re.compile(rb"(\d+) instructions?$"),
     "idle": re.compile(rb"nobody is ready until (\d+)$"),
 }
+# What comes to an object and what leaves it, and how a line reads.
+MOVES = (
+    ("mutex", 0, re.compile(rb"owns mutex (\d+)$")), ("mutex", 1, re.compile(rb"no longer owns mutex (\d+)$")),
+    ("queue", 0, re.compile(rb"adds a message to queue (\d+)$")),
+    ("queue", 1, re.compile(rb"takes a message from queue (\d+)$")),
+    ("slot", 0, re.compile(rb"interrupt of slot (\d+)$")),
+    ("slot", 1, re.compile(rb"delivery of an interrupt of slot (\d+)$")),
+)
 FIGURES_OF_TASK = ("steps", "share", "switches", "calls", "refusals", "exceptions")
 LINE_START = re.compile(rb"^ *(\d+) +(\d+)  ")
 WRITES = re.compile(rb'^ *\d+ +\d+  .{16}  writes "(.*)"$')
@@ -188,6 +236,20 @@ def counted(lines, kind):
     return sum(int(it[1]) if kind in ("instructions", "idle") else 1 for it in found if it)
 
 
+def uses(texts):
+    """How objects were used, by some lines."""
+    rows = {}
+    for _, what in texts:
+        for kind, side, form in MOVES:
+            it = form.match(what)
+            if it:
+                row = rows.setdefault((kind, int(it[1])), [0, 0, 0])
+                row[side] += 1
+                row[2] = max(row[2], row[0] - row[1])
+    return [{"object": kind, "id": id_, "in": come, "out": gone, "most": most}
+            for (kind, id_), (come, gone, most) in rows.items()]
+
+
 def figures(session, windtrace, summary):
     """The figures of a session that aren't those of its events."""
     lines = [(LINE_START.match(line), line) for line in run(windtrace, session)[1].split(b"\n")[:-1]]
@@ -200,6 +262,8 @@ def figures(session, windtrace, summary):
     for name, number in run_figures.items():
         if summary[name] != number:
             yield f"{name} is {summary[name]}, and {number} by the events"
+    if summary["objects"] != uses(texts):
+        yield "objects were used in another way by the events"
     if {task["id"] for task in summary["tasks"]} != ids:
         yield "the summary has other tasks than the events"
     for task in summary["tasks"]:
@@ -212,24 +276,84 @@ def figures(session, windtrace, summary):
                 yield f"{name} of {task['name']} is {task[name]}, and {number} by the events"
 
 
+def longest(spans):
+    """The longest of some spans of a task, if there is one; those that follow one another without a gap are one."""
+    joined = []
+    for since, until in sorted(spans):
+        if joined and joined[-1][1] == since:
+            joined[-1][1] = until
+        else:
+            joined.append([since, until])
+    best = max(joined, key=lambda it: it[1] - it[0], default=None)
+    return best and {"from": best[0], "time": best[1] - best[0]}
+
+
+def longest_times(session, windtrace, summary):
+    """The longest times of a session's tasks that aren't those of its timeline. A timeline that shows an interrupt routine may
+    show another time ready, and areas with shares of several looks don't tell any."""
+    svg = run(windtrace, session, "--as", "timeline")[1]
+    found = [(it[0], it[1], int(it[2]), int(it[3])) for it in RECTANGLE.findall(svg)]
+    kinds = {b"waiting": "longest_wait", b"inherits": "longest_inherited"}
+    if not any(title == b"interrupt routine" for _, title, _, _ in found):
+        kinds[b"ready"] = "longest_ready"
+    for task in summary["tasks"]:
+        mine = [it for it in found if it[1].startswith(b"%d " % task["id"])]
+        if any(title.endswith(b" %") for _, title, _, _ in mine):
+            continue
+        for kind, name in kinds.items():
+            best = longest(it[2:] for it in mine if it[0] == kind)
+            if task[name] != best:
+                yield f"{name} of {task['name']} is {task[name]}, and {best} by the timeline"
+
+
 def summaries(session, windtrace):
     """What is wrong with the summaries of a session."""
     summary = json.loads(run(windtrace, session, "--as", "summary-json")[1])
     yield from figures(session, windtrace, summary)
+    yield from longest_times(session, windtrace, summary)
+    if session.name in TIMES:
+        times = {task["id"]: tuple(task[name] for name in TIMES_OF_TASK) for task in summary["tasks"]}
+        if times != TIMES[session.name]:
+            yield "the longest times are others than by hand"
+    if session.name in USES:
+        found = [tuple(it[name] for name in ("object", "id", "in", "out", "most")) for it in summary["objects"]]
+        if found != USES[session.name]:
+            yield "objects were used in another way than by hand"
     if session.name in FIGURES:
         of_run, of_tasks = FIGURES[session.name]
         tasks = {task["id"]: (task["name"], *(task[name] for name in FIGURES_OF_TASK)) for task in summary["tasks"]}
         if any(summary[name] != number for name, number in of_run.items()) or tasks != of_tasks:
             yield "the summary is another one than by hand"
     table = run(windtrace, session, "--as", "summary")[1].split(b"\n")
-    rows = [row.split(None, len(FIGURES_OF_TASK)) for row in table[2:-1]]
+    rows = [row.split(None, len(FIGURES_OF_TASK)) for row in table[2:2 + len(summary["tasks"])]]
     wanted = [[*((f"{task[name] // 10}.{task[name] % 10}%" if name == "share" else str(task[name])).encode()
                  for name in FIGURES_OF_TASK), f"{task['id']} {task['name']}".encode()] for task in summary["tasks"]]
     if rows != wanted:
         yield "the table has other rows than the summary"
+    rows = [row.split(None, 4)[:4] for row in table[3 + len(summary["tasks"]):3 + 2 * len(summary["tasks"])]]
+    wanted = [[str(task[name]["time"] if task[name] else 0).encode() for name in ("longest_wait", "longest_ready")]
+              + [str(task["longest_response"]).encode()]
+              + [str(task["longest_inherited"]["time"] if task["longest_inherited"] else 0).encode()]
+              for task in summary["tasks"]]
+    if rows != wanted:
+        yield "the table has other times than the summary"
+    rows = [row.split() for row in table[4 + 2 * len(summary["tasks"]):-1]]
+    if rows != [[str(it[name]).encode() for name in ("in", "out", "most", "object", "id")] for it in summary["objects"]]:
+        yield "the table has other objects than the summary"
     head = ", ".join(f"{name} {summary[name]}" for name in ("time", "steps", "ticks", "calls", "idle"))
     if table[0] != head.encode():
         yield f"the table begins with {table[0]}"
+
+
+def by_hand(windtrace):
+    """What is wrong with the summaries of the consoles that were worked out by hand."""
+    for name, console in CONSOLES.items():
+        with tempfile.TemporaryDirectory() as folder:
+            session = pathlib.Path(folder) / name
+            session.mkdir()
+            (session / "console.txt").write_bytes(console)
+            (session / "ticks.txt").write_bytes(b"")
+            yield from ((name, fault) for fault in summaries(session, windtrace))
 
 
 def missing(windtrace):
@@ -257,11 +381,14 @@ def main():
     taken = [words for words in REFUSED if sessions and not is_refused(sessions[0], windtrace, words)]
     for words in taken:
         print(f"{' '.join(words)} is not refused")
+    others = list(by_hand(windtrace))
+    for name, fault in others:
+        print(f"{name}: {fault}")
     without = list(missing(windtrace))
     for console in without:
         print(f"{console}: its line is missing")
     print(f"{len(sessions)} sessions, {wrong} differ; {len(LINES)} lines, {len(without)} missing")
-    return 1 if wrong or taken or without or not sessions else 0
+    return 1 if wrong or taken or others or without or not sessions else 0
 
 
 if __name__ == "__main__":

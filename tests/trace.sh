@@ -4,7 +4,7 @@
 # - the events have to be those of the session's file `events`, if there is one; the coverage, those of `coverage`;
 # - each object of `--as json-lines` has to say what its line of the events says;
 # - the state has to be JSON, and the timeline XML;
-# - the figures of the summary have to be those that its events add up to.
+# - the figures of the summary have to be those that its events add up to; those of three sessions were worked out by hand.
 # Then it plays a few consoles, and looks in the trace of each for the line that it has to have.
 # It prints a line for each session that differs and each line that is missing, and one that counts them. It ends with
 # 1 if there is one.

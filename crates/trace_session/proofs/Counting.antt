@@ -1,6 +1,6 @@
 -- What is counted of a run under way.
 use Rattle.std.proofs.Common.{◌≡◌, ◌≢◌, ◌⊎◌, ℕ, zero, suc, ◌+◌, ◌<◌, true, List, [], ◌∷◌, ◌++◌, map, take, get_or, length, Option, Some, Result, Ok, Err, refl, sym, ap, ap₂, subst, ◌∙◌, arith, le-leb}
-use Rattle.std.specs.Prelude.{◌&&◌, if◌then◌else◌, IfOk}
+use Rattle.std.specs.Prelude.{◌&&◌, if◌then◌else◌, IfOk, OnOk}
 use Rattle.std.proofs.lemmas.List.{map-append, take_more}
 use Rattle.generated_session.specs.Puts.{SinkLog}
 use Rattle.wind_outside.specs.Requests.{Request}
@@ -8,7 +8,7 @@ use Rattle.kernel_world.specs.declared.actor.Actor.{Actor}
 use Rattle.kernel_world.specs.declared.reply.Reply.{Reply}
 use Rattle.wind_machine.specs.State.{State}
 use Rattle.wind_machine.specs.Run.{Answers, after}
-use Rattle.wind_machine.specs.Silent.{SilentSteps, last_actor}
+use Rattle.wind_machine.specs.Silent.{SilentLaw, SilentSteps, last_actor}
 use Rattle.wind_session.specs.Modules.{Shelf}
 use Rattle.wind_session.specs.Telling.{GoesOn, IsTold, Told}
 use Rattle.wind_session.specs.declared.run.RunEnd.{RunEnd}
@@ -25,14 +25,17 @@ use Rattle.board_trace.specs.declared.moment.BeforeStep.{BeforeStep}
 use Rattle.trace_state.specs.Board.{IsTextOf}
 use Rattle.trace_summary.specs.Data.{summary_data}
 use Rattle.trace_summary.specs.Summaries.{SummaryState, TallyState, summary_of, tally_of}
+use Rattle.trace_summary.specs.Times.{SpanLists}
 use Rattle.trace_session.specs.Bursts.{SilentLinesLaw, instructions_line, with_instructions}
 use Rattle.trace_session.specs.Choice.{chosen_lines, everything, is_step}
 use Rattle.trace_session.specs.Steps.{line_of}
 use Rattle.trace_session.specs.Summing.{CountsLines, IsSummedUp, TellsSummary, TellsTable, HasSummary}
 use Rattle.trace_session.specs.Traced.{IsPutOf}
+use Rattle.trace_session.specs.Watching.{WatchState, lists_at, watched_after}
 use Rattle.trace_session.specs.declared.traced.Product.{Product}
 use Rattle.trace_session.proofs.Lines.{all_in, all_lines}
 use Rattle.trace_session.proofs.Telling.{lines_now, lost_if, tells_unless}
+use Rattle.trace_session.proofs.Watched.{watched_on}
 
 -- ---- lines of a step
 with_end : (ls : List Line) (l : Line) (made : List Line) → with_line l (with_lines ls made) ≡ with_lines (ls ++ l ∷ []) made
@@ -88,20 +91,25 @@ counted_burst law k u t who time before old new some last steps time_is before_i
     ∙ ap₂ (λ a v. tally_of views (with_line (line_with a (u.steps + 1) v who k) (lines_of said s i))) time_is before_is
     ∙ ap (tally_of views) (sym (all_burst law said s u t who i k some here last steps))
 
-pub counts_on : {E : Type 0} (r : Result ℕ E) (u : State) (old new : TallyState)
+pub counts_on : {E : Type 0} → SilentLaw → (r : Result ℕ E) (u t : State) (old new : TallyState) (watch later : WatchState)
     → IfOk r (λ k. (views : List TaskView) (said : Answers) (s : State) (i : ℕ) → u ≡ after said s i → old ≡ tally_of views (lines_of said s i) → new ≡ tally_of views (lines_of said s (i + k)))
-    → IfOk r (λ k. (first now : SinkLog) (said : Answers) (s : State) (i : ℕ) → u ≡ after said s i → CountsLines old first now said s i → CountsLines new first now said s (i + k))
-counts_on (Err e) u old new adds = tt
-counts_on (Ok k) u old new adds = λ first now said s i here holds. (holds.0, adds (snapshot_of s.world).tasks said s i here holds.1)
+    → IfOk r (λ k. SilentSteps k u t) → OnOk r (later ≡ watch)
+    → IfOk r (λ k. (first now : SinkLog) (said : Answers) (s : State) (i : ℕ) → u ≡ after said s i → CountsLines old watch first now said s i → CountsLines new later first now said s (i + k))
+counts_on law (Err e) u t old new watch later adds steps same = tt
+counts_on law (Ok k) u t old new watch later adds steps same = λ first now said s i here holds. (
+  holds.0,
+  adds (snapshot_of s.world).tasks said s i here holds.1,
+  same ∙ holds.2 ∙ sym (watched_on law said s u i here k t steps),
+)
 
 -- ---- the end of a run
-module _ (shelf : Shelf) (s t : State) (n : ℕ) (old new : Option (List Request)) (tally : TallyState) (first now : SinkLog) (end : RunEnd)
-    (ran : Told (IsTold (CountsLines tally first now) (λ said u k. ⊥) end s) shelf s n t old new) where
+module _ (shelf : Shelf) (s t : State) (n : ℕ) (old new : Option (List Request)) (tally : TallyState) (watch : WatchState) (first now : SinkLog) (end : RunEnd)
+    (ran : Told (IsTold (CountsLines tally watch first now) (λ said u k. ⊥) end s) shelf s n t old new) where
   none_lost : ran.end ≢ ends.WriteFault
-  none_lost e = lost_if (CountsLines tally first now) (λ said u k. ⊥) ran.said s ran.k ran.end e ran.tells.1
+  none_lost e = lost_if (CountsLines tally watch first now) (λ said u k. ⊥) ran.said s ran.k ran.end e ran.tells.1
 
-  counted : CountsLines tally first now ran.said s ran.k
-  counted = tells_unless (CountsLines tally first now) (λ said u k. ⊥) ran.said s ran.k ran.end none_lost ran.tells.1
+  counted : CountsLines tally watch first now ran.said s ran.k
+  counted = tells_unless (CountsLines tally watch first now) (λ said u k. ⊥) ran.said s ran.k ran.end none_lost ran.tells.1
 
   pub not_lost : end ≢ ends.WriteFault
   not_lost e = none_lost (sym ran.tells.0 ∙ e)
@@ -110,12 +118,13 @@ module _ (shelf : Shelf) (s t : State) (n : ℕ) (old new : Option (List Request
   none_put = counted.0
 
   -- and its figures
-  pub summed_up : (summary : SummaryState) (time steps : ℕ) → time ≡ t.time → steps ≡ t.steps
-      → ((views : List TaskView) (lines : List Line) → tally ≡ tally_of views lines → summary ≡ summary_of views lines time steps)
+  pub summed_up : (summary : SummaryState) (spans : SpanLists) (time steps : ℕ) → time ≡ t.time → steps ≡ t.steps → spans ≡ lists_at watch time
+      → ((views : List TaskView) (lines : List Line) → tally ≡ tally_of views lines → summary ≡ summary_of views lines spans time steps)
       → Told (IsSummedUp end summary s) shelf s n t old new
-  summed_up summary time steps time_is steps_are sums =
+  summed_up summary spans time steps time_is steps_are spans_are sums =
       let views = (snapshot_of s.world).tasks in
       let lines = lines_of ran.said s ran.k in
+      let made = watched_after ran.said s ran.k in
       record {
         said = ran.said;
         k = ran.k;
@@ -124,8 +133,9 @@ module _ (shelf : Shelf) (s t : State) (n : ℕ) (old new : Option (List Request
         tells = (
           ran.tells.0,
           sums views lines counted.1
-              ∙ ap₂ (summary_of views lines) time_is steps_are
-              ∙ ap (λ (v : State). summary_of views lines v.time v.steps) ran.made.state,
+              ∙ ap (λ x. summary_of views lines x time steps) (spans_are ∙ ap (λ w. lists_at w time) counted.2)
+              ∙ ap₂ (λ a b. summary_of views lines (lists_at made a) a b) time_is steps_are
+              ∙ ap (λ (v : State). summary_of views lines (lists_at made v.time) v.time v.steps) ran.made.state,
         );
       }
 

@@ -5,11 +5,13 @@ pub mod Covering
 pub mod Items
 pub mod LineLaws
 pub mod Lines
+pub mod Living
 pub mod Puts
 pub mod Seeing
 pub mod Selecting
 pub mod SilentLines
 pub mod Telling
+pub mod Watched
 mod CommandLemmas
 mod LeftLemmas
 mod ProgramLemmas

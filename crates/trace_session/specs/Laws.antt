@@ -1,14 +1,20 @@
 -- Laws on the lines of a run. Lists of lines are the newest first.
-use Rattle.std.specs.Prelude.{◌≡◌, ℕ, zero, suc, ◌+◌, if◌then◌else◌, List, [], ◌∷◌, ◌++◌}
+use Rattle.std.specs.Prelude.{◌≡◌, ℕ, zero, suc, ◌+◌, ◌<◌, Bool, true, false, if◌then◌else◌, List, [], ◌∷◌, ◌++◌}
 use Rattle.wind_machine.specs.State.{State}
 use Rattle.wind_machine.specs.Run.{Answers, after, text}
+use Rattle.board_trace.specs.Before.{before_step}
 use Rattle.board_trace.specs.Runs.{Line, lines_of, step_lines}
+use Rattle.board_trace.specs.Snapshots.{snapshot_of}
+use Rattle.board_trace.specs.Steps.{is_instruction}
 use Rattle.board_trace.specs.declared.happening.Happening.{Happening}
 use Rattle.board_trace.specs.declared.happening.Happening.TheVariants as told
 use Rattle.trace_picture.specs.Areas.{areas_of}
 use Rattle.trace_session.specs.Choice.{chosen_lines, everything}
 use Rattle.trace_session.specs.Shown.{shown_areas}
 use Rattle.trace_session.specs.Spans.{part_of, spans_of}
+use Rattle.trace_session.specs.Summing.{run_summary}
+use Rattle.trace_session.specs.Watching.{span_lists_of}
+use Rattle.trace_summary.specs.TasksLaws.{are_single, has_row, is_viewed}
 use Rattle.trace_text.specs.Pages.{count_of, is_instructions}
 
 -- how many instructions these lines tell of
@@ -52,3 +58,23 @@ pub record LinesLaw : Type 0 where
 pub record EverythingLaw : Type 0 where
   pub lines : (said : Answers) (s : State) (k : ℕ) → chosen_lines everything said s k ≡ lines_of said s k
   pub areas : (said : Answers) (s : State) (k : ℕ) → shown_areas everything (part_of everything said s k).done ≡ areas_of (spans_of said s k).done
+
+-- the spans of a run's summary are those of a picture of the whole run
+abbrev pub SummarySpansLaw : Type 0
+SummarySpansLaw = (said : Answers) (s : State) (k : ℕ) → (span_lists_of said s k).all ≡ (spans_of said s k).done
+
+-- a task with this id lives in this state
+abbrev pub lives_in : ℕ → State → Bool
+lives_in id s = is_viewed id (snapshot_of s.world).tasks
+
+-- the step that leads from one state to the next isn't one instruction
+abbrev pub IsOther : State → State → Type 0
+IsOther s t = is_instruction (before_step s) t.world.output ≡ false
+
+-- the summary of a run has one row for each task that lives at the start, and one for each that lives after a step, other than
+-- an instruction, and not before it
+pub record SummaryTasksLaw : Type 0 where
+  pub first : (said : Answers) (s : State) (k id : ℕ) → lives_in id s ≡ true → has_row id (run_summary said s k).tasks ≡ true
+  pub later : (said : Answers) (s : State) (k j id : ℕ) → j < k → IsOther (after said s j) (after said s (suc j))
+      → lives_in id (after said s j) ≡ false → lives_in id (after said s (suc j)) ≡ true → has_row id (run_summary said s k).tasks ≡ true
+  pub single : (said : Answers) (s : State) (k : ℕ) → are_single (run_summary said s k).tasks ≡ true

@@ -8,6 +8,8 @@ pub mod Shown
 pub mod Spans
 pub mod Steps
 pub mod Traced
+pub mod Watching
+pub mod Watches
 pub mod Summing
 pub mod Command
 pub mod Headline

@@ -1,4 +1,4 @@
-//! What is counted of the steps of a run.
+//! What is counted of the steps of a run, and the spans of its tasks.
 
 ghost use Rattle.std.specs.Prelude.{◌≡◌, ℕ, List, [], OnOk, IfOk, map};
 ghost use Rattle.wind_machine.specs.LiveLoadingSaid.{FileSaid};
@@ -13,9 +13,12 @@ ghost use Rattle.board_trace.specs.Subjects.{name_of, subject_actor};
 ghost use Rattle.board_trace.specs.Views.{snapshot_state};
 ghost use Rattle.trace_summary.specs.Summaries.{tally_of, tally_state};
 ghost use Rattle.trace_session.specs.Steps.{line_of};
+ghost use Rattle.trace_session.specs.Watches.{watch_state};
+ghost use Rattle.trace_session.specs.Watching.{no_watch, watched, watched_by};
 
 use crate::reader::StepReader;
-use board_trace::{BeforeStep, Happening, Snapshot, actor_name, subject_name};
+use crate::watch::Watch;
+use board_trace::{BeforeStep, Happening, Snapshot, actor_name, is_instruction, subject_name};
 use kernel_world::Actor;
 use std::alloc::Global;
 use trace_summary::Tally;
@@ -23,11 +26,13 @@ use wind_base::NoMemory;
 use wind_outside::Device;
 use wind_session::Board;
 
-/// What is counted of a run, and what reads its next step.
+/// What is counted of a run, its spans, and what reads its next step.
 #[derive(Drop)]
 pub(crate) struct Counter {
     /// What was counted.
     pub(crate) tally: Tally,
+    /// The spans.
+    pub(crate) watch: Watch,
     /// What reads the next step.
     pub(crate) reader: StepReader,
 }
@@ -57,12 +62,20 @@ impl Counter {
     pub(crate) fn new(alloc: Global, board: &Board) -> Result<Counter, NoMemory>
         ensures tally { IfOk result (λ c. tally_state c.tally
             ≡ tally_of (snapshot_of (seen ⟦<dyn Device as Device>⟧ board.now).world).tasks []) }
+        ensures watch { IfOk result (λ c. watch_state c.watch
+            ≡ watched no_watch (seen ⟦<dyn Device as Device>⟧ board.now)) }
         ensures before { IfOk result (λ c. snapshot_state c.reader.before
             ≡ snapshot_of (seen ⟦<dyn Device as Device>⟧ board.now).world) }
     {
         let reader = StepReader::new(alloc, board)?;
         let tally = Tally::new(alloc, &reader.before.tasks)?;
-        Ok(Counter { tally, reader })
+        let mut watch = Watch::new(alloc);
+        watch.look(board, &reader.before.tasks)?;
+        Ok(Counter {
+            tally,
+            watch,
+            reader,
+        })
     }
 
     /// Instructions of a task or routine were made at once, from this board time on.
@@ -81,6 +94,7 @@ impl Counter {
               name = name_of (snapshot_state self.old.reader.before) (subject_actor who.now);
               what = Happening.Instructions who.now count;
             }) made)) }
+        ensures watch { OnOk result (watch_state self.new.watch ≡ watch_state self.old.watch) }
         ensures before { OnOk result ((s : State) → Good s
             → MovesOnly who.now s.world (seen ⟦<dyn Device as Device>⟧ board.now).world
             → snapshot_state self.old.reader.before ≡ snapshot_of s.world
@@ -93,7 +107,21 @@ impl Counter {
         Ok(())
     }
 
-    /// A step was made: adds the lines of what happened in it.
+    // Looks at the tasks after a step. An instruction leaves their spans as they are.
+    fn look(&mut self, board: &Board, before_step: &BeforeStep) -> Result<(), NoMemory>
+        requires { snapshot_state self.old.reader.after ≡ snapshot_of (seen ⟦<dyn Device as Device>⟧ board.now).world }
+        ensures watch { OnOk result (watch_state self.new.watch
+            ≡ watched_by before_step.now (watch_state self.old.watch) (seen ⟦<dyn Device as Device>⟧ board.now)) }
+        ensures tally { OnOk result (self.new.tally ≡ self.old.tally) }
+        ensures reader { OnOk result (self.new.reader ≡ self.old.reader) }
+    {
+        if is_instruction(before_step, board.output()) {
+            return Ok(());
+        }
+        self.watch.look(board, &self.reader.after.tasks)
+    }
+
+    /// A step was made: adds the lines of what happened in it, and looks at the tasks.
     pub(crate) fn add_step(
         &mut self,
         board: &Board,
@@ -105,6 +133,8 @@ impl Counter {
             → tally_state self.old.tally ≡ tally_of views made
             → tally_state self.new.tally ≡ tally_of views
             (with_lines (step_lines said s (seen ⟦<dyn Device as Device>⟧ board.now)) made)) }
+        ensures watch { OnOk result (watch_state self.new.watch
+            ≡ watched_by before_step.now (watch_state self.old.watch) (seen ⟦<dyn Device as Device>⟧ board.now)) }
         ensures before { OnOk result (snapshot_state self.new.reader.before
             ≡ snapshot_of (seen ⟦<dyn Device as Device>⟧ board.now).world) }
     {
@@ -117,7 +147,8 @@ impl Counter {
             &reader.before,
             &reader.after,
         )?;
-        reader.go_on();
+        self.look(board, before_step)?;
+        self.reader.go_on();
         Ok(())
     }
 }

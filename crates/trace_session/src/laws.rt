@@ -1,8 +1,9 @@
 //! Laws of the lines of a run, each as the clause of a function.
 
 ghost use Rattle.trace_session.specs.Bursts.{SilentLinesLaw};
-ghost use Rattle.trace_session.specs.Laws.{EverythingLaw, LinesLaw};
+ghost use Rattle.trace_session.specs.Laws.{EverythingLaw, LinesLaw, SummarySpansLaw, SummaryTasksLaw};
 
+use trace_summary::tasks_law;
 use trace_text::joining_law;
 use wind_machine::silent_law;
 
@@ -24,3 +25,16 @@ pub fn lines_law()
 pub fn everything_law()
     ensures { EverythingLaw }
 {}
+
+/// The spans of a run's summary are those of a picture of the whole run.
+pub fn summary_spans_law()
+    ensures { SummarySpansLaw }
+{}
+
+/// The summary of a run has one row for each task that lives at the start, and one for each that a
+/// later step makes.
+pub fn summary_tasks_law()
+    ensures { SummaryTasksLaw }
+{
+    tasks_law();
+}

@@ -25,12 +25,13 @@ mod summary;
 mod timeline;
 mod traced;
 mod tracer;
+mod watch;
 
 pub use choice::{Choice, Kind};
 pub use command::{TraceCommand, trace_command_of};
 pub use ending::TraceEnding;
 pub use forms::{Form, trace_board};
-pub use laws::{everything_law, lines_law};
+pub use laws::{everything_law, lines_law, summary_spans_law, summary_tasks_law};
 pub use playing::trace;
 pub use program::trace_program;
 pub use shown::ShownAreas;

@@ -5,10 +5,11 @@ use Rattle.serde_json.specs.Read.{max_depth}
 use Rattle.board_changes.specs.declared.awaited.Awaited.{Awaited}
 use Rattle.trace_state.proofs.Shallow.{list_within, maybe_within, member_within, object_within}
 use Rattle.trace_state.specs.Tasks.{awaited_id, wait_data}
-use Rattle.trace_summary.specs.Data.{object_in, stretch_data, summary_data, task_data}
+use Rattle.trace_summary.specs.Data.{object_in, stretch_data, summary_data, task_data, usage_data}
 use Rattle.trace_summary.specs.Summaries.{SummaryState}
 use Rattle.trace_summary.specs.declared.summary.TaskSummary.{TaskSummary}
 use Rattle.trace_summary.specs.declared.stretch.Stretch.{Stretch}
+use Rattle.trace_summary.specs.declared.usage.Usage.{Usage}
 
 -- ---- the longest times
 -- what it waited for
@@ -25,10 +26,15 @@ task_within : (all : ℕ) (t : TaskSummary) → depth (task_data all t) ≤ 2
 task_within all t =
     object_within _ 1 (member_within _ _ _ _ (stretch_within t.times.inherited) (member_within _ _ _ _ (omega arith) (member_within _ _ _ _ (stretch_within t.times.ready) (member_within _ _ _ _ (wait_within (object_in t.times.wait)) (member_within _ _ _ _ (stretch_within t.times.wait) (member_within _ _ _ _ (omega arith) (member_within _ _ _ _ (omega arith) (member_within _ _ _ _ (omega arith) (member_within _ _ _ _ (omega arith) (member_within _ _ _ _ (omega arith) (member_within _ _ _ _ (omega arith) (member_within _ _ _ _ (omega arith) (member_within _ _ _ _ (omega arith) (omega arith))))))))))))))
 
+-- ---- objects
+usage_within : (u : Usage) → depth (usage_data u) ≤ 2
+usage_within u =
+    object_within _ 1 (member_within _ _ _ _ (omega arith) (member_within _ _ _ _ (omega arith) (member_within _ _ _ _ (omega arith) (member_within _ _ _ _ (omega arith) (member_within _ _ _ _ (omega arith) (omega arith))))))
+
 -- four levels deep
 summary_within : (s : SummaryState) → depth (summary_data s) ≤ 4
 summary_within s =
-    object_within _ 3 (member_within _ _ _ _ (list_within 2 (task_data s.steps) s.tasks (task_within s.steps)) (member_within _ _ _ _ (omega arith) (member_within _ _ _ _ (omega arith) (member_within _ _ _ _ (omega arith) (member_within _ _ _ _ (omega arith) (member_within _ _ _ _ (omega arith) (omega arith)))))))
+    object_within _ 3 (member_within _ _ _ _ (list_within 2 usage_data s.uses usage_within) (member_within _ _ _ _ (list_within 2 (task_data s.steps) s.tasks (task_within s.steps)) (member_within _ _ _ _ (omega arith) (member_within _ _ _ _ (omega arith) (member_within _ _ _ _ (omega arith) (member_within _ _ _ _ (omega arith) (member_within _ _ _ _ (omega arith) (omega arith))))))))
 
 -- so it can be read back
 pub is_shallow : (d : Data) (s : SummaryState) → d ≡ summary_data s → depth d ≤ max_depth

@@ -10,7 +10,7 @@ use Rattle.board_trace.specs.declared.happening.Happening.TheVariants as told
 use Rattle.board_trace.specs.declared.who.Subject.TheVariants as subjects
 use Rattle.trace_summary.specs.Figures.{idle_in}
 
-if_same : (b : Bool) (h x : Happening) → (if b then Some h else None) ≡ Some x → (b ≡ true) × (h ≡ x)
+pub if_same : (b : Bool) (h x : Happening) → (if b then Some h else None) ≡ Some x → (b ≡ true) × (h ≡ x)
 if_same true h x e = (refl, cc)
 if_same false h x e = absurd (cc)
 

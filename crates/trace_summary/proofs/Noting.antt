@@ -9,14 +9,17 @@ use Rattle.board_trace.specs.Subjects.{subject_of}
 use Rattle.board_trace.specs.declared.happening.Happening.{Happening}
 use Rattle.board_trace.specs.declared.who.Subject.{Subject}
 use Rattle.board_trace.specs.declared.who.Subject.TheVariants as subjects
-use Rattle.trace_summary.specs.Adding.{added, counts_in, none, noted, plus, sum_of, with_counts, with_task}
+use Rattle.trace_summary.specs.Adding.{added, counts_in, none, plus, sum_of, with_counts, with_task}
 use Rattle.trace_summary.specs.Figures.{calls_in, counts_of, exceptions_in, is_task, part_of, refusals_in, steps_in, sum_over, switches_in, total}
+use Rattle.trace_summary.specs.Noting.{noted}
 use Rattle.trace_summary.specs.Summaries.{Known, TallyState, tally_of_task, tally_of, tasks_in, with_known, with_subject}
 use Rattle.trace_summary.specs.declared.counts.TaskCounts.{TaskCounts}
 use Rattle.trace_summary.specs.declared.tally.TaskTally.{TaskTally}
+use Rattle.trace_summary.specs.declared.usage.Usage.{Usage}
 use Rattle.trace_summary.proofs.Sums.{calls_add, calls_line, exceptions_add, idle_line, none_more, part_line, refusals_add, steps_add, switches_add, ticks_line}
 use Rattle.trace_summary.proofs.Tasks.{is_among, tasks_line, untold}
 use Rattle.trace_summary.proofs.Joining.{AddsUp}
+use Rattle.trace_summary.proofs.Usages.{usages_line}
 
 -- ---- records
 abbrev counts : ℕ → ℕ → ℕ → ℕ → ℕ → TaskCounts
@@ -26,11 +29,12 @@ same_counts : (a b c d e v w x y z : ℕ) → a ≡ v → b ≡ w → c ≡ x �
 same_counts a b c d e v w x y z p q r s t =
     ap (λ n. counts n b c d e) p ∙ ap (λ n. counts v n c d e) q ∙ ap (λ n. counts v w n d e) r ∙ ap (λ n. counts v w x n e) s ∙ ap (λ n. counts v w x y n) t
 
-abbrev tally : ℕ → ℕ → ℕ → List TaskTally → TallyState
-tally a b c ts = record { ticks = a; calls = b; idle = c; tasks = ts }
+abbrev tally : ℕ → ℕ → ℕ → List TaskTally → List Usage → TallyState
+tally a b c ts vs = record { ticks = a; calls = b; idle = c; tasks = ts; uses = vs }
 
-same_tally : (a b c x y z : ℕ) (ts us : List TaskTally) → a ≡ x → b ≡ y → c ≡ z → ts ≡ us → tally a b c ts ≡ tally x y z us
-same_tally a b c x y z ts us p q r s = ap (λ n. tally n b c ts) p ∙ ap (λ n. tally x n c ts) q ∙ ap (λ n. tally x y n ts) r ∙ ap (tally x y z) s
+same_tally : (a b c x y z : ℕ) (ts us : List TaskTally) (vs ws : List Usage) → a ≡ x → b ≡ y → c ≡ z → ts ≡ us → vs ≡ ws → tally a b c ts vs ≡ tally x y z us ws
+same_tally a b c x y z ts us vs ws p q r s w =
+    ap (λ n. tally n b c ts vs) p ∙ ap (λ n. tally x n c ts vs) q ∙ ap (λ n. tally x y n ts vs) r ∙ ap₂ (tally x y z) s w
 
 -- ---- a task
 module _ (lines : List Line) (l : Line) where
@@ -106,5 +110,5 @@ module _ (views : List TaskView) (lines : List Line) where
 -- ---- a line
 pub noted_line : (views : List TaskView) (lines : List Line) (l : Line) → noted l.time l.name l.what (tally_of views lines) ≡ tally_of views (with_line l lines)
 noted_line views lines l =
-    same_tally _ _ _ _ _ _ _ _ (sym (ticks_line l lines)) (sym (calls_line l lines)) (sym (idle_line l lines))
-    (rows_noted views lines l (subject_of l.what) refl ∙ ap (map (tally_of_task (with_line l lines))) (sym (tasks_line views l lines)))
+    same_tally _ _ _ _ _ _ _ _ _ _ (sym (ticks_line l lines)) (sym (calls_line l lines)) (sym (idle_line l lines))
+    (rows_noted views lines l (subject_of l.what) refl ∙ ap (map (tally_of_task (with_line l lines))) (sym (tasks_line views l lines))) (usages_line l lines)

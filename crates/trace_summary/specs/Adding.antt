@@ -1,13 +1,11 @@
--- What one line adds to the figures of a run.
+-- What one line adds to the figures of a task.
 use Rattle.std.specs.Prelude.{ℕ, ◌+◌, ◌-◌, ◌^◌, ◌==◌, ◌&&◌, min, not, Bool, true, if◌then◌else◌, List, [], ◌∷◌, ◌++◌, map}
 use Rattle.std.specs.List.{list_any}
 use Rattle.board_changes.specs.declared.view.TaskView.{TaskView}
-use Rattle.board_trace.specs.Subjects.{subject_of}
 use Rattle.board_trace.specs.declared.happening.Happening.{Happening}
 use Rattle.board_trace.specs.declared.who.Subject.{Subject}
 use Rattle.board_trace.specs.declared.who.Subject.TheVariants as subjects
-use Rattle.trace_summary.specs.Figures.{calls_in, exceptions_in, idle_in, refusals_in, steps_in, switches_in, ticks_in}
-use Rattle.trace_summary.specs.Summaries.{TallyState}
+use Rattle.trace_summary.specs.Figures.{calls_in, exceptions_in, refusals_in, steps_in, switches_in}
 use Rattle.trace_summary.specs.Times.{SpanLists, times_of}
 use Rattle.trace_summary.specs.declared.counts.TaskCounts.{TaskCounts}
 use Rattle.trace_summary.specs.declared.summary.TaskSummary.{TaskSummary}
@@ -66,13 +64,3 @@ with_counts subjects.Interrupt name more ts = ts
 -- a task with its longest times
 abbrev pub timed : SpanLists → TaskTally → TaskSummary
 timed spans t = record { id = t.id; name = t.name; counts = t.counts; times = times_of spans t.id }
-
--- ---- a line
--- the figures after a line that tells of what happens in a step that begins at this time, with the name of its task
-abbrev pub noted : ℕ → List ℕ → Happening → TallyState → TallyState
-noted time name h t = record {
-  ticks = sum_of t.ticks (ticks_in h);
-  calls = sum_of t.calls (calls_in h);
-  idle = sum_of t.idle (idle_in time h);
-  tasks = with_counts (subject_of h) name (counts_in h) t.tasks;
-}

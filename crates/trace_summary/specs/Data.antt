@@ -1,6 +1,6 @@
 -- The summary of a run as JSON.
 use Rattle.std.specs.Prelude.{ℕ, List, [], ◌∷◌, ◌++◌, Option, None, Some, codes}
-use Rattle.serde_json.specs.Data.{Data, null}
+use Rattle.serde_json.specs.Data.{Data, null, string}
 use Rattle.board_changes.specs.declared.awaited.Awaited.{Awaited}
 use Rattle.trace_state.specs.Board.{time_shown}
 use Rattle.trace_state.specs.Json.{list_of, number_of, object_of, text_of}
@@ -12,6 +12,9 @@ use Rattle.trace_summary.specs.declared.counts.TaskCounts.{TaskCounts}
 use Rattle.trace_summary.specs.declared.summary.TaskSummary.{TaskSummary}
 use Rattle.trace_summary.specs.declared.stretch.Stretch.{Stretch}
 use Rattle.trace_summary.specs.declared.times.TaskTimes.{TaskTimes}
+use Rattle.trace_summary.specs.declared.usage.ObjectKind.{ObjectKind}
+use Rattle.trace_summary.specs.declared.usage.ObjectKind.TheVariants as kinds
+use Rattle.trace_summary.specs.declared.usage.Usage.{Usage}
 
 -- the steps of a task, of all steps, and its share in them
 abbrev pub step_members : ℕ → TaskCounts → List (List ℕ × Data)
@@ -66,6 +69,27 @@ run_members s =
     ∷ (codes "idle", number_of s.idle)
     ∷ []
 
--- the run and its tasks
+-- ---- objects
+-- the word for a kind of object
+abbrev pub kind_word : ObjectKind → List ℕ
+kind_word kinds.Mutex = codes "mutex"
+kind_word kinds.Queue = codes "queue"
+kind_word kinds.Slot = codes "slot"
+
+-- how an object was used
+abbrev pub usage_data : Usage → Data
+usage_data u =
+    object_of (
+    (codes "object", string (kind_word u.object.kind))
+    ∷ (codes "id", number_of u.object.id)
+    ∷ (codes "in", number_of u.entries)
+    ∷ (codes "out", number_of u.exits)
+    ∷ (codes "most", number_of u.most)
+    ∷ []
+    )
+
+-- ---- the summary
+-- the run, its tasks and its objects
 abbrev pub summary_data : SummaryState → Data
-summary_data s = object_of (run_members s ++ ((codes "tasks", list_of (task_data s.steps) s.tasks) ∷ []))
+summary_data s =
+    object_of (run_members s ++ ((codes "tasks", list_of (task_data s.steps) s.tasks) ∷ (codes "objects", list_of usage_data s.uses) ∷ []))

@@ -8,10 +8,12 @@ use Rattle.board_trace.specs.declared.who.Subject.{Subject}
 use Rattle.board_trace.specs.declared.who.Subject.TheVariants as subjects
 use Rattle.trace_summary.specs.Figures.{calls_in, counts_of, idle_in, ticks_in, total}
 use Rattle.trace_summary.specs.Times.{SpanLists, times_of}
+use Rattle.trace_summary.specs.Usage.{usages}
 use Rattle.trace_summary.specs.declared.summary.Summary.{Summary}
 use Rattle.trace_summary.specs.declared.summary.TaskSummary.{TaskSummary}
 use Rattle.trace_summary.specs.declared.tally.Tally.{Tally}
 use Rattle.trace_summary.specs.declared.tally.TaskTally.{TaskTally}
+use Rattle.trace_summary.specs.declared.usage.Usage.{Usage}
 
 -- ---- the tasks of a run
 -- a task, by its id and name
@@ -44,7 +46,7 @@ tasks_in views (l ∷ older) = with_subject (subject_of l.what) l.name (tasks_in
 abbrev pub summary_of_task : List Line → SpanLists → Known → TaskSummary
 summary_of_task lines spans t = record { id = t.id; name = t.name; counts = counts_of lines t.id; times = times_of spans t.id }
 
--- board time and steps at the end, ticks, calls, how long nobody ran, and the tasks with their figures
+-- board time and steps at the end, ticks, calls, how long nobody ran, the tasks with their figures, and how objects were used
 pub record SummaryState : Type 0 where
   pub time : ℕ
   pub steps : ℕ
@@ -52,10 +54,11 @@ pub record SummaryState : Type 0 where
   pub calls : ℕ
   pub idle : ℕ
   pub tasks : List TaskSummary
+  pub uses : List Usage
 
 -- a summary as plain data
 abbrev pub summary_state : Summary → SummaryState
-summary_state s = record { time = s.time; steps = s.steps; ticks = s.ticks; calls = s.calls; idle = s.idle; tasks = s.tasks.items }
+summary_state s = record { time = s.time; steps = s.steps; ticks = s.ticks; calls = s.calls; idle = s.idle; tasks = s.tasks.items; uses = s.uses.items }
 
 -- the summary of a run that begins with these tasks, has these lines and spans and ends at this time after these steps
 abbrev pub summary_of : List TaskView → List Line → SpanLists → ℕ → ℕ → SummaryState
@@ -66,6 +69,7 @@ summary_of views lines spans time steps = record {
   calls = total (λ l. calls_in l.what) lines;
   idle = total (λ l. idle_in l.time l.what) lines;
   tasks = map (summary_of_task lines spans) (tasks_in views lines);
+  uses = usages lines;
 }
 
 -- ---- a run under way
@@ -79,9 +83,10 @@ pub record TallyState : Type 0 where
   pub calls : ℕ
   pub idle : ℕ
   pub tasks : List TaskTally
+  pub uses : List Usage
 
 abbrev pub tally_state : Tally → TallyState
-tally_state t = record { ticks = t.ticks; calls = t.calls; idle = t.idle; tasks = t.tasks.items }
+tally_state t = record { ticks = t.ticks; calls = t.calls; idle = t.idle; tasks = t.tasks.items; uses = t.uses.items }
 
 abbrev pub tally_of : List TaskView → List Line → TallyState
 tally_of views lines = record {
@@ -89,4 +94,5 @@ tally_of views lines = record {
   calls = total (λ l. calls_in l.what) lines;
   idle = total (λ l. idle_in l.time l.what) lines;
   tasks = map (tally_of_task lines) (tasks_in views lines);
+  uses = usages lines;
 }

@@ -5,7 +5,7 @@ ghost use Rattle.serde_json.specs.View.{view};
 ghost use Rattle.trace_state.specs.Board.{IsTextOf};
 ghost use Rattle.trace_state.specs.Held.{members_in};
 ghost use Rattle.trace_state.specs.Json.{list_of, with_all, with_member};
-ghost use Rattle.trace_summary.specs.Data.{call_members, count_members, longest_members, object_in as object_in_lem, run_members, step_members, stretch_data, summary_data, task_data, time_members, wait_members};
+ghost use Rattle.trace_summary.specs.Data.{call_members, count_members, longest_members, kind_word as kind_word_lem, object_in as object_in_lem, run_members, step_members, stretch_data, summary_data, task_data, time_members, usage_data, wait_members};
 ghost use Rattle.trace_state.specs.Tasks.{wait_data};
 ghost use Rattle.trace_summary.specs.Summaries.{summary_state};
 
@@ -13,6 +13,7 @@ use crate::counts::TaskCounts;
 use crate::stretch::Stretch;
 use crate::summary::{Summary, TaskSummary, share};
 use crate::times::TaskTimes;
+use crate::usage::{ObjectKind, Usage};
 use board_changes::Awaited;
 use serde_json::Value;
 use std::alloc::{AllocError, Global};
@@ -143,6 +144,41 @@ fn tasks_value(alloc: Global, all: u64, tasks: &[TaskSummary]) -> Result<Value, 
     Ok(items.finish())
 }
 
+// The word for a kind of object.
+fn kind_word(kind: ObjectKind) -> &'static str
+    ensures { result.now ≡ kind_word_lem kind }
+{
+    match kind {
+        ObjectKind::Mutex => "mutex",
+        ObjectKind::Queue => "queue",
+        ObjectKind::Slot => "slot",
+    }
+}
+
+// How an object was used.
+fn usage_value(alloc: Global, usage: &Usage) -> Result<Value, AllocError>
+    ensures { IfOk result (λ v. view v ≡ usage_data usage.now) }
+{
+    let mut members = Members::new(alloc);
+    members.put_word("object", kind_word(usage.object.kind))?;
+    members.put_number("id", u64::from(usage.object.id))?;
+    members.put_number("in", usage.entries)?;
+    members.put_number("out", usage.exits)?;
+    members.put_number("most", usage.most)?;
+    Ok(members.finish())
+}
+
+// How objects were used.
+fn uses_value(alloc: Global, uses: &[Usage]) -> Result<Value, AllocError>
+    ensures { IfOk result (λ v. view v ≡ list_of usage_data uses.now) }
+{
+    let mut items = Items::new(alloc);
+    for usage in uses {
+        items.add(usage_value(alloc, usage)?)?;
+    }
+    Ok(items.finish())
+}
+
 // Adds the figures of the run.
 fn add_run(members: &mut Members, summary: &Summary) -> Result<(), AllocError>
     ensures { OnOk result (members_in members.new
@@ -155,7 +191,7 @@ fn add_run(members: &mut Members, summary: &Summary) -> Result<(), AllocError>
     members.put_number("idle", summary.idle)
 }
 
-// The run and its tasks.
+// The run, its tasks and its objects.
 fn summary_value(alloc: Global, summary: &Summary) -> Result<Value, AllocError>
     ensures { IfOk result (λ v. view v ≡ summary_data (summary_state summary.now)) }
 {
@@ -163,6 +199,8 @@ fn summary_value(alloc: Global, summary: &Summary) -> Result<Value, AllocError>
     add_run(&mut members, summary)?;
     let tasks = tasks_value(alloc, summary.steps, &summary.tasks)?;
     members.put("tasks", tasks)?;
+    let uses = uses_value(alloc, &summary.uses)?;
+    members.put("objects", uses)?;
     Ok(members.finish())
 }
 

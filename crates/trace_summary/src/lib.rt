@@ -12,6 +12,7 @@ mod summary;
 mod table;
 mod tally;
 mod times;
+mod usage;
 
 pub use counts::TaskCounts;
 pub use json::summary_text;
@@ -21,3 +22,4 @@ pub use summary::{Summary, TaskSummary, share};
 pub use table::table_text;
 pub use tally::Tally;
 pub use times::{RunSpans, TaskTimes};
+pub use usage::{Object, ObjectKind, Usage};

@@ -5,6 +5,7 @@ ghost use Rattle.trace_summary.specs.Figures.{share as share_lem};
 
 use crate::counts::TaskCounts;
 use crate::times::TaskTimes;
+use crate::usage::Usage;
 use wind_base::ShortName;
 
 /// A task of a run, with its figures.
@@ -35,6 +36,8 @@ pub struct Summary {
     pub idle: u64,
     /// Its tasks, also those that are gone, in the order in which they appear.
     pub tasks: Vec<TaskSummary>,
+    /// How mutexes, queues and device slots were used, in the order in which they appear.
+    pub uses: Vec<Usage>,
 }
 
 /// The share that some steps have in all steps, in tenths of a percent, rounded down.

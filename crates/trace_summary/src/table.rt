@@ -2,6 +2,7 @@
 
 use crate::stretch::Stretch;
 use crate::summary::{Summary, TaskSummary, share};
+use crate::usage::{Object, ObjectKind, Usage};
 use std::alloc::Global;
 use trace_text::{add, add_awaited, add_decimal, add_escaped, add_wide};
 use wind_base::NoMemory;
@@ -21,6 +22,9 @@ const HEADS: [&str; 6] = [
 
 // Those of the second table.
 const TIME_HEADS: [&str; 4] = ["wait", "ready", "response", "inherited"];
+
+// Those of the third table, after which the object comes.
+const USE_HEADS: [&str; 3] = ["in", "out", "most"];
 
 // Adds spaces, so that what begins at `start` fills its column.
 fn fill(text: &mut Vec<u8>, start: usize) -> Result<(), NoMemory> {
@@ -48,14 +52,15 @@ fn add_share(text: &mut Vec<u8>, tenths: u64) -> Result<(), NoMemory> {
     fill(text, start)
 }
 
-// Adds the heads of the columns, and that of the tasks.
-fn add_heads(text: &mut Vec<u8>, heads: &[&str]) -> Result<(), NoMemory> {
+// Adds the heads of the columns, and that of the last one.
+fn add_heads(text: &mut Vec<u8>, heads: &[&str], last: &str) -> Result<(), NoMemory> {
     for head in heads {
         let start = text.len();
         add(text, head.as_bytes())?;
         fill(text, start)?;
     }
-    add(text, b"task\n")
+    add(text, last.as_bytes())?;
+    add(text, b"\n")
 }
 
 // Adds a time in its column.
@@ -136,7 +141,7 @@ fn add_run(text: &mut Vec<u8>, summary: &Summary) -> Result<(), NoMemory> {
 
 // Adds the table of what was counted of each task.
 fn add_counts(text: &mut Vec<u8>, summary: &Summary) -> Result<(), NoMemory> {
-    add_heads(text, &HEADS)?;
+    add_heads(text, &HEADS, "task")?;
     for task in &summary.tasks {
         add_task(text, summary.steps, task)?;
     }
@@ -145,18 +150,48 @@ fn add_counts(text: &mut Vec<u8>, summary: &Summary) -> Result<(), NoMemory> {
 
 // Adds the table of the longest times of each task.
 fn add_longest(text: &mut Vec<u8>, tasks: &[TaskSummary]) -> Result<(), NoMemory> {
-    add_heads(text, &TIME_HEADS)?;
+    add_heads(text, &TIME_HEADS, "task")?;
     for task in tasks {
         add_times(text, task)?;
     }
     Ok(())
 }
 
-/// The text of the figures as two tables, each with a row for each task.
+// Adds a mutex, a queue or a slot.
+fn add_object_name(text: &mut Vec<u8>, object: Object) -> Result<(), NoMemory> {
+    match object.kind {
+        ObjectKind::Mutex => add(text, b"mutex ")?,
+        ObjectKind::Queue => add(text, b"queue ")?,
+        ObjectKind::Slot => add(text, b"slot ")?,
+    }
+    add_decimal(text, u64::from(object.id))
+}
+
+// Adds the row of an object.
+fn add_usage(text: &mut Vec<u8>, usage: &Usage) -> Result<(), NoMemory> {
+    add_number(text, usage.entries)?;
+    add_number(text, usage.exits)?;
+    add_number(text, usage.most)?;
+    add_object_name(text, usage.object)?;
+    add(text, b"\n")
+}
+
+// Adds the table of how objects were used.
+fn add_uses(text: &mut Vec<u8>, uses: &[Usage]) -> Result<(), NoMemory> {
+    add_heads(text, &USE_HEADS, "object")?;
+    for usage in uses {
+        add_usage(text, usage)?;
+    }
+    Ok(())
+}
+
+/// The text of the figures as three tables: the first two have a row for each task, the third one
+/// for each object.
 pub fn table_text(alloc: Global, summary: &Summary) -> Result<Vec<u8>, NoMemory> {
     let mut text = Vec::new(alloc);
     add_run(&mut text, summary)?;
     add_counts(&mut text, summary)?;
     add_longest(&mut text, &summary.tasks)?;
+    add_uses(&mut text, &summary.uses)?;
     Ok(text)
 }

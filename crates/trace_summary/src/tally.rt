@@ -6,7 +6,8 @@ ghost use Rattle.id_table.specs.Records.{StandsAt};
 ghost use Rattle.wind_base.specs.Limits.{longest_short_name};
 ghost use Rattle.board_changes.specs.declared.view.TaskView.{TaskView};
 ghost use Rattle.board_trace.specs.Runs.{Line, with_line};
-ghost use Rattle.trace_summary.specs.Adding.{added, are_distinct, noted, tally_id, timed, with_counts, with_task};
+ghost use Rattle.trace_summary.specs.Adding.{added, are_distinct, tally_id, timed, with_counts, with_task};
+ghost use Rattle.trace_summary.specs.Noting.{noted};
 ghost use Rattle.trace_summary.specs.Times.{span_lists};
 ghost use Rattle.trace_summary.specs.Figures.{calls_in as calls_in_lem, idle_in as idle_in_lem, ticks_in as ticks_in_lem};
 ghost use Rattle.trace_summary.specs.Summaries.{summary_of, summary_state, tally_of, tally_state};
@@ -15,6 +16,7 @@ use crate::counts::{TaskCounts, counts_in, none};
 use crate::list::push;
 use crate::summary::{Summary, TaskSummary};
 use crate::times::{RunSpans, times_of};
+use crate::usage::{Usage, add_usage, copied};
 use board_changes::TaskView;
 use board_trace::{Happening, Subject, subject_of};
 use std::alloc::Global;
@@ -35,6 +37,7 @@ pub struct Tally {
     calls: u64,
     idle: u64,
     tasks: Vec<TaskTally>,
+    uses: Vec<Usage>,
 }
 
 // One for a tick.
@@ -202,6 +205,7 @@ impl Tally {
             calls: 0,
             idle: 0,
             tasks,
+            uses: Vec::new(alloc),
         })
     }
 
@@ -214,6 +218,7 @@ impl Tally {
         self.ticks = self.ticks.saturating_add(ticks_in(happening));
         self.calls = self.calls.saturating_add(calls_in(happening));
         self.idle = self.idle.saturating_add(idle_in(time, happening));
+        add_usage(&mut self.uses, happening)?;
         add_told(
             &mut self.tasks,
             subject_of(happening),
@@ -250,13 +255,16 @@ impl Tally {
             → tally_state self.now ≡ tally_of views lines
             → summary_state r ≡ summary_of views lines (span_lists spans.now) time steps) }
     {
+        let tasks = summaries(alloc, &self.tasks, spans)?;
+        let uses = copied(alloc, &self.uses)?;
         Ok(Summary {
             time,
             steps,
             ticks: self.ticks,
             calls: self.calls,
             idle: self.idle,
-            tasks: summaries(alloc, &self.tasks, spans)?,
+            tasks,
+            uses,
         })
     }
 }

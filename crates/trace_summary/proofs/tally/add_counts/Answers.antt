@@ -1,8 +1,8 @@
-use Rattle.std.proofs.Common.{◌≡◌, ℕ, ◌≤◌, ◌++◌, List, length, map, take, drop, sym, ap, ap₂, ◌∙◌}
-use Rattle.std.proofs.Math.ListN.{drop_of_length-le, set}
-use Rattle.std.proofs.lemmas.List.{append-nil, take_all}
+use Rattle.std.proofs.Common.{sym, ap, ◌∙◌}
+use Rattle.std.proofs.Math.ListN.{set}
 use Rattle.std.proofs.lemmas.List.Edits.{map_over_more}
 use Rattle.trace_summary.specs.Adding.{added}
+use Rattle.trace_summary.proofs.Mapping.{all_over}
 use Rattle.trace_summary.proofs.tally.add_counts.Goals as goal
 
 -- one more task
@@ -11,10 +11,6 @@ loop-task-preserved c =
     let f = added c.args.id c.args.more in
     ap (set c.loop-task.tasks c.loop-task.task-index) (c.add.ensures ∙ ap f (sym c.task-item.is))
     ∙ map_over_more f c.args.tasks.now c.loop-task.tasks c.loop-task.task-index c.task-item.result c.loop-task-test.true c.loop-task.invariant c.task-item.is
-
--- all tasks
-all_over : {X : Type 0} (f : X → X) (xs : List X) (i : ℕ) → length xs ≤ i → map f (take i xs) ++ drop i xs ≡ map f xs
-all_over f xs i end = ap₂ (λ a b. map f a ++ b) (take_all i xs end) (drop_of_length-le xs end) ∙ append-nil (map f xs)
 
 pub returns : goal.returns
 returns c = c.loop-task.invariant ∙ all_over (added c.args.id c.args.more) c.args.tasks.now c.loop-task.task-index c.loop-task-test.false

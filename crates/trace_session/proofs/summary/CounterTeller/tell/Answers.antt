@@ -1,12 +1,26 @@
 use Rattle.std.proofs.Common.{ap, ◌∙◌}
+use Rattle.wind_session.specs.BoardPlayerSeen.{board_by}
+use Rattle.board_trace.specs.Before.{before_step}
+use Rattle.board_trace.specs.Runs.{lines_of}
 use Rattle.board_trace.specs.Snapshots.{snapshot_of}
+use Rattle.board_trace.specs.declared.moment.BeforeStep.{BeforeStep}
 use Rattle.trace_summary.specs.Summaries.{tally_of}
+use Rattle.trace_session.specs.Watches.{watch_state}
+use Rattle.trace_session.specs.Watching.{WatchState, watched_by}
 use Rattle.trace_session.proofs.Counting.{all_now}
+use Rattle.trace_session.proofs.Watched.{watched_now}
 use Rattle.trace_session.proofs.summary.CounterTeller.tell.Goals as goal
 
 pub returns-clause-tells : goal.returns-clause-tells
-returns-clause-tells g c = λ done first said next s u i is ready on holds. (
-  holds.0,
-  c.in_ok-add_step.ensures.tally (next i) u _ _ is ready on.replied holds.1
-      ∙ ap (tally_of (snapshot_of s.world).tasks) (all_now said next s u _ _ i on),
-)
+returns-clause-tells g c =
+    let state = board_by (λ d. (goal.Device-dyn g (d.vtable, d.value)).kind_of d.value) (λ d. (goal.Device-dyn g (d.vtable, d.value)).words_of d.value) in
+    let new = state c.args.board.now in
+    λ done first said next s u i is ready on holds. (
+      holds.0,
+      c.in_ok-add_step.ensures.tally (next i) u (snapshot_of s.world).tasks (lines_of said s i) is ready on.replied holds.1
+          ∙ ap (tally_of (snapshot_of s.world).tasks) (all_now said next s u _ _ i on),
+      c.in_ok-add_step.ensures.watch
+          ∙ ap (λ (b : BeforeStep). watched_by b (watch_state c.args.self.now.watch) new) is
+          ∙ ap (λ (w : WatchState). watched_by (before_step u) w new) holds.2
+          ∙ watched_now said next s u new _ i on,
+    )

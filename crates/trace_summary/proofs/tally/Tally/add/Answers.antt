@@ -1,6 +1,7 @@
 use Rattle.std.proofs.Common.{ap, ◌∙◌}
 use Rattle.std.proofs.lemmas.Result.{on_ok_weaker}
-use Rattle.trace_summary.specs.Adding.{are_distinct, noted}
+use Rattle.trace_summary.specs.Adding.{are_distinct}
+use Rattle.trace_summary.specs.Noting.{noted}
 use Rattle.trace_summary.specs.Summaries.{TallyState}
 use Rattle.trace_summary.proofs.Distinct.{rows_distinct}
 use Rattle.trace_summary.proofs.Noting.{noted_line}

@@ -3,11 +3,12 @@ use Rattle.std.proofs.Math.ListN.{drop_of_length-le}
 use Rattle.trace_summary.specs.Adding.{with_opening, with_task}
 use Rattle.trace_summary.specs.Summaries.{TallyState}
 use Rattle.trace_summary.specs.declared.tally.TaskTally.{TaskTally}
+use Rattle.trace_summary.specs.declared.usage.Usage.{Usage}
 use Rattle.trace_summary.proofs.Distinct.{one_opened, opened}
 use Rattle.trace_summary.proofs.tally.Tally.new.Goals as goal
 
-abbrev opening_tally : List TaskTally → TallyState
-opening_tally tasks = record { ticks = 0; calls = 0; idle = 0; tasks = tasks }
+abbrev opening_tally : List TaskTally → List Usage → TallyState
+opening_tally tasks uses = record { ticks = 0; calls = 0; idle = 0; tasks = tasks; uses = uses }
 
 -- one more task
 pub loop-view-preserved : goal.loop-view-preserved
@@ -22,5 +23,5 @@ loop-view-preserved c =
 pub returns : goal.returns
 returns c =
     let views = c.args.views.now in
-    ap opening_tally
-    (ap (λ vs. with_opening vs c.loop-view.tasks.items) (sym (drop_of_length-le views c.loop-view-test.false)) ∙ c.loop-view.invariant ∙ opened views)
+    ap₂ opening_tally
+    (ap (λ vs. with_opening vs c.loop-view.tasks.items) (sym (drop_of_length-le views c.loop-view-test.false)) ∙ c.loop-view.invariant ∙ opened views) c.new.ensures.items
