@@ -1,6 +1,8 @@
 pub mod Counting
+pub mod Going
 pub mod Lists
 pub mod Rows
+pub mod Settled
 pub mod Tables
 pub mod Texts
 pub mod Walking

@@ -1,6 +1,7 @@
 -- The text of a coverage, and the coverage that is kept.
 use Rattle.std.proofs.Common.{◌≡◌, ℕ, true, false, not, cond, List, [], ◌∷◌, ◌++◌, map, Option, None, Some, Result, Ok, Err, refl, sym, ap, ap₂, subst, ◌∙◌, append_assoc}
 use Rattle.std.specs.Prelude.{OnOk}
+use Rattle.std.proofs.lemmas.List.{append-nil}
 use Rattle.module_loader.specs.declared.module.LoadedModule.{LoadedModule}
 use Rattle.trace_coverage.specs.Covered.{CoverageState, CoveredState, is_live, leaving, staying, with_executed, with_new, with_table, with_word}
 use Rattle.trace_coverage.specs.Text.{Holds, Range, coverage_text, module_text, modules_text, range_line, range_lines, texts_of_gone}
@@ -27,27 +28,39 @@ pub ok_leads : {A E : Type 0} (r : Result A E) (P Q : Type 0) → (P → Q) → 
 ok_leads (Ok x) P Q f h = f h
 ok_leads (Err e) P Q f h = tt
 
-module _ (old new : Coverage) (c : CoverageState) (holds : Holds old c) where
+module _ (old new : Coverage) (given : List ℕ) (c : CoverageState) (holds : Holds old given c) where
   -- an instruction was executed
-  pub held_executed : (o : Option ℕ) (a : ℕ) → o ≡ Some a → new.live.items ≡ map (with_word a) old.live.items → new.gone.items ≡ old.gone.items → Holds new (with_executed o c)
+  pub held_executed : (o : Option ℕ) (a : ℕ) → o ≡ Some a → new.live.items ≡ map (with_word a) old.live.items → new.gone.items ≡ old.gone.items → Holds new given (with_executed o c)
   held_executed o a is live gone =
-      subst (λ (p : Option ℕ). Holds new (with_executed p c)) (sym is) (record { live = live ∙ ap (map (with_word a)) holds.live; gone = gone ∙ holds.gone })
+      subst (λ (p : Option ℕ). Holds new given (with_executed p c)) (sym is)
+      (record { live = live ∙ ap (map (with_word a)) holds.live; gone = ap (λ (t : List ℕ). given ++ t) gone ∙ holds.gone })
 
   -- none was
-  pub held_same : (o : Option ℕ) → o ≡ None → Holds old (with_executed o c)
-  held_same o is = subst (λ (p : Option ℕ). Holds old (with_executed p c)) (sym is) holds
+  pub held_same : (o : Option ℕ) → o ≡ None → Holds old given (with_executed o c)
+  held_same o is = subst (λ (p : Option ℕ). Holds old given (with_executed p c)) (sym is) holds
 
   -- the table has these modules now
   pub held_table : (rows : List (ℕ × LoadedModule)) (stayed : List CoveredState) → new.gone.items ≡ old.gone.items ++ texts_of_gone rows old.live.items
-      → stayed ≡ staying rows old.live.items → new.live.items ≡ with_new rows stayed → Holds new (with_table rows c)
+      → stayed ≡ staying rows old.live.items → new.live.items ≡ with_new rows stayed → Holds new given (with_table rows c)
   held_table rows stayed gone kept live = record {
     live = live ∙ ap (with_new rows) (kept ∙ ap (staying rows) holds.live);
     gone =
-        gone
+        ap (λ (t : List ℕ). given ++ t) gone
+        ∙ sym (append_assoc given old.gone.items (texts_of_gone rows old.live.items))
         ∙ ap₂ (λ (s t : List ℕ). s ++ t) holds.gone (ap (texts_of_gone rows) holds.live ∙ texts_gone rows c.live)
         ∙ sym (modules_append c.gone (leaving rows c.live));
   }
 
   -- the text of both
-  pub held_text : (text : List ℕ) → text ≡ old.gone.items ++ modules_text old.live.items → text ≡ coverage_text c
-  held_text text is = is ∙ ap₂ (λ (s t : List ℕ). s ++ t) holds.gone (ap modules_text holds.live)
+  pub held_text : (text : List ℕ) → text ≡ old.gone.items ++ modules_text old.live.items → given ++ text ≡ coverage_text c
+  held_text text is =
+      ap (λ (t : List ℕ). given ++ t) is
+      ∙ sym (append_assoc given old.gone.items (modules_text old.live.items))
+      ∙ ap₂ (λ (s t : List ℕ). s ++ t) holds.gone (ap modules_text holds.live)
+
+  -- the text was put
+  pub held_put : new.live.items ≡ old.live.items → new.gone.items ≡ [] → Holds new (given ++ old.gone.items) c
+  held_put live gone = record {
+    live = live ∙ holds.live;
+    gone = ap (λ (t : List ℕ). (given ++ old.gone.items) ++ t) gone ∙ append-nil (given ++ old.gone.items) ∙ holds.gone;
+  }

@@ -1,3 +1,4 @@
+pub mod Bursts
 pub mod Covered
 pub mod Executed
 pub mod Listed

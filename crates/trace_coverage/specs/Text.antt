@@ -69,7 +69,8 @@ abbrev pub texts_of_gone : List (ℕ × LoadedModule) → List CoveredState → 
 texts_of_gone rows [] = []
 texts_of_gone rows (m ∷ ms) = text_if_gone rows m ++ texts_of_gone rows ms
 
--- a coverage is kept: its modules that are in the table, and the text of those that were unloaded
-pub record Holds (coverage : Coverage) (c : CoverageState) : Type 0 where
+-- a coverage is kept: its modules that are in the table, and of the text of those that were unloaded what follows this
+-- given part
+pub record Holds (coverage : Coverage) (given : List ℕ) (c : CoverageState) : Type 0 where
   pub live : coverage.live.items ≡ c.live
-  pub gone : coverage.gone.items ≡ modules_text c.gone
+  pub gone : given ++ coverage.gone.items ≡ modules_text c.gone

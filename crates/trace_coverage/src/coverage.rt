@@ -1,6 +1,6 @@
 //! The coverage of a run, kept while the run is made.
 
-ghost use Rattle.std.specs.Prelude.{◌≡◌, [], IfOk, OnOk};
+ghost use Rattle.std.specs.Prelude.{◌≡◌, ◌++◌, ℕ, List, [], IfOk, OnOk};
 ghost use Rattle.trace_coverage.specs.Covered.{CoverageState, with_executed, with_table};
 ghost use Rattle.trace_coverage.specs.Text.{Holds, coverage_text};
 
@@ -12,7 +12,7 @@ use std::alloc::Global;
 use wind_base::NoMemory;
 
 /// The coverage of a run: the modules that are in the table, and the text of those that were
-/// unloaded.
+/// unloaded, as far as it wasn't put.
 #[derive(Drop)]
 pub struct Coverage {
     alloc: Global,
@@ -23,7 +23,7 @@ pub struct Coverage {
 impl Coverage {
     /// The coverage before the first step.
     pub fn new(alloc: Global, modules: &Modules) -> Result<Coverage, NoMemory>
-        ensures { IfOk result (λ coverage. Holds coverage
+        ensures { IfOk result (λ coverage. Holds coverage []
             (with_table modules.now.rows (record { live = []; gone = [] }))) }
     {
         let live = Vec::new(alloc);
@@ -35,7 +35,8 @@ impl Coverage {
 
     /// The instruction at this address was executed, if there is one.
     pub fn execute(&mut self, at: Option<u32>)
-        ensures { (c : CoverageState) → Holds self.old c → Holds self.new (with_executed at c) }
+        ensures { (given : List ℕ) (c : CoverageState) → Holds self.old given c
+            → Holds self.new given (with_executed at c) }
     {
         let Some(at) = at else {
             return;
@@ -45,17 +46,33 @@ impl Coverage {
 
     /// The table has these modules now.
     pub fn follow(&mut self, modules: &Modules) -> Result<(), NoMemory>
-        ensures { OnOk result ((c : CoverageState) → Holds self.old c
-            → Holds self.new (with_table modules.now.rows c)) }
+        ensures { OnOk result ((given : List ℕ) (c : CoverageState) → Holds self.old given c
+            → Holds self.new given (with_table modules.now.rows c)) }
     {
         add_gone(&mut self.gone, &self.live, modules)?;
         drop_gone(&mut self.live, modules);
         add_new(self.alloc, &mut self.live, modules)
     }
 
-    /// The text of the coverage.
+    /// The text of the modules that were unloaded, as far as it wasn't put.
+    pub fn text(&self) -> &[u8]
+        ensures { result.now ≡ self.now.gone.items }
+    {
+        &self.gone
+    }
+
+    /// That text was put.
+    pub fn clear_text(&mut self)
+        ensures { (given : List ℕ) (c : CoverageState) → Holds self.old given c
+            → Holds self.new (given ++ self.old.gone.items) c }
+    {
+        self.gone.clear();
+    }
+
+    /// The text of the coverage, as far as it wasn't put.
     pub fn into_text(self) -> Result<Vec<u8>, NoMemory>
-        ensures { IfOk result (λ text. (c : CoverageState) → Holds self c → text.items ≡ coverage_text c) }
+        ensures { IfOk result (λ text. (given : List ℕ) (c : CoverageState) → Holds self given c
+            → given ++ text.items ≡ coverage_text c) }
     {
         let Coverage {
             alloc: _,

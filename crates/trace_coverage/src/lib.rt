@@ -1,6 +1,7 @@
 //! Which words of the loaded modules a run executes.
 #![tactic(auto)]
 
+mod bursts;
 mod coverage;
 mod covered;
 mod executed;
