@@ -54,10 +54,6 @@ some_is a b e = cc
 pub burst_counted : SilentLaw → (u t : State) (k : ℕ) → SilentSteps k u t → t.steps ≡ u.steps + k
 burst_counted law u t k steps = (law nothing_said u u t 0 k refl steps).counted
 
--- none leaves the state
-pub none_made : (k : ℕ) (u t : State) → k ≡ 0 → SilentSteps k u t → t ≡ u
-none_made k u t none steps = let P : ℕ → Type 0 = λ n. SilentSteps n u t in subst P none steps
-
 -- one is a silent step
 one_made : (k : ℕ) (u t : State) → 0 < k → k ≤ 1 → SilentSteps k u t → IsSilentStep u t
 one_made k u t some few steps =

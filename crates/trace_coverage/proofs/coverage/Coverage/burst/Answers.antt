@@ -45,3 +45,12 @@ loop-made-preserved g c =
       counted = omega (arith, sum, c.loop-made.invariant.counted, burst_counted c.silent_law.ensures now new count c.advance-count.ensures.made);
       within = omega (arith, c.loop-made-test.true);
     }
+
+-- no further one was made
+pub returns-then-count-eq0-clause-covers : goal.returns-then-count-eq0-clause-covers
+returns-then-count-eq0-clause-covers g c =
+    let state = board_by (λ d. (goal.Device-dyn g (d.vtable, d.value)).kind_of d.value) (λ d. (goal.Device-dyn g (d.vtable, d.value)).words_of d.value) in
+    let made = c.loop-made.made in
+    let count = c.advance-count.result in
+    let sum : made + count ≡ made = omega (arith, c.if-count-eq0.true) in
+    covers_both c.silent_law.ensures c.args.self.now c.loop-made.self c.advance-count.new.self (state c.args.board.now) (state c.loop-made.board) made count made sum c.loop-made.invariant.steps c.loop-made.invariant.covers c.advance-count.ensures.covers
