@@ -4,7 +4,7 @@ use Rattle.wind_machine.specs.State.{State}
 use Rattle.wind_machine.specs.Run.{Answers}
 use Rattle.wind_session.specs.declared.run.RunEnd.{RunEnd}
 use Rattle.trace_session.specs.Choice.{ChoiceState}
-use Rattle.trace_session.specs.Covering.{TellsCoverage}
+use Rattle.trace_session.specs.Covering.{TellsCoverage, TellsCoveragePart}
 use Rattle.trace_session.specs.Summing.{TellsSummary, TellsTable}
 use Rattle.trace_session.specs.Traced.{Alone, IsLastObject, IsObjectOf, TellsAreas, TellsEvents, TellsLines, TellsNothing, TellsPart, TellsSome, TellsState}
 use Rattle.trace_session.specs.declared.forms.Form.{Form}
@@ -28,6 +28,6 @@ TellsLess forms.Events c start old new = TellsPart c start old new
 TellsLess forms.JsonLines c start old new = TellsSome IsObjectOf c start old new
 TellsLess forms.Timeline c start old new = TellsNothing
 TellsLess forms.State c start old new = TellsNothing
-TellsLess forms.Coverage c start old new = TellsNothing
+TellsLess forms.Coverage c start old new = TellsCoveragePart start old new
 TellsLess forms.Summary c start old new = TellsNothing
 TellsLess forms.SummaryJson c start old new = TellsNothing
