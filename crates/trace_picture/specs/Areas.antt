@@ -1,5 +1,5 @@
 -- A picture as a list of areas.
-use Rattle.std.specs.Prelude.{if◌then◌else◌, List, [], ◌∷◌, ◌++◌}
+use Rattle.std.specs.Prelude.{if◌then◌else◌, List, [], ◌∷◌, ◌++◌, Option, None, Some}
 use Rattle.board_changes.specs.declared.spans.Span.{Span}
 use Rattle.trace_picture.specs.declared.areas.Area.{Area}
 use Rattle.trace_picture.specs.declared.areas.AreaKind.{AreaKind}
@@ -9,11 +9,16 @@ use Rattle.trace_picture.specs.declared.areas.AreaKind.TheVariants.{Bar, Band}
 abbrev pub area_of : AreaKind → Span → Area
 area_of kind s = record { row = s.who; from = s.from; to = s.to; kind = kind; title = s.look }
 
--- a span has a bar, and a band if its task inherits a priority
-abbrev pub areas_of_span : Span → List Area
-areas_of_span s = area_of Bar s ∷ (if s.look.inherits then area_of Band s ∷ [] else [])
+-- a band is there if the task inherits a priority
+abbrev pub band_of : Span → Option Area
+band_of s = if s.look.inherits then Some (area_of Band s) else None
+
+-- a bar, and the band if there is one
+abbrev pub with_band : Area → Option Area → List Area
+with_band bar None = bar ∷ []
+with_band bar (Some band) = bar ∷ band ∷ []
 
 -- the areas of spans, in their order
 abbrev pub areas_of : List Span → List Area
 areas_of [] = []
-areas_of (s ∷ ss) = areas_of_span s ++ areas_of ss
+areas_of (s ∷ ss) = with_band (area_of Bar s) (band_of s) ++ areas_of ss

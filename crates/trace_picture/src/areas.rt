@@ -1,7 +1,8 @@
 //! A picture as a list of areas.
 
-ghost use Rattle.std.specs.Prelude.{◌≡◌, ◌++◌, ◌∷◌, [], IfOk, OnOk};
-ghost use Rattle.trace_picture.specs.Areas.{area_of, areas_of as areas_of_lem, areas_of_span};
+ghost use Rattle.std.specs.Prelude.{◌≡◌, ◌++◌, ◌∷◌, [], OnOk};
+ghost use Rattle.trace_picture.specs.Areas.{area_of as area_of_lem, band_of as band_of_lem};
+ghost use Rattle.trace_picture.specs.declared.areas.AreaKind.TheVariants as kinds;
 
 use crate::list::push;
 use board_changes::{Awaited, Look, Span};
@@ -22,16 +23,17 @@ pub enum AreaKind {
 /// A stretch of board time in the row of a task.
 #[derive(Clone, Copy, Debug, PartialEq, Eq)]
 pub struct Area {
+    // fields lie in this order, and small ones together take less room
     /// The task whose row it is in.
     pub row: Ident,
+    /// What the task did.
+    pub title: Look,
+    /// What it is drawn as.
+    pub kind: AreaKind,
     /// From when, in board time.
     pub from: u128,
     /// Until when; it is after `from`.
     pub to: u128,
-    /// What it is drawn as.
-    pub kind: AreaKind,
-    /// What the task did.
-    pub title: Look,
 }
 
 /// The areas of a picture.
@@ -50,6 +52,27 @@ impl Model for Areas {
 }
 
 impl Areas {
+    /// No areas.
+    pub fn new(alloc: Global) -> Areas
+        ensures { result ≡ [] }
+    {
+        Areas {
+            list: Vec::new(alloc),
+        }
+    }
+
+    /// Adds an area at the end.
+    pub fn add(&mut self, area: Area) -> Result<(), NoMemory>
+        ensures { OnOk result (self.new ≡ self.old ++ area ∷ []) }
+    {
+        let object: Option<Awaited> = area.title.object;
+        let title = Look {
+            object,
+            ..area.title
+        };
+        push(&mut self.list, Area { title, ..area })
+    }
+
     /// The areas, in the order in which their spans ended.
     pub fn list(&self) -> &[Area]
         ensures { result.now ≡ self.now }
@@ -58,12 +81,12 @@ impl Areas {
     }
 }
 
-// Adds the area of this kind that a span has.
-fn add_area(areas: &mut Vec<Area>, kind: AreaKind, span: &Span) -> Result<(), NoMemory>
-    ensures { OnOk result (areas.new.items ≡ areas.old.items ++ area_of kind span.now ∷ []) }
+// The area of this kind that a span has.
+fn area_of(kind: AreaKind, span: &Span) -> Area
+    ensures { result ≡ area_of_lem kind span.now }
 {
     let object: Option<Awaited> = span.look.object;
-    let area = Area {
+    Area {
         row: span.who,
         from: span.from,
         to: span.to,
@@ -72,28 +95,22 @@ fn add_area(areas: &mut Vec<Area>, kind: AreaKind, span: &Span) -> Result<(), No
             object,
             ..span.look
         },
-    };
-    push(areas, area)
+    }
 }
 
-// Adds the areas of a span: a bar, and a band if the task inherits a priority.
-fn add_span(areas: &mut Vec<Area>, span: &Span) -> Result<(), NoMemory>
-    ensures { OnOk result (areas.new.items ≡ areas.old.items ++ areas_of_span span.now) }
+/// The bar of a span.
+pub fn bar_of(span: &Span) -> Area
+    ensures { result ≡ area_of_lem kinds.Bar span.now }
 {
-    add_area(areas, AreaKind::Bar, span)?;
+    area_of(AreaKind::Bar, span)
+}
+
+/// The band of a span, if its task inherits a priority.
+pub fn band_of(span: &Span) -> Option<Area>
+    ensures { result ≡ band_of_lem span.now }
+{
     if span.look.inherits {
-        return add_area(areas, AreaKind::Band, span);
+        return Some(area_of(AreaKind::Band, span));
     }
-    Ok(())
-}
-
-/// The areas of spans, in their order.
-pub fn areas_of(alloc: Global, spans: &[Span]) -> Result<Areas, NoMemory>
-    ensures { IfOk result (λ areas. areas ≡ areas_of_lem spans.now) }
-{
-    let mut list = Vec::new(alloc);
-    for span in spans {
-        add_span(&mut list, span)?;
-    }
-    Ok(Areas { list })
+    None
 }

@@ -28,6 +28,9 @@ pub struct Picture<'a> {
     pub owners: &'a [Ownership],
     /// The lengths of queues, in order of time.
     pub lengths: &'a [QueueLength],
+    /// The mutexes and the queues that get a row, if there is room.
+    pub mutexes: &'a [u32],
+    pub queues: &'a [u32],
     /// The times of the ticks.
     pub ticks: &'a [u128],
     /// The marks, in order of time.
@@ -166,6 +169,13 @@ fn add_rows(
     add_areas(alloc, text, picture, layout, scale)?;
     add_objects(text, picture, layout, scale)?;
     add_marks(alloc, text, picture, layout, scale)
+}
+
+/// Adds a picture of no step, which says so.
+pub fn add_empty_picture(text: &mut Vec<u8>) -> Result<(), NoMemory> {
+    add_head(text, TOP)?;
+    add_text(text, 500, TOP / 2, b"no step of the run is chosen")?;
+    add(text, b"</svg>\n")
 }
 
 /// Adds the picture, complete in itself.

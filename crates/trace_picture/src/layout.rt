@@ -5,7 +5,6 @@ ghost use Rattle.std.specs.Prelude.{◌<◌, ◌^◌};
 use crate::areas::Area;
 use crate::frame::Picture;
 use crate::list::push;
-use board_changes::Awaited;
 use id_table::Ident;
 use std::alloc::Global;
 use wind_base::{NoMemory, ShortName};
@@ -63,7 +62,7 @@ pub(crate) struct Layout {
     rows: Vec<Option<usize>>,
     /// How many rows the tasks have.
     pub(crate) task_rows: usize,
-    /// The mutexes and queues that a task waited for and that have a row, by rising id.
+    /// The mutexes and queues that have a row, by rising id.
     pub(crate) mutexes: Vec<u32>,
     pub(crate) queues: Vec<u32>,
     /// How many of them have none.
@@ -155,25 +154,14 @@ fn assign(alloc: Global, lives: &[Option<Life>]) -> Result<(Vec<Option<usize>>, 
     Ok((rows, ends.len()))
 }
 
-// Adds an id to these, unless it is one of them.
-fn note(ids: &mut Vec<u32>, id: u32) -> Result<(), NoMemory> {
-    if ids.last() == Some(&id) || ids.contains(&id) {
-        return Ok(());
+// Ids, by rising id.
+fn sorted(alloc: Global, ids: &[u32]) -> Result<Vec<u32>, NoMemory> {
+    let mut sorted = Vec::new(alloc);
+    if sorted.extend_from_slice(ids).is_err() {
+        return Err(NoMemory);
     }
-    push(ids, id)
-}
-
-// Notes what an area's task waits for, if it is a mutex or a queue.
-fn note_awaited(
-    mutexes: &mut Vec<u32>,
-    queues: &mut Vec<u32>,
-    object: &Option<Awaited>,
-) -> Result<(), NoMemory> {
-    match object {
-        Some(Awaited::Mutex(id)) => note(mutexes, id.get()),
-        Some(Awaited::Receiving(id) | Awaited::Sending(id)) => note(queues, id.get()),
-        _ => Ok(()),
-    }
+    sorted.sort()?;
+    Ok(sorted)
 }
 
 impl Layout {
@@ -184,16 +172,11 @@ impl Layout {
         let mut layout = Layout {
             rows,
             task_rows,
-            mutexes: Vec::new(alloc),
-            queues: Vec::new(alloc),
+            mutexes: sorted(alloc, picture.mutexes)?,
+            queues: sorted(alloc, picture.queues)?,
             left_out: 0,
             heights: TALL,
         };
-        for area in picture.areas {
-            note_awaited(&mut layout.mutexes, &mut layout.queues, &area.title.object)?;
-        }
-        layout.mutexes.sort()?;
-        layout.queues.sort()?;
         layout.leave_out();
         Ok(layout)
     }

@@ -16,8 +16,8 @@ mod svg;
 #[cfg(test)]
 mod tests;
 
-pub use areas::{Area, AreaKind, Areas, areas_of};
-pub use frame::{Picture, add_picture};
+pub use areas::{Area, AreaKind, Areas, band_of, bar_of};
+pub use frame::{Picture, add_empty_picture, add_picture};
 pub use layout::RowName;
 pub use marks::{Kind, Mark};
 pub use objects::{Ownership, QueueLength};

@@ -195,6 +195,15 @@ fn greatest(lengths: &[QueueLength], queue: u32) -> u32 {
     most
 }
 
+// The length of a queue at the start of the picture.
+fn first_length(lengths: &[QueueLength], queue: u32, start: u128) -> u32 {
+    let first = lengths.iter().find(|length| length.queue == queue);
+    match first {
+        Some(length) if length.time <= start => length.messages,
+        _ => 0,
+    }
+}
+
 // The step line of a queue up to a pixel: the least and the greatest length on it, and the last.
 #[derive(Clone, Copy)]
 struct Pen {
@@ -243,12 +252,12 @@ fn step(
     Ok(())
 }
 
-// Adds the beginning of the path of a queue.
-fn begin_path(text: &mut Vec<u8>, row: Row, most: u32) -> Result<(), NoMemory> {
+// Adds the beginning of the path of a queue, which has this length there.
+fn begin_path(text: &mut Vec<u8>, row: Row, length: u32, most: u32) -> Result<(), NoMemory> {
     add(text, b"<path class=\"length\" d=\"M")?;
     add_pixels(text, LEFT)?;
     add(text, b" ")?;
-    add_pixels(text, level(row, 0, most))
+    add_pixels(text, level(row, length, most))
 }
 
 // Adds the end of the path of a queue, with its title.
@@ -271,12 +280,13 @@ fn add_queue(
 ) -> Result<(), NoMemory> {
     add_label(text, row, b"queue ", queue)?;
     let most = greatest(lengths, queue);
-    begin_path(text, row, most)?;
+    let first = first_length(lengths, queue, row.scale.start());
+    begin_path(text, row, first, most)?;
     let mut pen = Pen {
         x: LEFT,
-        least: 0,
-        greatest: 0,
-        last: 0,
+        least: first,
+        greatest: first,
+        last: first,
     };
     for length in lengths {
         if length.queue == queue {

@@ -30,7 +30,8 @@ pub(crate) struct Row {
 // The areas of less than a pixel that begin on one pixel.
 #[derive(Clone, Copy)]
 struct Bucket {
-    // the first bar, whether there are more, and whether they are of several tasks
+    // the first area, whether there are more bars or, without bars, more bands, and whether they are of
+    // several tasks
     first: Option<Area>,
     has_more: bool,
     is_mixed: bool,
@@ -271,8 +272,8 @@ fn add_kept(
         add_shares(text, row, task, bucket)?;
         return add_shared_band(text, row, task, bucket);
     }
-    add_bar(text, row, task, first)?;
-    if bucket.inherited > 0 {
+    add_whole(text, row, task, first)?;
+    if first.kind == AreaKind::Bar && bucket.inherited > 0 {
         return add_band(text, row, task, first);
     }
     Ok(())
@@ -298,8 +299,8 @@ fn is_near(scale: Scale, bucket: &Bucket, area: &Area) -> bool {
     }
 }
 
-// Keeps a bar of less than a pixel.
-fn keep_bar(bucket: &mut Bucket, area: &Area) {
+// Keeps the first area, or notes that there are more.
+fn keep_more(bucket: &mut Bucket, area: &Area) {
     match &bucket.first {
         Some(first) => {
             bucket.is_mixed = bucket.is_mixed || first.row != area.row;
@@ -307,20 +308,39 @@ fn keep_bar(bucket: &mut Bucket, area: &Area) {
         }
         None => bucket.first = Some(*area),
     }
+    bucket.to = area.to;
+}
+
+// Keeps a bar of less than a pixel.
+fn keep_bar(bucket: &mut Bucket, area: &Area) {
+    keep_more(bucket, area);
     let place = place(area.title.standing);
     let time = area.to.saturating_sub(area.from);
     bucket.shares[place] = bucket.shares[place].saturating_add(time);
-    bucket.to = area.to;
+}
+
+// Whether a bar is kept that an area is the band of.
+fn has_bar_of(bucket: &Bucket, area: &Area) -> bool {
+    match &bucket.first {
+        Some(first) => first.kind == AreaKind::Bar && bucket.to == area.to,
+        None => false,
+    }
+}
+
+// Keeps a band of less than a pixel. Its bar is kept before it, if it is shown.
+fn keep_band(bucket: &mut Bucket, area: &Area) {
+    if !has_bar_of(bucket, area) {
+        keep_more(bucket, area);
+    }
+    let time = area.to.saturating_sub(area.from);
+    bucket.inherited = bucket.inherited.saturating_add(time);
 }
 
 // Keeps an area of less than a pixel.
 fn keep(bucket: &mut Bucket, area: &Area) {
     match area.kind {
         AreaKind::Bar => keep_bar(bucket, area),
-        AreaKind::Band => {
-            let time = area.to.saturating_sub(area.from);
-            bucket.inherited = bucket.inherited.saturating_add(time);
-        }
+        AreaKind::Band => keep_band(bucket, area),
     }
 }
 

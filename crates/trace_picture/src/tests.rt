@@ -4,12 +4,15 @@ use crate::layout::Layout;
 use crate::objects::add_objects;
 use crate::rows::{add_areas, add_names};
 use crate::scale::Scale;
-use crate::{Kind, Mark, Ownership, Picture, QueueLength, RowName, add_picture, areas_of};
+use crate::{
+    Areas, Kind, Mark, Ownership, Picture, QueueLength, RowName, add_picture, band_of, bar_of,
+};
 use board_changes::{Awaited, Look, Span, Standing};
 use id_table::Ident;
 use kernel_world::Actor;
+use std::alloc::Global;
 use std::test::Fail;
-use wind_base::ShortName;
+use wind_base::{NoMemory, ShortName};
 
 // A row of the tests.
 fn row(id: Ident, name: &[u8]) -> RowName {
@@ -36,6 +39,18 @@ fn span(who: Ident, look: Look, from: u128, to: u128) -> Span {
         from,
         to,
     }
+}
+
+// The areas of spans.
+fn areas_of(alloc: Global, spans: &[Span]) -> Result<Areas, NoMemory> {
+    let mut areas = Areas::new(alloc);
+    for span in spans {
+        areas.add(bar_of(span))?;
+        if let Some(band) = band_of(span) {
+            areas.add(band)?;
+        }
+    }
+    Ok(areas)
 }
 
 #[test]
@@ -78,6 +93,8 @@ fn draws_areas_and_marks(rt: HostRuntime) -> Result<(), Fail> {
         routines: &[(1, 2)],
         owners: &owners,
         lengths: &[],
+        mutexes: &[1],
+        queues: &[],
         ticks: &[3, 3],
         marks: &marks,
         start: 0,
@@ -159,6 +176,8 @@ fn divides_a_pixel(rt: HostRuntime) -> Result<(), Fail> {
         routines: &[],
         owners: &[],
         lengths: &[],
+        mutexes: &[],
+        queues: &[],
         ticks: &[],
         marks: &[],
         start: 0,
@@ -215,6 +234,8 @@ fn shares_rows_and_counts_messages(rt: HostRuntime) -> Result<(), Fail> {
         routines: &[],
         owners: &[],
         lengths: &lengths,
+        mutexes: &[],
+        queues: &[2],
         ticks: &[],
         marks: &[],
         start: 0,
