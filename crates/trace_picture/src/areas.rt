@@ -23,7 +23,7 @@ pub enum AreaKind {
 /// A stretch of board time in the row of a task.
 #[derive(Clone, Copy, Debug, PartialEq, Eq)]
 pub struct Area {
-    // fields lie in this order, and small ones together take less room
+    // small fields together take less room
     /// The task whose row it is in.
     pub row: Ident,
     /// What the task did.

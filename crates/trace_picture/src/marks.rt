@@ -24,12 +24,13 @@ pub enum Kind {
 /// A mark in the row of a task or of the interrupt level.
 #[derive(Clone, Copy)]
 pub struct Mark {
+    // small fields together take less room
     /// Whose row it is in.
     pub who: Actor,
-    /// Board time.
-    pub time: u128,
     /// What it stands for.
     pub kind: Kind,
+    /// Board time.
+    pub time: u128,
 }
 
 // Adds a step of a path.

@@ -25,12 +25,13 @@ pub struct Ownership {
 /// A change of the length of a queue.
 #[derive(Clone, Copy)]
 pub struct QueueLength {
+    // small fields together take less room
     /// The queue.
     pub queue: u32,
+    /// How many messages it holds from `time` on.
+    pub messages: u32,
     /// Board time.
     pub time: u128,
-    /// How many messages it holds from then on.
-    pub messages: u32,
 }
 
 // The width of a letter of an owner's name.

@@ -117,7 +117,7 @@ fn add_whole(text: &mut Vec<u8>, row: Row, task: &RowName, area: &Area) -> Resul
 
 // ---- several areas on a pixel
 
-// The time of all standings, or 1.
+// The time of all bars or, if bands without bars have more, that of the bands; at least 1.
 fn whole_time(bucket: &Bucket) -> u128
     ensures { 1 ≤ result }
 {
@@ -125,7 +125,7 @@ fn whole_time(bucket: &Bucket) -> u128
     for share in bucket.shares {
         sum = sum.saturating_add(share);
     }
-    sum.max(1)
+    sum.max(bucket.inherited).max(1)
 }
 
 // The part of a height that a share of a time has.

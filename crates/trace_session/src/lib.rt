@@ -33,5 +33,4 @@ pub use forms::{Form, trace_board};
 pub use laws::{everything_law, lines_law};
 pub use playing::trace;
 pub use program::trace_program;
-pub use shown::ShownAreas;
 pub use traced::{Product, TracedRun};
