@@ -1,8 +1,10 @@
+mod Clipping
 mod Ending
 pub mod Naming
 pub mod Replying
 mod Replaying
-mod Observing
+pub mod Observing
 pub mod Parts
+mod Raising
 mod Timing
 mod Trapping

@@ -1,5 +1,5 @@
 -- The observations of a run are in order.
-use Rattle.std.proofs.Common.{◌≡◌, ℕ, zero, suc, ◌<◌, ◌≤◌, Bool, true, false, cond, List, [], ◌∷◌, length, map, get_or, None, Some, refl, ap, ◌∙◌, arith}
+use Rattle.std.proofs.Common.{◌≡◌, ℕ, zero, suc, ◌+◌, ◌<◌, ◌≤◌, Bool, true, false, cond, List, [], ◌∷◌, length, map, get_or, None, Some, refl, sym, ap, subst, ◌∙◌, arith}
 use Rattle.std.specs.Prelude.{unwrap_or}
 use Rattle.std.specs.List.{list_any}
 use Rattle.std.proofs.lemmas.Bool.{ne_eqb}
@@ -17,8 +17,9 @@ use Rattle.wind_machine.specs.Run.{Answers, after}
 use Rattle.wind_machine.specs.State.{State}
 use Rattle.board_changes.specs.Spans.{view_of}
 use Rattle.board_changes.specs.Tiling.{AreDistinct, AreInOrder, OneRunsLaw, SaysOnce, TilingLaw, last_time, said_at, says_running, seen_at, spans_until}
+use Rattle.board_trace.proofs.Clipping.{none_past}
 use Rattle.board_trace.specs.Before.{before_step}
-use Rattle.board_trace.specs.Observed.{observation_of, observations}
+use Rattle.board_trace.specs.Observed.{PartTilingLaw, later, observation_of, observations, part_observations, part_spans}
 use Rattle.board_trace.specs.Snapshots.{snapshot_of, view_in}
 use Rattle.board_trace.specs.Steps.{is_instruction}
 
@@ -73,6 +74,13 @@ module _ (grows : TimeGrows) (said : Answers) (s : State) where
           | false ↦ (later, good_distinct v (good (suc k)), in_order k)
         ]
 
+-- the steps after the first m lead where those of the run lead
+pub later_state : (said : Answers) (s : State) (m j : ℕ) → after (later said m) (after said s m) j ≡ after said s (m + j)
+later_state said s m zero = let end : m ≡ m + 0 = omega arith in ap (after said s) end
+later_state said s m (suc j) =
+    let end : suc (m + j) ≡ m + suc j = omega arith in
+    ap (λ u. unwrap_or (machine_step (said (m + j)) u) u) (later_state said s m j) ∙ ap (after said s) end
+
 module _ (grows : TimeGrows) (run : RunLaw) (said : Answers) (setup : Setup) (console ticks : List ℕ) where
   abbrev start : State
   start = booted setup console (timetable_of ticks)
@@ -91,3 +99,25 @@ module _ (grows : TimeGrows) (run : RunLaw) (said : Answers) (setup : Setup) (co
   pub run_one : OneRunsLaw → (k t one other : ℕ) → t < (after said start k).time → runs k one t ≡ true → runs k other t ≡ true → one ≡ other
   run_one law k t one other within =
       law (observations said start k) (after said start k).time t one other (in_order grows said start all_good k) (last_up grows said start k) within
+
+  module _ (m n : ℕ) where
+    good_later : (j : ℕ) → Good (after (later said m) (after said start m) j)
+    good_later j = subst Good (sym (later_state said start m j)) (all_good (m + j))
+
+    part_in_order : AreInOrder (part_observations said start m n)
+    part_in_order = in_order grows (later said m) (after said start m) good_later n
+
+    part_up : last_time (part_observations said start m n) ≤ (after said start (m + n)).time
+    part_up = subst (λ (u : State). last_time (part_observations said start m n) ≤ u.time) (later_state said start m n) (last_up grows (later said m) (after said start m) n)
+
+    part_tiles : TilingLaw → (who t : ℕ) → t < (after said start (m + n)).time → SaysOnce (seen_at who t (part_observations said start m n)) (said_at who t (part_spans said start m n))
+    part_tiles tiles who t within = tiles (part_observations said start m n) (after said start (m + n)).time who t part_in_order part_up within
+
+    part_past : (who t : ℕ) → (after said start (m + n)).time ≤ t → said_at who t (part_spans said start m n) ≡ []
+    part_past who t late = none_past (part_observations said start m n) (after said start (m + n)).time who t part_in_order part_up late
+
+pub parts_tile : TimeGrows → RunLaw → TilingLaw → PartTilingLaw
+parts_tile grows run tiles = record {
+  within = λ said setup console ticks m n. part_tiles grows run said setup console ticks m n tiles;
+  past = λ said setup console ticks m n. part_past grows run said setup console ticks m n;
+}

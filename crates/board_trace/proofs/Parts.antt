@@ -25,7 +25,7 @@ use Rattle.board_trace.specs.declared.moment.AfterStep.{AfterStep}
 use Rattle.board_trace.specs.declared.happening.Happening.{Happening}
 use Rattle.board_trace.specs.declared.happening.Happening.TheVariants as told
 
--- P holds of each happening that isn't a call, a change, or an owner got or lost
+-- P holds of each happening that isn't a call, an exception, a change, or an owner got or lost
 pub record HoldsElse (P : Happening → Type 0) : Type 0 where
   pub tick : (tick : ℕ) → P (told.Tick tick)
   pub arrival : (count : ℕ) → P (told.Arrival count)
@@ -34,7 +34,6 @@ pub record HoldsElse (P : Happening → Type 0) : Type 0 where
   pub jump : (time : ℕ) → P (told.Jump time)
   pub file : (name : List ℕ) → P (told.File name)
   pub runs : (who : ℕ) (last : Option ℕ) → P (told.Runs who last)
-  pub exception : (who : Actor) (at : ℕ) (cause : Cause) → P (told.Exception who at cause)
   pub abort : P told.Abort
   pub queued : (queue : ℕ) (sender : Actor) → P (told.Queued queue sender)
   pub handed : (queue : ℕ) (sender : Actor) (receiver : ℕ) → P (told.HandedOver queue sender receiver)
@@ -53,6 +52,10 @@ module _ (P : Happening → Type 0) where
   pub each_both : (xs ys : List Happening) → Each xs → Each ys → Each (xs ++ ys)
   each_both [] ys a b = b
   each_both (x ∷ xs) ys a b = (a.0, each_both xs ys a.1 b)
+
+  -- it holds of exceptions
+  abbrev pub Raised : Type 0
+  Raised = (who : Actor) (at : ℕ) (cause : Cause) → P (told.Exception who at cause)
 
   each_if : (b : Bool) (h : Happening) → P h → Each (cond b (h ∷ []) [])
   each_if true h is = (is, tt)
@@ -105,14 +108,14 @@ module _ (P : Happening → Type 0) where
     each_switch last None = tt
     each_switch last (Some who) = elim (is_last last who) as (λ b. Each (cond b [] (told.Runs who last ∷ []))) [ true ↦ tt | false ↦ (is.runs who last, tt) ]
 
-    exceptions : (c : BeforeStep) (written : List ℕ) (who : Option Actor) (at : Option ℕ) (b : Bool) → Each (cond b (exception_told c written who at) [])
-    exceptions c written (Some who) (Some at) true = (is.exception who at (cause_of written at c.word c.target), tt)
-    exceptions c written (Some who) None true = tt
-    exceptions c written None at true = tt
-    exceptions c written who at false = tt
+    exceptions : Raised → (c : BeforeStep) (written : List ℕ) (who : Option Actor) (at : Option ℕ) (b : Bool) → Each (cond b (exception_told c written who at) [])
+    exceptions raised c written (Some who) (Some at) true = (raised who at (cause_of written at c.word c.target), tt)
+    exceptions raised c written (Some who) None true = tt
+    exceptions raised c written None at true = tt
+    exceptions raised c written who at false = tt
 
-    pub each_fault : (c : BeforeStep) (r : AfterStep) (written : List ℕ) (e : Bool) → Each (faults c r written e)
-    each_fault c r written e = each_both (cond e (exception_told c written c.actor c.at) []) (cond (is_abort c r e) (told.Abort ∷ []) []) (exceptions c written c.actor c.at e) (each_if (is_abort c r e) told.Abort is.abort)
+    pub each_fault : Raised → (c : BeforeStep) (r : AfterStep) (written : List ℕ) (e : Bool) → Each (faults c r written e)
+    each_fault raised c r written e = each_both (cond e (exception_told c written c.actor c.at) []) (cond (is_abort c r e) (told.Abort ∷ []) []) (exceptions raised c written c.actor c.at e) (each_if (is_abort c r e) told.Abort is.abort)
 
     sent : (sender : Actor) (queue : ℕ) (o : Option ℕ) → Each (sent_to sender queue o)
     sent sender queue None = (is.queued queue sender, tt)
@@ -158,10 +161,10 @@ module _ (P : Happening → Type 0) where
     each_instruction (Some who) = (is.instructions who 1, tt)
 
     -- what makes a step and how it goes
-    pub each_cause : ((who : Actor) (c : Call) (r : Reply) → P (told.Called who c r)) → (c : BeforeStep) (before after : SnapshotState) (r : AfterStep) (written : List ℕ) → Each (causes c before after r written)
-    each_cause calls c before after r written =
+    pub each_cause : ((who : Actor) (c : Call) (r : Reply) → P (told.Called who c r)) → Raised → (c : BeforeStep) (before after : SnapshotState) (r : AfterStep) (written : List ℕ) → Each (causes c before after r written)
+    each_cause calls raised c before after r written =
         let ends = faults c r written (is_exception c (has_written written)) in
         let call = called c.actor c.call r.reply in
         each_both (from_outside c.next c r) (switches before.last after.last ++ (call ++ ends)) (each_outside c.next c r)
         (each_both (switches before.last after.last) (call ++ ends) (each_switch before.last after.last)
-        (each_both call ends (each_call calls c.actor c.call r.reply) (each_fault c r written (is_exception c (has_written written)))))
+        (each_both call ends (each_call calls c.actor c.call r.reply) (each_fault raised c r written (is_exception c (has_written written)))))

@@ -54,7 +54,6 @@ no_changes = record {
   jump = λ time. refl;
   file = λ name. refl;
   runs = λ who last. refl;
-  exception = λ who at cause. refl;
   abort = refl;
   queued = λ queue sender. refl;
   handed = λ queue sender receiver. refl;
@@ -77,7 +76,7 @@ changes_are (c ∷ cs) = ap (λ xs. c ∷ xs) (changes_are cs)
 module _ (c : BeforeStep) (before after : SnapshotState) (r : AfterStep) (written : List ℕ) where
   causes_quiet : Quiet (causes c before after r written)
   causes_quiet =
-      quiet_by (causes c before after r written) (each_cause IsNoChange no_changes (λ who call reply. refl) c before after r written)
+      quiet_by (causes c before after r written) (each_cause IsNoChange no_changes (λ who call reply. refl) (λ who at cause. refl) c before after r written)
 
   effects_told : changes_told (effects c before after r written) ≡ changes c.next r.tick before after
   effects_told =

@@ -68,7 +68,6 @@ no_calls = record {
   jump = λ time. refl;
   file = λ name. refl;
   runs = λ who last. refl;
-  exception = λ who at cause. refl;
   abort = refl;
   queued = λ queue sender. refl;
   handed = λ queue sender receiver. refl;
@@ -110,7 +109,7 @@ module _ (c : BeforeStep) (before after : SnapshotState) (r : AfterStep) (writte
   step_tells rs tells =
       let ends = faults c r written (is_exception c (has_written written)) in
       let call = called c.actor c.call r.reply in
-      let rest : replies_in (call ++ ends) ≡ rs = joined call ends ∙ ap₂ (λ p q. p ++ q) tells (quiet_by ends (each_fault IsNoCall no_calls c r written (is_exception c (has_written written)))) ∙ append-nil rs in
+      let rest : replies_in (call ++ ends) ≡ rs = joined call ends ∙ ap₂ (λ p q. p ++ q) tells (quiet_by ends (each_fault IsNoCall no_calls (λ who at cause. refl) c r written (is_exception c (has_written written)))) ∙ append-nil rs in
       let all : replies_in (causes c before after r written) ≡ rs =
       after_quiet (from_outside c.next c r) _ rs (quiet_by (from_outside c.next c r) (each_outside IsNoCall no_calls c.next c r))
       (after_quiet (switches before.last after.last) (call ++ ends) rs (quiet_by (switches before.last after.last) (each_switch IsNoCall no_calls before.last after.last)) rest) in

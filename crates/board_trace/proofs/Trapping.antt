@@ -1,4 +1,4 @@
--- The cause that a line tells is the machine's trap.
+-- What a step writes that executes a word: the report of its trap, or nothing.
 use Rattle.std.proofs.Common.{◌≡◌, ℕ, Bool, true, false, cond, eqb, List, [], ◌∷◌, ◌++◌, Option, None, Some, refl, sym, ap, ap₂, subst, ◌∙◌, append_assoc, length, take, length-append, le-leb, arith}
 use Rattle.std.specs.Prelude.{◌&&◌, ◌||◌, codes, if◌then◌else◌, nat_le, not, unwrap_or}
 use Rattle.std.specs.Option.{option_map}
@@ -46,7 +46,7 @@ use Rattle.wind_machine.proofs.Order.{by_next}
 use Rattle.board_trace.specs.Before.{at_of, before_step, counter_at, gate_of, gate_there, is_calling, word_of}
 use Rattle.board_trace.specs.Causes.{begins_with, cause_of, target_of, word_there}
 use Rattle.board_trace.specs.Level.{exception_told}
-use Rattle.board_trace.specs.Traps.{CauseLaw, cause_by, cause_in, trap_at, trap_of, world_at_step}
+use Rattle.board_trace.specs.Traps.{cause_by, exception_by, trap_at, trap_of, world_at_step}
 use Rattle.board_trace.specs.declared.cause.Cause.{Cause}
 use Rattle.board_trace.specs.declared.cause.Cause.TheVariants as causes
 use Rattle.board_trace.specs.declared.happening.Happening.TheVariants as told
@@ -63,7 +63,7 @@ begins_not word text other =
     ap (λ b. nat_le (length word) (length text) && b) other ∙ elim (nat_le (length word) (length text)) as (λ b. (b && false) ≡ false) [ true ↦ refl | false ↦ refl ]
 
 -- a report of a trap, up to the name of who causes it
-abbrev head_text : Trap → List ℕ
+abbrev pub head_text : Trap → List ℕ
 head_text trap = codes "\nexception " ++ kind_text trap ++ codes " in "
 
 -- one test after another, each for one word; none of them for a system call
@@ -114,9 +114,9 @@ module _ (rest : List ℕ) (at : ℕ) (word target : Option ℕ) where
       ∙ ap₂ (λ c d. cause_by_tests false false c d at word target) (no_illegal text refl) (no_trap text refl)
 
 -- a report begins so
-record Reports (trap : Trap) (text : List ℕ) : Type 0 where
-  rest : List ℕ
-  is : text ≡ head_text trap ++ rest
+pub record Reports (trap : Trap) (text : List ℕ) : Type 0 where
+  pub rest : List ℕ
+  pub is : text ≡ head_text trap ++ rest
 
 reported_cause : (trap : Trap) (text : List ℕ) (at : ℕ) (word target : Option ℕ) → Reports trap text → cause_of text at word target ≡ cause_by trap at word target
 reported_cause trap text at word target r = ap (λ bytes. cause_of bytes at word target) r.is ∙ cause_read r.rest at word target trap
@@ -223,10 +223,10 @@ module _ (s : State) (who : Actor) (step : IsInstructionOf who s) where
   calling true p h = ap is_calling (h refl)
   calling false p h = refl
 
-  at_is : at_of s ≡ Some (regs_of s.world who).pc
+  pub at_is : at_of s ≡ Some (regs_of s.world who).pc
   at_is = ap (counter_at s.shell.phase s.world) step.comes ∙ ap (λ b. if b then Some (regs_of s.world who).pc else None) (calling (is_shell who) s.shell.phase step.in_call)
 
-  gate_is : gate_of s ≡ None
+  pub gate_is : gate_of s ≡ None
   gate_is = ap (gate_there s.world) at_is ∙ step.no_gate
 
   word_is : word_of s ≡ fetched (bus_of s.world) (regs_of s.world who).pc
@@ -267,19 +267,39 @@ after_is said s t who step Arrive is e = let both : None ≡ Some who = ap actor
 after_is said s t who step (Jump time) is e = let both : None ≡ Some who = ap actor_of is ∙ step.comes in absurd (cc)
 after_is said s t who step Over is e = let both : None ≡ Some who = ap actor_of is ∙ step.comes in absurd (cc)
 
-pub causes_are_traps : CauseLaw
+-- what the step writes is what its word leaves
+pub wrote : (said : FileSaid) (s t : State) (who : Actor) → IsInstructionOf who s → machine_step said s ≡ Some t → t.world.output ≡ (word_part (word_of s) s.shell (world_at_step s who) who).world.output
 unfolding machine_step
-causes_are_traps said s t who trap good step made traps_so =
+wrote said s t who step made = after_is said s t who step (next s) refl made ∙ ap (λ (p : Part). p.world.output) (executes s who step s.shell)
+
+-- if it traps, it writes the report of its trap
+pub trap_reported : (said : FileSaid) (s t : State) (who : Actor) (trap : Trap) → Good s → IsInstructionOf who s → machine_step said s ≡ Some t → trap_at (word_of s) (world_at_step s who) who ≡ Some trap → Reports trap t.world.output
+trap_reported said s t who trap good step made traps_so =
     let w = world_at_step s who in
+    let reports = trap_reports trap s.shell w who (nothing_written s who) (λ id is. living_at_step s who id good step.comes is) in
+    record {
+      rest = reports.rest;
+      is = wrote said s t who step made ∙ ap (λ (p : Part). p.world.output) (word_traps (word_of s) s.shell w who trap traps_so) ∙ reports.is;
+    }
+
+-- then the exception that is told is that of the trap
+pub trap_told : (s : State) (who : Actor) (trap : Trap) (written : List ℕ) → IsInstructionOf who s → Reports trap written → exception_told (before_step s) written (stepping s) (at_of s) ≡ exception_by s who (Some trap)
+trap_told s who trap written step reports =
     let pc = (regs_of s.world who).pc in
     let word = word_of s in
-    let written = t.world.output in
-    let reports = trap_reports trap s.shell w who (nothing_written s who) (λ id is. living_at_step s who id good step.comes is) in
-    let wrote : written ≡ (trapped trap s.shell w who).world.output =
-    after_is said s t who step (next s) refl made ∙ ap (λ (p : Part). p.world.output) (executes s who step s.shell ∙ word_traps word s.shell w who trap traps_so) in
-    let cause : cause_of written pc word (target_of s.world (Some who) word) ≡ cause_in s who trap =
-    ap (λ bytes. cause_of bytes pc word (target_of s.world (Some who) word)) wrote
-    ∙ reported_cause trap (trapped trap s.shell w who).world.output pc word (target_of s.world (Some who) word) reports in
     ap₂ (exception_told (before_step s) written) step.comes (at_is s who step)
     ∙ ap (λ a. told.Exception who pc (cause_of written pc word (target_of s.world a word)) ∷ []) step.comes
-    ∙ ap (λ x. told.Exception who pc x ∷ []) cause
+    ∙ ap (λ x. told.Exception who pc x ∷ []) (reported_cause trap written pc word (target_of s.world (Some who) word) reports)
+
+-- if it doesn't trap, it writes nothing
+done_silent : (x : Outcome BusState) (shell : ShellState) (w : WorldState) (who : Actor) → w.output ≡ [] → trap_of x ≡ None → (executed x shell w who).world.output ≡ []
+done_silent (Done regs bus) shell w (by_task id) empty e = empty
+done_silent (Done regs bus) shell w Interrupt empty e = empty
+done_silent (Trapped trap) shell w who empty e = absurd (cc)
+
+word_silent : (word : Option ℕ) (shell : ShellState) (w : WorldState) (who : Actor) → w.output ≡ [] → trap_at word w who ≡ None → (word_part word shell w who).world.output ≡ []
+word_silent None shell w who empty e = absurd (cc)
+word_silent (Some word) shell w who empty e = done_silent (exec_of board_meaning (regs_of w who) word (bus_of w)) shell w who empty e
+
+pub none_silent : (said : FileSaid) (s t : State) (who : Actor) → IsInstructionOf who s → machine_step said s ≡ Some t → trap_at (word_of s) (world_at_step s who) who ≡ None → t.world.output ≡ []
+none_silent said s t who step made none = wrote said s t who step made ∙ word_silent (word_of s) s.shell (world_at_step s who) who (nothing_written s who) none

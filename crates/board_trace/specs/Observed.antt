@@ -1,11 +1,12 @@
 -- The observations of a run's tasks, and their spans.
-use Rattle.std.specs.Prelude.{◌≡◌, ℕ, zero, suc, ◌<◌, true, if◌then◌else◌, List, [], ◌∷◌}
+use Rattle.std.specs.Prelude.{◌≡◌, ℕ, zero, suc, ◌+◌, ◌<◌, ◌≤◌, true, if◌then◌else◌, List, [], ◌∷◌}
 use Rattle.std.specs.List.{list_any}
 use Rattle.tick_file.specs.Schedule.{timetable_of}
 use Rattle.wind_machine.specs.Extending.{Setup, booted}
 use Rattle.wind_machine.specs.Run.{Answers, after}
 use Rattle.wind_machine.specs.State.{State}
 use Rattle.board_changes.specs.declared.look.Look.{Look}
+use Rattle.board_changes.specs.declared.spans.Span.{Span}
 use Rattle.board_changes.specs.Tiling.{Observation, SaysOnce, said_at, says_running, seen_at, spans_until}
 use Rattle.board_trace.specs.Before.{before_step}
 use Rattle.board_trace.specs.Running.{running_task}
@@ -50,3 +51,24 @@ RunOneRunsLaw = (said : Answers) (setup : Setup) (console ticks : List ℕ) (k t
     → t < (run_state said setup console ticks k).time
     → list_any (λ look. says_running look.standing) (run_says said setup console ticks k one t) ≡ true
     → list_any (λ look. says_running look.standing) (run_says said setup console ticks k other t) ≡ true → one ≡ other
+
+-- ---- a part of a run
+-- what the folder answers after the first m steps
+abbrev pub later : Answers → ℕ → Answers
+later said m j = said (m + j)
+
+-- the tasks are observed before the first of the n steps after the first m from s, and after each that isn't one instruction
+abbrev pub part_observations : Answers → State → ℕ → ℕ → List Observation
+part_observations said s m n = observations (later said m) (after said s m) n
+
+-- the spans of these steps; those that go on end with the last step
+abbrev pub part_spans : Answers → State → ℕ → ℕ → List Span
+part_spans said s m n = spans_until (after said s (m + n)).time (part_observations said s m n)
+
+-- the spans of a part tile it: at each time before its end, those of a task say once how it looked when it was last observed
+-- in the part, if it lived then, and nothing if it didn't, nor before the part; from its end on, they say nothing
+pub record PartTilingLaw : Type 0 where
+  pub within : (said : Answers) (setup : Setup) (console ticks : List ℕ) (m n who t : ℕ) → t < (run_state said setup console ticks (m + n)).time
+      → SaysOnce (seen_at who t (part_observations said (booted setup console (timetable_of ticks)) m n)) (said_at who t (part_spans said (booted setup console (timetable_of ticks)) m n))
+  pub past : (said : Answers) (setup : Setup) (console ticks : List ℕ) (m n who t : ℕ) → (run_state said setup console ticks (m + n)).time ≤ t
+      → said_at who t (part_spans said (booted setup console (timetable_of ticks)) m n) ≡ []

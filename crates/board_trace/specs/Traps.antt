@@ -1,5 +1,5 @@
 -- Which trap the machine makes when it executes a word, and the cause that its line tells.
-use Rattle.std.specs.Prelude.{◌≡◌, ℕ, [], ◌∷◌, Option, None, Some}
+use Rattle.std.specs.Prelude.{◌≡◌, ℕ, List, [], ◌∷◌, ◌++◌, Option, None, Some}
 use Rattle.std.specs.Option.{unwrap_or}
 use Rattle.ppc_core.specs.Instructions.{exec_of}
 use Rattle.ppc_core.specs.Outcomes.{Outcome, Done, Trapped}
@@ -14,15 +14,16 @@ use Rattle.wind_machine.specs.ActorSteps.{at_step_start}
 use Rattle.wind_machine.specs.Events.{cleared, unreserved_world}
 use Rattle.wind_machine.specs.Good.{Good}
 use Rattle.wind_machine.specs.LiveLoadingSaid.{FileSaid}
-use Rattle.wind_machine.specs.Machine.{machine_step, stepping}
+use Rattle.wind_machine.specs.Machine.{machine_step}
 use Rattle.wind_machine.specs.Processor.{bus_of, regs_of}
 use Rattle.wind_machine.specs.Silent.{IsInstructionOf}
 use Rattle.wind_machine.specs.State.{State}
-use Rattle.board_trace.specs.Before.{at_of, before_step, word_of}
+use Rattle.board_trace.specs.Before.{word_of}
 use Rattle.board_trace.specs.Causes.{target_of}
-use Rattle.board_trace.specs.Level.{exception_told}
+use Rattle.board_trace.specs.Steps.{happenings}
 use Rattle.board_trace.specs.declared.cause.Cause.{Cause}
 use Rattle.board_trace.specs.declared.cause.Cause.TheVariants as causes
+use Rattle.board_trace.specs.declared.happening.Happening.{Happening}
 use Rattle.board_trace.specs.declared.happening.Happening.TheVariants as told
 
 -- the world in which a task or routine makes the next step
@@ -53,10 +54,23 @@ cause_by traps.Sysc at word target = causes.SystemCall
 abbrev pub cause_in : State → Actor → Trap → Cause
 cause_in s who trap = cause_by trap (regs_of s.world who).pc (word_of s) (target_of s.world (Some who) (word_of s))
 
--- in a step from a state with the invariant, a task or routine executes a word and the machine traps: then the exception that
--- is told is its own, at its program counter, and its cause is that trap, with the word or the data address
+-- the exception of a trap there, at the program counter; none without a trap
+abbrev pub exception_by : State → Actor → Option Trap → List Happening
+exception_by s who None = []
+exception_by s who (Some trap) = told.Exception who (regs_of s.world who).pc (cause_in s who trap) ∷ []
+
+-- the exceptions among happenings
+abbrev pub exception_in : Happening → List Happening
+exception_in (told.Exception who at cause) = told.Exception who at cause ∷ []
+exception_in h = []
+
+abbrev pub exceptions_in : List Happening → List Happening
+exceptions_in [] = []
+exceptions_in (h ∷ hs) = exception_in h ++ exceptions_in hs
+
+-- in a step from a state with the invariant, in which a task or routine executes a word, the happenings have an exception
+-- exactly if the machine traps: one, at the program counter, whose cause is that trap, with the word or the data address
 abbrev pub CauseLaw : Type 0
 CauseLaw =
-    (said : FileSaid) (s t : State) (who : Actor) (trap : Trap) → Good s → IsInstructionOf who s → machine_step said s ≡ Some t
-    → trap_at (word_of s) (world_at_step s who) who ≡ Some trap
-    → exception_told (before_step s) t.world.output (stepping s) (at_of s) ≡ told.Exception who (regs_of s.world who).pc (cause_in s who trap) ∷ []
+    (said : FileSaid) (s t : State) (who : Actor) → Good s → IsInstructionOf who s → machine_step said s ≡ Some t
+    → exceptions_in (happenings said s t) ≡ exception_by s who (trap_at (word_of s) (world_at_step s who) who)

@@ -1,7 +1,7 @@
 //! What follows from the definitions of a trace alone.
 
 ghost use Rattle.board_trace.specs.Laws.{ReplyLaw, ErrorLaw, StepReplayLaw, TimeLaw, WaitEndLaw};
-ghost use Rattle.board_trace.specs.Observed.{RunOneRunsLaw, RunTilingLaw};
+ghost use Rattle.board_trace.specs.Observed.{PartTilingLaw, RunOneRunsLaw, RunTilingLaw};
 ghost use Rattle.board_trace.specs.Traps.{CauseLaw};
 
 use board_changes::spans_law;
@@ -35,8 +35,8 @@ pub fn step_replay_law()
 }
 
 /// The law of causes: in each step, from a state with the invariant, in which a task or routine
-/// executes a word and the machine traps, the cause that is told is that trap, with its word and its
-/// data address.
+/// executes a word, an exception is told exactly if the machine traps. Its cause is that trap, with
+/// its word or its data address.
 pub fn cause_law()
     ensures { CauseLaw }
 {}
@@ -51,10 +51,11 @@ pub fn time_law()
 /// The law of a run's spans, for every console file, tick file and list of devices, under both rules
 /// of inheritance and on both boards: at each time before the end, the spans of a task say once how
 /// it looked when it was last observed, if it lived then, and nothing if it didn't. At most one task
-/// runs at a time.
+/// runs at a time. The spans of a part of a run tile that part, and are clipped at its ends.
 pub fn run_spans_law()
     ensures tiles { RunTilingLaw }
     ensures one { RunOneRunsLaw }
+    ensures parts { PartTilingLaw }
 {
     run_law();
     extend_law();

@@ -200,6 +200,48 @@ fn divides_a_pixel(rt: HostRuntime) -> Result<(), Fail> {
     Ok(())
 }
 
+// Bands of less than a pixel are drawn without their bars.
+#[test]
+fn draws_bands_alone(rt: HostRuntime) -> Result<(), Fail> {
+    let one = Ident::new(1).ok_or("id")?;
+    let rows = [row(one, b"tShell")];
+    let inherits = Look {
+        standing: Standing::Running,
+        object: None,
+        inherits: true,
+    };
+    let mut areas = Areas::new(rt.alloc());
+    for (from, to) in [(0, 4), (5, 6), (11, 12)] {
+        if let Some(band) = band_of(&span(one, inherits, from, to)) {
+            areas.add(band).or(Err("memory"))?;
+        }
+    }
+    let picture = Picture {
+        rows: &rows,
+        areas: areas.list(),
+        routines: &[],
+        owners: &[],
+        lengths: &[],
+        mutexes: &[],
+        queues: &[],
+        ticks: &[],
+        marks: &[],
+        start: 0,
+        end: 12_000,
+    };
+    let layout = Layout::new(rt.alloc(), &picture).or(Err("memory"))?;
+    let mut text = Vec::new(rt.alloc());
+    let scale = Scale::new(0, 12_000);
+    add_areas(rt.alloc(), &mut text, &picture, &layout, scale).or(Err("memory"))?;
+    let expected = b"<rect class=\"inherits\" x=\"160\" y=\"107\" width=\"1\" height=\"4\">\
+<title>1 tShell inherits a priority 100 %, 0 to 6</title></rect>
+<rect class=\"inherits\" x=\"161.10\" y=\"107\" width=\"0.10\" height=\"4\">\
+<title>1 tShell running, priority inherited, 11 to 12</title></rect>
+";
+    assert_eq!(rt; text.as_slice(), expected.as_slice());
+    Ok(())
+}
+
 // Lives that don't overlap share a row; a queue that a task waited for has a step line.
 #[test]
 fn shares_rows_and_counts_messages(rt: HostRuntime) -> Result<(), Fail> {
@@ -217,6 +259,11 @@ fn shares_rows_and_counts_messages(rt: HostRuntime) -> Result<(), Fail> {
     ];
     let areas = areas_of(rt.alloc(), &spans).or(Err("memory"))?;
     let lengths = [
+        QueueLength {
+            queue: 2,
+            time: 0,
+            messages: 2,
+        },
         QueueLength {
             queue: 2,
             time: 1,
@@ -248,8 +295,8 @@ fn shares_rows_and_counts_messages(rt: HostRuntime) -> Result<(), Fail> {
     add_objects(&mut text, &picture, &layout, scale).or(Err("memory"))?;
     let expected = b"<text x=\"5\" y=\"102\">1 first + 1</text>
 <text x=\"5\" y=\"132\">queue 2</text>
-<path class=\"length\" d=\"M160 136H160V136H460V120H1060V136H1360\">\
-<title>queue 2, at most 1 messages</title></path>
+<path class=\"length\" d=\"M160 120H160V120H460V128H1060V136H1360\">\
+<title>queue 2, at most 2 messages</title></path>
 ";
     assert_eq!(rt; text.as_slice(), expected.as_slice());
     Ok(())

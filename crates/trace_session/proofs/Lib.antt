@@ -5,6 +5,8 @@ pub mod Covering
 pub mod Items
 pub mod LineLaws
 pub mod Lines
+pub mod Parting
+pub mod Picturing
 pub mod Puts
 pub mod Seeing
 pub mod Selecting

@@ -1,12 +1,14 @@
 -- Laws on the lines of a run. Lists of lines are the newest first.
-use Rattle.std.specs.Prelude.{◌≡◌, ℕ, zero, suc, ◌+◌, if◌then◌else◌, List, [], ◌∷◌, ◌++◌}
+use Rattle.std.specs.Prelude.{◌≡◌, ◌⊎◌, ℕ, zero, suc, ◌+◌, ◌<◌, ◌≤◌, true, if◌then◌else◌, List, [], ◌∷◌, ◌++◌, Some, IsSome}
+use Rattle.wind_machine.specs.Machine.{machine_step}
 use Rattle.wind_machine.specs.State.{State}
 use Rattle.wind_machine.specs.Run.{Answers, after, text}
+use Rattle.board_trace.specs.Observed.{part_spans}
 use Rattle.board_trace.specs.Runs.{Line, lines_of, step_lines}
 use Rattle.board_trace.specs.declared.happening.Happening.{Happening}
 use Rattle.board_trace.specs.declared.happening.Happening.TheVariants as told
 use Rattle.trace_picture.specs.Areas.{areas_of}
-use Rattle.trace_session.specs.Choice.{chosen_lines, everything}
+use Rattle.trace_session.specs.Choice.{ChoiceState, chosen_lines, everything, is_up_to}
 use Rattle.trace_session.specs.Shown.{shown_areas}
 use Rattle.trace_session.specs.Spans.{part_of, spans_of}
 use Rattle.trace_text.specs.Pages.{count_of, is_instructions}
@@ -52,3 +54,16 @@ pub record LinesLaw : Type 0 where
 pub record EverythingLaw : Type 0 where
   pub lines : (said : Answers) (s : State) (k : ℕ) → chosen_lines everything said s k ≡ lines_of said s k
   pub areas : (said : Answers) (s : State) (k : ℕ) → shown_areas everything (part_of everything said s k).done ≡ areas_of (spans_of said s k).done
+
+-- of the first k steps, those of a choice are the n after the first m, and there is one
+pub record ArePart (c : ChoiceState) (k m n : ℕ) : Type 0 where
+  pub first : c.first ≡ m + 1
+  pub some : 0 < n
+  pub made : m + n ≤ k
+  pub last : (c.last ≡ Some (m + n)) ⊎ ((m + n ≡ k) × (is_up_to c.last k ≡ true))
+
+-- in a run of k steps from a state without one, the spans of a choice's steps are those of the part that has these steps
+abbrev pub PartLaw : Type 0
+PartLaw =
+    (said : Answers) (s : State) (c : ChoiceState) (k m n : ℕ) → s.steps ≡ 0 → ((j : ℕ) → j < k → IsSome (machine_step (said j) (after said s j))) → ArePart c k m n
+    → (part_of c said s k).done ≡ part_spans said s m n

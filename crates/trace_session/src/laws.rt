@@ -1,10 +1,10 @@
 //! Laws of the lines of a run, each as the clause of a function.
 
 ghost use Rattle.trace_session.specs.Bursts.{SilentLinesLaw};
-ghost use Rattle.trace_session.specs.Laws.{EverythingLaw, LinesLaw};
+ghost use Rattle.trace_session.specs.Laws.{EverythingLaw, LinesLaw, PartLaw};
 
 use trace_text::joining_law;
-use wind_machine::silent_law;
+use wind_machine::{silent_law, step_law};
 
 /// Instructions that follow others of the same task or routine are one line with them.
 pub(crate) fn silent_lines_law()
@@ -24,3 +24,11 @@ pub fn lines_law()
 pub fn everything_law()
     ensures { EverythingLaw }
 {}
+
+/// The law of parts: the spans of a choice's steps are those of the part of the run that has these
+/// steps. So they tile that part, by `board_trace::run_spans_law`.
+pub fn part_law()
+    ensures { PartLaw }
+{
+    step_law();
+}
