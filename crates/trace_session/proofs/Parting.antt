@@ -56,7 +56,7 @@ module _ (c : ChoiceState) (k m n : ℕ) (part : ArePart c k m n) where
       let up : is_up_to c.last (j + 1) ≡ true =
       elim part.last [
         | inl last ↦ (ap (λ o. is_up_to o (j + 1)) last ∙ le-leb (j + 1) (m + n) (omega arith))
-        | inr open ↦ (let made : m + n ≡ k = open.0 in up_to_less c.last (j + 1) k (omega arith) open.1)
+        | inr whole ↦ (let made : m + n ≡ k = whole.0 in up_to_less c.last (j + 1) k (omega arith) whole.1)
       ] in
       ap (λ f. leb f (j + 1) && is_up_to c.last (j + 1)) part.first ∙ ap₂ (λ a b. a && b) early up
 
@@ -163,12 +163,12 @@ module _ (said : Answers) (s : State) (c : ChoiceState) (k m n : ℕ) (numbers :
         let end : suc (m + i) ≡ m + n = omega arith in
         let none : is_step c (suc (m + i) + 1) ≡ false = ap (λ j. is_step c (j + 1)) end ∙ no_more c k m n part last (m + n) (omega arith) in
         let rest = k - (m + n) in
-        let whole : m + n + rest ≡ k = omega arith in
-        let then : part_after c said s k ≡ closed (made_by n) ending = ap (part_after c said s) (sym whole) ∙ over last (closed_or false i is none) rest (omega arith) in
+        let all : m + n + rest ≡ k = omega arith in
+        let then : part_after c said s k ≡ closed (made_by n) ending = ap (part_after c said s) (sym all) ∙ over last (closed_or false i is none) rest (omega arith) in
         ap (λ x. closed x (after said s k).time) then ∙ ended_twice (made_by n) ending (after said s k).time)
-    | inr open ↦ (
+    | inr whole ↦ (
         let b = is_step c (suc (m + i) + 1) in
-        ap (part_of c said s) (sym open.0)
+        ap (part_of c said s) (sym whole.0)
         ∙ ap (λ x. closed x ending) (closed_or b i is refl)
         ∙ ended_either b (made_by n) ending)
   ]

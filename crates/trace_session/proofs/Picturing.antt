@@ -1,5 +1,6 @@
 -- A picture under way.
-use Rattle.std.proofs.Common.{◌≡◌, ℕ, ◌+◌, ◌<◌, Bool, true, false, cond, List, [], ◌∷◌, ◌++◌, Option, None, Some, refl, sym, ap, ap₂, subst, ◌∙◌, append_assoc, length, take, get_or}
+use Rattle.std.proofs.Common.{◌≡◌, ℕ, ◌+◌, ◌<◌, Bool, true, false, cond, List, [], ◌∷◌, ◌++◌, Result, Ok, Err, refl, sym, ap, ap₂, subst, ◌∙◌, append_assoc, length, take, get_or}
+use Rattle.std.specs.Prelude.{OnOk}
 use Rattle.std.specs.List.{filter}
 use Rattle.std.proofs.lemmas.List.{take_more}
 use Rattle.std.proofs.lemmas.List.Elements.{filter-append}
@@ -16,6 +17,15 @@ use Rattle.trace_picture.specs.declared.areas.AreaKind.TheVariants.{Band, Bar}
 use Rattle.trace_session.specs.Choice.{ChoiceState, is_step}
 use Rattle.trace_session.specs.Shown.{Carries, Pictures, shown_areas, shows}
 use Rattle.trace_session.specs.Spans.{first_spans, looked_at, looked_by, looked_in, looked_outside, no_spans, observed_in, opening_spans}
+
+-- what two facts lead to, if there is a result
+pub on_both : {A E : Type 0} (r : Result A E) (P Q R : Type 0) → (P → Q → R) → OnOk r P → OnOk r Q → OnOk r R
+on_both (Err e) P Q R leads p q = tt
+on_both (Ok x) P Q R leads p q = leads p q
+
+pub on_ok : {A E : Type 0} (r : Result A E) (P : Type 0) → P → OnOk r P
+on_ok (Err e) P p = tt
+on_ok (Ok x) P p = p
 
 -- ---- the areas of spans that are shown
 areas_append : (xs ys : List Span) → areas_of (xs ++ ys) ≡ areas_of xs ++ areas_of ys
@@ -35,23 +45,6 @@ abbrev only_going : SpanState → SpanState
 only_going spans = spans_by spans.going []
 
 module _ (c : ChoiceState) where
-  abbrev only : List Area → List Area
-  only = filter (shows c)
-
-  -- the bar of a span that has no band
-  pub bar_alone : (s : Span) (old next : List Area) → next ≡ old ++ only (area_of Bar s ∷ []) → None ≡ band_of s → next ≡ old ++ shown_areas c (s ∷ [])
-  bar_alone s old next is none = is ∙ ap (λ o. old ++ only (with_band (area_of Bar s) o ++ [])) none
-
-  -- the bar and the band of a span
-  pub bar_and_band : (s : Span) (band : Area) (old next last : List Area) → next ≡ old ++ only (area_of Bar s ∷ []) → Some band ≡ band_of s → last ≡ next ++ only (band ∷ []) → last ≡ old ++ shown_areas c (s ∷ [])
-  bar_and_band s band old next last next_is some last_is =
-      let bar = area_of Bar s in
-      last_is
-      ∙ ap (λ x. x ++ only (band ∷ [])) next_is
-      ∙ append_assoc old (only (bar ∷ [])) (only (band ∷ []))
-      ∙ ap (λ x. old ++ x) (sym (filter-append (shows c) (bar ∷ []) (band ∷ [])))
-      ∙ ap (λ o. old ++ only (with_band bar o ++ [])) some
-
   -- one more of some spans
   pub more_shown : (spans : List Span) (i : ℕ) (s : Span) (first now next : List Area) → i < length spans → s ≡ get_or spans i s → next ≡ now ++ shown_areas c (s ∷ []) → now ≡ first ++ shown_areas c (take i spans)
       → next ≡ first ++ shown_areas c (take (i + 1) spans)
@@ -65,21 +58,26 @@ module _ (c : ChoiceState) where
 
   -- ---- the spans that end leave areas
   -- the spans have become these, which went on the same way, and the areas of those that ended were added
-  pub areas_kept : (old now : SpanState) (before after : List Area) (change : SpanState → SpanState)
+  pub areas_kept : (old mid now : SpanState) (before after : List Area) (change : SpanState → SpanState)
       → ((x y : SpanState) → x.going ≡ y.going → (change x).going ≡ (change y).going)
       → ((x : SpanState) → (change x).done ≡ x.done ++ (change (only_going x)).done)
-      → now ≡ record (change old) { done = [] } → after ≡ before ++ shown_areas c (change old).done → Carries c old before now after change
-  areas_kept old now before after change goes ends now_is after_is spans p =
+      → mid ≡ change old → now ≡ record mid { done = [] } → after ≡ before ++ shown_areas c mid.done → Carries c old before now after change
+  areas_kept old mid now before after change goes ends mid_is now_is after_is spans p =
       let same : old ≡ only_going spans = ap₂ spans_by p.going p.forgotten in
       record {
-        going = ap (λ (x : SpanState). x.going) now_is ∙ goes old spans p.going;
+        going = ap (λ (x : SpanState). x.going) now_is ∙ ap (λ (x : SpanState). x.going) mid_is ∙ goes old spans p.going;
         forgotten = ap (λ (x : SpanState). x.done) now_is;
         areas_are =
             after_is
+            ∙ ap (λ (x : SpanState). before ++ shown_areas c x.done) mid_is
             ∙ ap₂ (λ (x : List Area) (y : SpanState). x ++ shown_areas c (change y).done) p.areas_are same
             ∙ sym (shown_append c spans.done (change (only_going spans)).done)
             ∙ ap (shown_areas c) (sym (ends spans));
       }
+
+  -- the picture begins
+  pub opens : (kept : SpanState) (areas : List Area) (s : State) → kept ≡ opening_spans s → areas ≡ [] → Pictures c kept areas (opening_spans s)
+  opens kept areas s kept_is none = record { going = ap (λ (x : SpanState). x.going) kept_is; forgotten = ap (λ (x : SpanState). x.done) kept_is; areas_are = none }
 
   -- ---- by which steps are shown
   pub unseen : (kept : SpanState) (areas : List Area) (s : State) → is_step c (s.steps + 1) ≡ false → kept ≡ no_spans → areas ≡ [] → Pictures c kept areas (first_spans c s)

@@ -14,7 +14,7 @@ use crate::reader::StepReader;
 use crate::scene::{Moment, Scene};
 use crate::shown::add_spans;
 use board_changes::Spans;
-use board_trace::{BeforeStep, is_instruction};
+use board_trace::{BeforeStep, Snapshot, is_instruction};
 use std::alloc::Global;
 use std::mem;
 use trace_picture::Areas;
@@ -36,6 +36,15 @@ pub(crate) struct Observer<'a> {
     pub(crate) areas: Areas,
     /// What else the picture shows.
     pub(crate) scene: Scene,
+}
+
+// Looks at the tasks of a snapshot of this board.
+fn observe(spans: &mut Spans, snapshot: &Snapshot, board: &Board) -> Result<(), NoMemory>
+    requires { snapshot_state snapshot.now ≡ snapshot_of (seen ⟦<dyn Device as Device>⟧ board.now).world }
+    ensures { OnOk result (spans.new ≡ observed_in spans.old (seen ⟦<dyn Device as Device>⟧ board.now)) }
+{
+    let (time, runner) = (board.time(), running_task(board.world()));
+    spans.observe(time, &snapshot.tasks, runner)
 }
 
 impl<'a> Observer<'a> {
@@ -74,8 +83,7 @@ impl<'a> Observer<'a> {
         self.reader.restart(board)?;
         self.spans = Spans::new(self.alloc);
         self.areas = Areas::new(self.alloc);
-        let (time, runner) = (board.time(), running_task(board.world()));
-        self.spans.observe(time, &self.reader.before.tasks, runner)?;
+        observe(&mut self.spans, &self.reader.before, board)?;
         self.scene.open(board, &self.reader.before)
     }
 
@@ -98,9 +106,7 @@ impl<'a> Observer<'a> {
         ensures picture { OnOk result (Carries (choice_state self.old.choice.now) self.old.spans self.old.areas
             self.new.spans self.new.areas (λ spans. observed_in spans (seen ⟦<dyn Device as Device>⟧ board.now))) }
     {
-        let (time, runner) = (board.time(), running_task(board.world()));
-        let views = &self.reader.after.tasks;
-        self.spans.observe(time, views, runner)?;
+        observe(&mut self.spans, &self.reader.after, board)?;
         self.keep_areas()
     }
 
