@@ -5,15 +5,14 @@ use Rattle.std.specs.List.{filter}
 use Rattle.std.proofs.lemmas.List.{take_more}
 use Rattle.std.proofs.lemmas.List.Elements.{filter-append}
 use Rattle.wind_machine.specs.State.{State}
-use Rattle.board_changes.specs.Spans.{SpanState, closed, observed}
+use Rattle.board_changes.specs.Spans.{SpanState, closed}
 use Rattle.board_changes.specs.declared.spans.Open.{Open}
 use Rattle.board_changes.specs.declared.spans.Span.{Span}
-use Rattle.board_changes.specs.declared.view.TaskView.{TaskView}
 use Rattle.board_trace.specs.Steps.{is_instruction}
 use Rattle.board_trace.specs.declared.moment.BeforeStep.{BeforeStep}
 use Rattle.trace_picture.specs.Areas.{area_of, areas_of, band_of, with_band}
 use Rattle.trace_picture.specs.declared.areas.Area.{Area}
-use Rattle.trace_picture.specs.declared.areas.AreaKind.TheVariants.{Band, Bar}
+use Rattle.trace_picture.specs.declared.areas.AreaKind.TheVariants.{Bar}
 use Rattle.trace_session.specs.Choice.{ChoiceState, is_step}
 use Rattle.trace_session.specs.Shown.{Carries, Pictures, shown_areas, shows}
 use Rattle.trace_session.specs.Spans.{first_spans, looked_at, looked_by, looked_in, looked_outside, no_spans, observed_in, opening_spans}
@@ -22,6 +21,10 @@ use Rattle.trace_session.specs.Spans.{first_spans, looked_at, looked_by, looked_
 pub on_both : {A E : Type 0} (r : Result A E) (P Q R : Type 0) → (P → Q → R) → OnOk r P → OnOk r Q → OnOk r R
 on_both (Err e) P Q R leads p q = tt
 on_both (Ok x) P Q R leads p q = leads p q
+
+pub on_one : {A E : Type 0} (r : Result A E) (P Q : Type 0) → (P → Q) → OnOk r P → OnOk r Q
+on_one (Err e) P Q leads p = tt
+on_one (Ok x) P Q leads p = leads p
 
 pub on_ok : {A E : Type 0} (r : Result A E) (P : Type 0) → P → OnOk r P
 on_ok (Err e) P p = tt
@@ -75,6 +78,12 @@ module _ (c : ChoiceState) where
             ∙ ap (shown_areas c) (sym (ends spans));
       }
 
+  -- the spans that end at a moment leave their areas
+  pub observed_kept : (t : State) (old mid now : SpanState) (before after : List Area) → mid ≡ observed_in old t → now ≡ record mid { done = [] } → after ≡ before ++ shown_areas c mid.done
+      → Carries c old before now after (λ spans. observed_in spans t)
+  observed_kept t old mid now before after =
+      areas_kept old mid now before after (λ spans. observed_in spans t) (λ x y same. ap (λ going. (observed_in (spans_by going []) t).going) same) (λ x. refl)
+
   -- the picture begins
   pub opens : (kept : SpanState) (areas : List Area) (s : State) → kept ≡ opening_spans s → areas ≡ [] → Pictures c kept areas (opening_spans s)
   opens kept areas s kept_is none = record { going = ap (λ (x : SpanState). x.going) kept_is; forgotten = ap (λ (x : SpanState). x.done) kept_is; areas_are = none }
@@ -123,7 +132,3 @@ module _ (c : ChoiceState) where
         subst (λ x. Pictures c now after (cond x (looked_in c b spans t) (looked_outside c b spans t))) (sym out)
         (subst (λ x. Pictures c now after (cond x (opening_spans t) spans)) (sym none)
         (subst (λ x. Pictures c x after spans) (sym same) (subst (λ x. Pictures c kept x spans) (sym same_areas) p)))
-
--- ---- what is made of the spans that go on
-pub observed_going : (time : ℕ) (views : List TaskView) (runner : Option ℕ) (x y : SpanState) → x.going ≡ y.going → (observed x time views runner).going ≡ (observed y time views runner).going
-observed_going time views runner x y same = ap (λ g. (observed (record { going = g; done = [] }) time views runner).going) same
