@@ -48,10 +48,10 @@ module _ (shelf : Shelf) (s t : State) (n : ℕ) (old new : Option (List Request
     shown = subst (λ x. SeesSteps x kept drawn ran.said s ran.k) stays (tells_unless (SeesSteps later kept drawn) (λ said u k. ⊥) ran.said s ran.k ran.end none_lost ran.tells.1)
 
     -- the spans ended with the run, and these are their areas
-    pub areas_told : (last : SpanState) (areas : List Area) (product : Product) (result : RunEnd) → product ≡ products.Picture areas
-        → Carries c kept drawn last areas (λ spans. closed spans t.time)
+    pub areas_told : (last : SpanState) (areas : List Area) (mine : ChoiceState) (product : Product) (result : RunEnd) → product ≡ products.Picture areas
+        → mine ≡ c → Carries mine kept drawn last areas (λ spans. closed spans t.time)
         → (result ≡ end) ⊎ (result ≡ ends.WriteFault) → Told (TellsAreas c product result s) shelf s n t old new
-    areas_told last areas product result product_is closes put = record {
+    areas_told last areas mine product result product_is same closes put = record {
       said = ran.said;
       k = ran.k;
       end = ran.end;
@@ -59,7 +59,7 @@ module _ (shelf : Shelf) (s t : State) (n : ℕ) (old new : Option (List Request
       tells = (
         subst (λ e. (result ≡ e) ⊎ (result ≡ ends.WriteFault)) ran.tells.0 put,
         product_is
-            ∙ ap products.Picture ((closes (part_after c ran.said s ran.k) shown).areas_are
+            ∙ ap products.Picture ((subst (λ x. Carries x kept drawn last areas (λ spans. closed spans t.time)) same closes (part_after c ran.said s ran.k) shown).areas_are
             ∙ ap (λ (v : State). shown_areas c (closed (part_after c ran.said s ran.k) v.time).done) ran.made.state),
       );
     }

@@ -1,10 +1,8 @@
-use Rattle.std.proofs.Common.{Bor, ap, subst, ◌∙◌}
+use Rattle.std.proofs.Common.{Bor, ap, ◌∙◌}
 use Rattle.std.proofs.lemmas.Result.{err_from_is_err_and}
 use Rattle.wind_session.proofs.AppendingLemmas.{rose_earlier}
 use Rattle.wind_session.proofs.RunLemmas.{begun}
-use Rattle.board_changes.specs.Spans.{closed}
 use Rattle.trace_session.specs.Choice.{choice_state}
-use Rattle.trace_session.specs.Shown.{Carries}
 use Rattle.trace_session.specs.declared.choice.Choice.{Choice}
 use Rattle.trace_session.specs.declared.traced.Product.TheVariants as products
 use Rattle.trace_session.proofs.Seeing.{areas_told, not_lost, put_after, untold}
@@ -25,5 +23,4 @@ returns-clause-fault g c = λ e.
 pub returns-clause-told : goal.returns-clause-told
 returns-clause-told g c =
     let same = ap (λ (x : Bor Choice). choice_state x.now) (c.in_ok-end.ensures.scope ∙ c.in_ok-observer.ensures.choice) in
-    let closes = subst (λ x. Carries x c.tell_run.new.observer.spans c.tell_run.new.observer.areas c.close.new.self.spans c.close.new.self.areas (λ spans. closed spans _)) same c.in_ok-close.ensures.picture in
-    areas_told _ _ _ _ _ _ _ _ same _ _ _ c.in_ok-end.ensures.told _ _ _ _ (ap products.Picture c.areas.ensures) closes (put_after _ _ _ _ _ c.put_text.ensures.put)
+    areas_told _ _ _ _ _ _ _ _ same _ _ _ c.in_ok-end.ensures.told _ _ _ _ _ (ap products.Picture c.take_areas-areas.ensures) same c.in_ok-close.ensures.picture (put_after _ _ _ _ _ c.put_text.ensures.put)
