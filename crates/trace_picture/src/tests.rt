@@ -212,9 +212,8 @@ fn draws_bands_alone(rt: HostRuntime) -> Result<(), Fail> {
     };
     let mut areas = Areas::new(rt.alloc());
     for (from, to) in [(0, 4), (5, 6), (11, 12)] {
-        if let Some(band) = band_of(&span(one, inherits, from, to)) {
-            areas.add(band).or(Err("memory"))?;
-        }
+        let band = band_of(&span(one, inherits, from, to)).ok_or("no band")?;
+        areas.add(band).or(Err("memory"))?;
     }
     let picture = Picture {
         rows: &rows,
