@@ -200,19 +200,23 @@ fn divides_a_pixel(rt: HostRuntime) -> Result<(), Fail> {
     Ok(())
 }
 
+// Running with an inherited priority.
+fn inheriting() -> Look {
+    Look {
+        standing: Standing::Running,
+        object: None,
+        inherits: true,
+    }
+}
+
 // Bands of less than a pixel are drawn without their bars.
 #[test]
 fn draws_bands_alone(rt: HostRuntime) -> Result<(), Fail> {
     let one = Ident::new(1).ok_or("id")?;
     let rows = [row(one, b"tShell")];
-    let inherits = Look {
-        standing: Standing::Running,
-        object: None,
-        inherits: true,
-    };
     let mut areas = Areas::new(rt.alloc());
     for (from, to) in [(0, 4), (5, 6), (11, 12)] {
-        let band = band_of(&span(one, inherits, from, to)).ok_or("no band")?;
+        let band = band_of(&span(one, inheriting(), from, to)).ok_or("no band")?;
         areas.add(band).or(Err("memory"))?;
     }
     let picture = Picture {
