@@ -1,5 +1,5 @@
 -- A picture under way.
-use Rattle.std.proofs.Common.{◌≡◌, ℕ, ◌+◌, ◌<◌, Bool, true, false, cond, List, [], ◌∷◌, ◌++◌, Result, Ok, Err, refl, sym, ap, ap₂, subst, ◌∙◌, append_assoc, length, take, get_or}
+use Rattle.std.proofs.Common.{◌≡◌, ℕ, ◌+◌, ◌<◌, true, false, cond, List, [], ◌∷◌, ◌++◌, Result, Ok, Err, refl, sym, ap, ap₂, subst, ◌∙◌, append_assoc, length, take, get_or}
 use Rattle.std.specs.Prelude.{OnOk}
 use Rattle.std.specs.List.{filter}
 use Rattle.std.proofs.lemmas.List.{take_more}
@@ -15,7 +15,7 @@ use Rattle.trace_picture.specs.declared.areas.Area.{Area}
 use Rattle.trace_picture.specs.declared.areas.AreaKind.TheVariants.{Bar}
 use Rattle.trace_session.specs.Choice.{ChoiceState, is_step}
 use Rattle.trace_session.specs.Shown.{Carries, Pictures, shown_areas, shows}
-use Rattle.trace_session.specs.Spans.{first_spans, looked_at, looked_by, looked_in, looked_outside, no_spans, observed_in, opening_spans}
+use Rattle.trace_session.specs.Spans.{looked_at, looked_by, looked_in, looked_outside, observed_in, opening_spans}
 
 -- what two facts lead to, if there is a result
 pub on_both : {A E : Type 0} (r : Result A E) (P Q R : Type 0) → (P → Q → R) → OnOk r P → OnOk r Q → OnOk r R
@@ -89,14 +89,6 @@ module _ (c : ChoiceState) where
   opens kept areas s kept_is none = record { going = ap (λ (x : SpanState). x.going) kept_is; forgotten = ap (λ (x : SpanState). x.done) kept_is; areas_are = none }
 
   -- ---- by which steps are shown
-  pub unseen : (kept : SpanState) (areas : List Area) (s : State) → is_step c (s.steps + 1) ≡ false → kept ≡ no_spans → areas ≡ [] → Pictures c kept areas (first_spans c s)
-  unseen kept areas s none kept_is areas_are =
-      subst (λ b. Pictures c kept areas (cond b (opening_spans s) no_spans)) (sym none)
-      (record { going = ap (λ (x : SpanState). x.going) kept_is; forgotten = ap (λ (x : SpanState). x.done) kept_is; areas_are = areas_are })
-
-  pub opened_first : (kept : SpanState) (areas : List Area) (s : State) → is_step c (s.steps + 1) ≡ true → Pictures c kept areas (opening_spans s) → Pictures c kept areas (first_spans c s)
-  opened_first kept areas s first p = subst (λ b. Pictures c kept areas (cond b (opening_spans s) no_spans)) (sym first) p
-
   module _ (kept now : SpanState) (areas after : List Area) (b : BeforeStep) (t : State) where
     -- an instruction leaves the spans as they are
     pub skipped : is_instruction b t.world.output ≡ true → now ≡ kept → after ≡ areas → Carries c kept areas now after (λ spans. looked_at b spans t)

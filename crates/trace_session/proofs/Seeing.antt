@@ -2,7 +2,7 @@
 use Rattle.std.proofs.Common.{◌≡◌, ◌≢◌, ◌⊎◌, ℕ, List, Option, inl, inr, sym, ap, subst, ◌∙◌}
 use Rattle.wind_outside.specs.Requests.{Request}
 use Rattle.wind_machine.specs.State.{State}
-use Rattle.wind_machine.specs.Run.{Answers, after}
+use Rattle.wind_machine.specs.Run.{Answers}
 use Rattle.wind_session.specs.Modules.{Shelf}
 use Rattle.wind_session.specs.Runs.{Counted}
 use Rattle.wind_session.specs.Telling.{After, IsTold, Told}

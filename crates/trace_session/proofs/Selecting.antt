@@ -7,7 +7,7 @@ use Rattle.board_changes.specs.Spans.{closed}
 use Rattle.board_trace.specs.Before.{before_step}
 use Rattle.trace_picture.specs.Areas.{areas_of}
 use Rattle.trace_picture.specs.declared.areas.Area.{Area}
-use Rattle.trace_session.specs.Choice.{ChoiceState, everything, is_step}
+use Rattle.trace_session.specs.Choice.{everything, is_step}
 use Rattle.trace_session.specs.Laws.{EverythingLaw}
 use Rattle.trace_session.specs.Shown.{shows}
 use Rattle.trace_session.specs.Spans.{looked_at, no_spans, opening_spans, part_after, part_of, spans_after}
