@@ -6,6 +6,8 @@ pub mod Items
 pub mod LineLaws
 pub mod Lines
 pub mod Living
+pub mod Parting
+pub mod Picturing
 pub mod Puts
 pub mod Seeing
 pub mod Selecting

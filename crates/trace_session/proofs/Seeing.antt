@@ -2,7 +2,7 @@
 use Rattle.std.proofs.Common.{◌≡◌, ◌≢◌, ◌⊎◌, ℕ, List, Option, inl, inr, sym, ap, subst, ◌∙◌}
 use Rattle.wind_outside.specs.Requests.{Request}
 use Rattle.wind_machine.specs.State.{State}
-use Rattle.wind_machine.specs.Run.{Answers, after}
+use Rattle.wind_machine.specs.Run.{Answers}
 use Rattle.wind_session.specs.Modules.{Shelf}
 use Rattle.wind_session.specs.Runs.{Counted}
 use Rattle.wind_session.specs.Telling.{After, IsTold, Told}
@@ -11,7 +11,7 @@ use Rattle.wind_session.specs.declared.run.RunEnd.TheVariants as ends
 use Rattle.wind_session.proofs.RunLemmas.{stopped}
 use Rattle.board_changes.specs.Spans.{SpanState, closed}
 use Rattle.trace_session.specs.Choice.{ChoiceState}
-use Rattle.trace_session.specs.Shown.{shown_areas}
+use Rattle.trace_session.specs.Shown.{Carries, Pictures, shown_areas}
 use Rattle.trace_session.specs.Spans.{part_after}
 use Rattle.trace_picture.specs.declared.areas.Area.{Area}
 use Rattle.trace_state.specs.Board.{IsTextOf, board_data}
@@ -28,30 +28,30 @@ untold shelf said s u n i old mid run = record { said = said; k = i; end = ends.
 pub alone : (product : Product) (Tells : Answers → ℕ → RunEnd → Type 0) (shelf : Shelf) (s t : State) (n : ℕ) (old new : Option (List Request)) → product ≡ products.Text → Told Tells shelf s n t old new → Told (Alone product Tells) shelf s n t old new
 alone product Tells shelf s t n old new none ran = record { said = ran.said; k = ran.k; end = ran.end; made = ran.made; tells = (none, ran.tells) }
 
--- the spans of a run, and no put was lost
-abbrev pub Sees : ChoiceState → RunEnd → SpanState → State → Answers → ℕ → RunEnd → Type 0
-Sees c end spans s = IsTold (SeesSteps c spans) (λ said t k. ⊥) end s
+-- the picture of the spans of a run, and no put was lost
+abbrev pub Sees : ChoiceState → RunEnd → SpanState → List Area → State → Answers → ℕ → RunEnd → Type 0
+Sees c end kept drawn s = IsTold (SeesSteps c kept drawn) (λ said t k. ⊥) end s
 
 module _ (shelf : Shelf) (s t : State) (n : ℕ) (old new : Option (List Request)) where
   -- whatever was told of a run, nothing is left of it
   pub unseen : (Tells : Answers → ℕ → RunEnd → Type 0) → Told Tells shelf s n t old new → Told TellsNothing shelf s n t old new
   unseen Tells ran = record { said = ran.said; k = ran.k; end = ran.end; made = ran.made; tells = tt }
 
-  module _ (c later : ChoiceState) (stays : later ≡ c) (spans : SpanState) (end : RunEnd) (ran : Told (Sees later end spans s) shelf s n t old new) where
+  module _ (c later : ChoiceState) (stays : later ≡ c) (kept : SpanState) (drawn : List Area) (end : RunEnd) (ran : Told (Sees later end kept drawn s) shelf s n t old new) where
     none_lost : ran.end ≢ ends.WriteFault
-    none_lost e = lost_if (SeesSteps later spans) (λ said u k. ⊥) ran.said s ran.k ran.end e ran.tells.1
+    none_lost e = lost_if (SeesSteps later kept drawn) (λ said u k. ⊥) ran.said s ran.k ran.end e ran.tells.1
 
     pub not_lost : end ≢ ends.WriteFault
     not_lost e = none_lost (sym ran.tells.0 ∙ e)
 
-    shown : spans ≡ part_after c ran.said s ran.k
-    shown = subst (λ x. SeesSteps x spans ran.said s ran.k) stays (tells_unless (SeesSteps later spans) (λ said u k. ⊥) ran.said s ran.k ran.end none_lost ran.tells.1)
+    shown : Pictures c kept drawn (part_after c ran.said s ran.k)
+    shown = subst (λ x. SeesSteps x kept drawn ran.said s ran.k) stays (tells_unless (SeesSteps later kept drawn) (λ said u k. ⊥) ran.said s ran.k ran.end none_lost ran.tells.1)
 
     -- the spans ended with the run, and these are their areas
-    pub areas_told : (last : SpanState) (areas : List Area) (product : Product) (result : RunEnd) → product ≡ products.Picture areas
-        → areas ≡ shown_areas c last.done → last ≡ closed spans t.time
+    pub areas_told : (last : SpanState) (areas : List Area) (mine : ChoiceState) (product : Product) (result : RunEnd) → product ≡ products.Picture areas
+        → mine ≡ c → Carries mine kept drawn last areas (λ spans. closed spans t.time)
         → (result ≡ end) ⊎ (result ≡ ends.WriteFault) → Told (TellsAreas c product result s) shelf s n t old new
-    areas_told last areas product result product_is areas_are closed_is put = record {
+    areas_told last areas mine product result product_is same closes put = record {
       said = ran.said;
       k = ran.k;
       end = ran.end;
@@ -59,8 +59,8 @@ module _ (shelf : Shelf) (s t : State) (n : ℕ) (old new : Option (List Request
       tells = (
         subst (λ e. (result ≡ e) ⊎ (result ≡ ends.WriteFault)) ran.tells.0 put,
         product_is
-            ∙ ap products.Picture (areas_are ∙ ap (λ (x : SpanState). shown_areas c x.done)
-            (closed_is ∙ ap (closed spans) (ap (λ (v : State). v.time) ran.made.state) ∙ ap (λ x. closed x (after ran.said s ran.k).time) shown)),
+            ∙ ap products.Picture ((subst (λ x. Carries x kept drawn last areas (λ spans. closed spans t.time)) same closes (part_after c ran.said s ran.k) shown).areas_are
+            ∙ ap (λ (v : State). shown_areas c (closed (part_after c ran.said s ran.k) v.time).done) ran.made.state),
       );
     }
 

@@ -1,29 +1,17 @@
 -- What a picture shows of spans.
-use Rattle.std.proofs.Common.{◌≡◌, ℕ, zero, suc, ◌+◌, ◌<◌, ◌&&◌, true, if◌then◌else◌, List, [], ◌∷◌, ◌++◌, refl, sym, ap, ap₂, ◌∙◌, length, take, get_or, le-leb, arith}
+use Rattle.std.proofs.Common.{◌≡◌, ℕ, zero, suc, ◌+◌, ◌&&◌, true, if◌then◌else◌, List, [], ◌∷◌, refl, ap, ap₂, ◌∙◌, le-leb, arith}
 use Rattle.std.specs.List.{filter}
-use Rattle.std.proofs.lemmas.List.{take_more}
-use Rattle.std.proofs.lemmas.List.Elements.{filter-append}
 use Rattle.wind_machine.specs.State.{State}
 use Rattle.wind_machine.specs.Run.{Answers, after}
 use Rattle.board_changes.specs.Spans.{closed}
 use Rattle.board_trace.specs.Before.{before_step}
 use Rattle.trace_picture.specs.Areas.{areas_of}
 use Rattle.trace_picture.specs.declared.areas.Area.{Area}
-use Rattle.trace_session.specs.Choice.{ChoiceState, everything, is_step}
+use Rattle.trace_session.specs.Choice.{everything, is_step}
 use Rattle.trace_session.specs.Laws.{EverythingLaw}
 use Rattle.trace_session.specs.Shown.{shows}
 use Rattle.trace_session.specs.Spans.{looked_at, no_spans, opening_spans, part_after, part_of, spans_after}
 use Rattle.trace_session.proofs.Lines.{all_lines}
-
--- one more of these areas, if it is shown
-pub one_more : (c : ChoiceState) (areas : List Area) (i : ℕ) (a : Area) (list next : List Area) → i < length areas → a ≡ get_or areas i a → next ≡ list ++ filter (shows c) (a ∷ [])
-    → list ≡ filter (shows c) (take i areas) → next ≡ filter (shows c) (take (i + 1) areas)
-one_more c areas i a list next below at next_is list_is =
-    next_is
-    ∙ ap (λ x. x ++ filter (shows c) (a ∷ [])) list_is
-    ∙ sym (filter-append (shows c) (take i areas) (a ∷ []))
-    ∙ ap (λ (b : Area). filter (shows c) (take i areas ++ b ∷ [])) at
-    ∙ ap (filter (shows c)) (sym (take_more areas i a below))
 
 -- ---- everything
 all_shown : (areas : List Area) → filter (shows everything) areas ≡ areas

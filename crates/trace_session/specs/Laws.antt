@@ -1,15 +1,17 @@
 -- Laws on the lines of a run. Lists of lines are the newest first.
-use Rattle.std.specs.Prelude.{◌≡◌, ℕ, zero, suc, ◌+◌, ◌<◌, Bool, true, false, if◌then◌else◌, List, [], ◌∷◌, ◌++◌}
+use Rattle.std.specs.Prelude.{◌≡◌, ℕ, zero, suc, ◌+◌, ◌<◌, Bool, true, false, if◌then◌else◌, List, [], ◌∷◌, ◌++◌, ◌⊎◌, ◌≤◌, Some, IsSome}
+use Rattle.wind_machine.specs.Machine.{machine_step}
 use Rattle.wind_machine.specs.State.{State}
 use Rattle.wind_machine.specs.Run.{Answers, after, text}
 use Rattle.board_trace.specs.Before.{before_step}
+use Rattle.board_trace.specs.Observed.{part_spans}
 use Rattle.board_trace.specs.Runs.{Line, lines_of, step_lines}
 use Rattle.board_trace.specs.Snapshots.{snapshot_of}
 use Rattle.board_trace.specs.Steps.{is_instruction}
 use Rattle.board_trace.specs.declared.happening.Happening.{Happening}
 use Rattle.board_trace.specs.declared.happening.Happening.TheVariants as told
 use Rattle.trace_picture.specs.Areas.{areas_of}
-use Rattle.trace_session.specs.Choice.{chosen_lines, everything}
+use Rattle.trace_session.specs.Choice.{ChoiceState, chosen_lines, everything, is_up_to}
 use Rattle.trace_session.specs.Shown.{shown_areas}
 use Rattle.trace_session.specs.Spans.{part_of, spans_of}
 use Rattle.trace_session.specs.Summing.{run_summary}
@@ -78,3 +80,16 @@ pub record SummaryTasksLaw : Type 0 where
   pub later : (said : Answers) (s : State) (k j id : ℕ) → j < k → IsOther (after said s j) (after said s (suc j))
       → lives_in id (after said s j) ≡ false → lives_in id (after said s (suc j)) ≡ true → has_row id (run_summary said s k).tasks ≡ true
   pub single : (said : Answers) (s : State) (k : ℕ) → are_single (run_summary said s k).tasks ≡ true
+
+-- of the first k steps, those of a choice are the n after the first m, and there is one
+pub record ArePart (c : ChoiceState) (k m n : ℕ) : Type 0 where
+  pub first : c.first ≡ m + 1
+  pub some : 0 < n
+  pub made : m + n ≤ k
+  pub last : (c.last ≡ Some (m + n)) ⊎ ((m + n ≡ k) × (is_up_to c.last k ≡ true))
+
+-- in a run of k steps from a state without one, the spans of a choice's steps are those of the part that has these steps
+abbrev pub PartLaw : Type 0
+PartLaw =
+    (said : Answers) (s : State) (c : ChoiceState) (k m n : ℕ) → s.steps ≡ 0 → ((j : ℕ) → j < k → IsSome (machine_step (said j) (after said s j))) → ArePart c k m n
+    → (part_of c said s k).done ≡ part_spans said s m n

@@ -12,8 +12,9 @@ use Rattle.board_changes.specs.Spans.{SpanState}
 use Rattle.trace_session.specs.Choice.{ChoiceState, chosen_lines}
 use Rattle.trace_session.specs.declared.traced.Product.{Product}
 use Rattle.trace_session.specs.declared.traced.Product.TheVariants as products
-use Rattle.trace_session.specs.Shown.{shown_areas}
+use Rattle.trace_session.specs.Shown.{Pictures, shown_areas}
 use Rattle.trace_session.specs.Spans.{part_after, part_of}
+use Rattle.trace_picture.specs.declared.areas.Area.{Area}
 use Rattle.trace_state.specs.Board.{IsTextOf, board_data}
 use Rattle.trace_json.specs.Lines.{end_data, line_data}
 use Rattle.trace_text.specs.Ending.{last_line}
@@ -101,9 +102,9 @@ abbrev pub IsReady : SnapshotState → PageState → State → Type 0
 IsReady before page u = (before ≡ snapshot_of u.world) × (count_in page.growing ≤ u.steps)
 
 -- ---- spans under way
--- the spans are those of a choice's steps among the first k
-abbrev pub SeesSteps : ChoiceState → SpanState → Answers → State → ℕ → Type 0
-SeesSteps c spans said s k = spans ≡ part_after c said s k
+-- the picture is one of the spans of a choice's steps among the first k
+abbrev pub SeesSteps : ChoiceState → SpanState → List Area → Answers → State → ℕ → Type 0
+SeesSteps c kept areas said s k = Pictures c kept areas (part_after c said s k)
 
 -- ---- the other forms
 -- nothing is told of the run

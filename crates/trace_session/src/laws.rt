@@ -1,11 +1,11 @@
 //! Laws of the lines of a run, each as the clause of a function.
 
 ghost use Rattle.trace_session.specs.Bursts.{SilentLinesLaw};
-ghost use Rattle.trace_session.specs.Laws.{EverythingLaw, LinesLaw, SummarySpansLaw, SummaryTasksLaw};
+ghost use Rattle.trace_session.specs.Laws.{EverythingLaw, LinesLaw, SummarySpansLaw, SummaryTasksLaw, PartLaw};
 
 use trace_summary::tasks_law;
 use trace_text::joining_law;
-use wind_machine::silent_law;
+use wind_machine::{silent_law, step_law};
 
 /// Instructions that follow others of the same task or routine are one line with them.
 pub(crate) fn silent_lines_law()
@@ -37,4 +37,12 @@ pub fn summary_tasks_law()
     ensures { SummaryTasksLaw }
 {
     tasks_law();
+}
+
+/// The law of parts: the spans of a choice's steps are those of the part of the run that has these
+/// steps. So they tile that part, by `board_trace::run_spans_law`.
+pub fn part_law()
+    ensures { PartLaw }
+{
+    step_law();
 }

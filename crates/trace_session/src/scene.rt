@@ -2,20 +2,16 @@
 //! and how long queues are.
 
 use crate::choice::{Choice, Kind as HappeningKind};
-use board_changes::{Change, TaskView};
+use board_changes::{Awaited, Change, TaskView};
 use board_trace::{BeforeStep, Happening, Snapshot, Subject, view_of};
 use id_table::Ident;
 use kernel_world::Actor;
 use std::alloc::Global;
-use trace_picture::{Area, Kind, Mark, Ownership, Picture, QueueLength, RowName, add_picture};
-use trace_text::add;
+use trace_picture::{
+    Area, Kind, Mark, Ownership, Picture, QueueLength, RowName, add_empty_picture, add_picture,
+};
 use wind_base::NoMemory;
 use wind_session::Board;
-
-// The picture of no step.
-const EMPTY_PICTURE: &[u8] = b"\
-    <svg xmlns=\"http://www.w3.org/2000/svg\" version=\"1.1\" width=\"400\" height=\"60\">\n\
-    <text x=\"20\" y=\"35\">no step of the run is chosen</text>\n</svg>\n";
 
 /// What a picture needs of a run besides what the tasks did.
 #[derive(Drop)]
@@ -35,6 +31,9 @@ pub(crate) struct Scene {
     // the lengths of queues, and each queue with its length
     lengths: Vec<QueueLength>,
     queues: Vec<(u32, u32)>,
+    // the mutexes and queues that a task waited for
+    awaited_mutexes: Vec<u32>,
+    awaited_queues: Vec<u32>,
 }
 
 /// A moment after a step that is shown.
@@ -73,6 +72,14 @@ fn add_spawned(rows: &mut Vec<RowName>, views: &Snapshot, who: Ident) -> Result<
         Some(view) => add_row(rows, view),
         None => Ok(()),
     }
+}
+
+// Adds an id to these, unless it is one of them.
+fn note_id(ids: &mut Vec<u32>, id: Ident) -> Result<(), NoMemory> {
+    if ids.last() == Some(&id.get()) || ids.contains(&id.get()) {
+        return Ok(());
+    }
+    push(ids, id.get())
 }
 
 // The length of a queue with one message more or less.
@@ -115,19 +122,39 @@ impl Scene {
             owned: Vec::new(alloc),
             lengths: Vec::new(alloc),
             queues: Vec::new(alloc),
+            awaited_mutexes: Vec::new(alloc),
+            awaited_queues: Vec::new(alloc),
         }
     }
 
-    /// The picture begins: with the tasks of this snapshot, the owners of mutexes, and the lengths of
-    /// queues.
+    /// The picture begins: with the tasks of this snapshot and what they wait for, the owners of
+    /// mutexes, and the lengths of queues.
     pub(crate) fn open(&mut self, board: &Board, views: &Snapshot) -> Result<(), NoMemory> {
         self.start = Some(board.time());
         for view in &views.tasks {
-            add_row(&mut self.rows, view)?;
+            self.open_task(view)?;
         }
         self.open_mutexes(board)?;
         self.open_queues(board)?;
         self.look(board)
+    }
+
+    // Adds the row of a task, and notes what it waits for.
+    fn open_task(&mut self, view: &TaskView) -> Result<(), NoMemory> {
+        add_row(&mut self.rows, view)?;
+        match &view.wait {
+            Some(object) => self.note_awaited(object),
+            None => Ok(()),
+        }
+    }
+
+    // Notes what a task waits for, if it is a mutex or a queue.
+    fn note_awaited(&mut self, object: &Awaited) -> Result<(), NoMemory> {
+        match object {
+            Awaited::Mutex(id) => note_id(&mut self.awaited_mutexes, *id),
+            Awaited::Receiving(id) | Awaited::Sending(id) => note_id(&mut self.awaited_queues, *id),
+            Awaited::Semaphore(_) | Awaited::Deletion(_) | Awaited::Console => Ok(()),
+        }
     }
 
     // Notes who owns mutexes.
@@ -207,12 +234,14 @@ impl Scene {
         push(&mut self.lengths, length)
     }
 
-    // Notes what changes the rows, owners and queues of a picture, whatever it shows.
+    // Notes what changes the rows, owners and queues of a picture, and what tasks wait for, whatever it
+    // shows.
     fn follow(&mut self, happening: &Happening, moment: &Moment) -> Result<(), NoMemory> {
         match happening {
             Happening::Changed(Change::Spawned { who, .. }) => {
                 add_spawned(&mut self.rows, moment.after, *who)
             }
+            Happening::Changed(Change::Waits { object, .. }) => self.note_awaited(object),
             Happening::Owned { mutex, owner } => self.own(*mutex, *owner, moment.time),
             Happening::Freed { mutex, .. } => self.free(*mutex, moment.time),
             Happening::Queued { queue, .. } => self.count(*queue, true, moment.time),
@@ -272,7 +301,7 @@ impl Scene {
         areas: &[Area],
     ) -> Result<(), NoMemory> {
         let (Some(start), Some(end)) = (self.start, self.end) else {
-            return add(text, EMPTY_PICTURE);
+            return add_empty_picture(text);
         };
         let has_owners = choice.has_kind(HappeningKind::Owners);
         let has_messages = choice.has_kind(HappeningKind::Messages);
@@ -284,6 +313,8 @@ impl Scene {
             routines: shown(has_level, &self.routines),
             owners: shown(has_owners, &self.owners),
             lengths: shown(has_messages, &self.lengths),
+            mutexes: shown(has_owners, &self.awaited_mutexes),
+            queues: shown(has_messages, &self.awaited_queues),
             ticks: &self.ticks,
             marks: &self.marks,
             start,

@@ -1,41 +1,15 @@
 //! What of a run a picture shows.
 
-ghost use Rattle.std.specs.Prelude.{◌≡◌, ◌++◌, ◌∷◌, [], IfOk, OnOk};
+ghost use Rattle.std.specs.Prelude.{◌≡◌, ◌++◌, ◌∷◌, [], OnOk};
 ghost use Rattle.std.specs.List.{filter};
 ghost use Rattle.trace_session.specs.Choice.{choice_state};
-ghost use Rattle.trace_session.specs.Shown.{kind_of_area as kind_of_area_lem, kind_of_standing as kind_of_standing_lem, shown_areas as shown_areas_lem, shows};
+ghost use Rattle.trace_session.specs.Shown.{kind_of_area as kind_of_area_lem, kind_of_standing as kind_of_standing_lem, shown_areas, shows};
 
 use crate::choice::{Choice, Kind};
-use board_changes::{Awaited, Look, Span, Standing};
+use board_changes::{Span, Standing};
 use board_trace::Subject;
-use std::alloc::Global;
-use std::marker::Model;
-use trace_picture::{Area, AreaKind, areas_of};
+use trace_picture::{Area, AreaKind, Areas, band_of, bar_of};
 use wind_base::NoMemory;
-
-/// The areas that a picture shows.
-#[derive(Drop)]
-pub struct ShownAreas {
-    list: Vec<Area>,
-}
-
-impl Model for ShownAreas {
-    ghost use Rattle.std.specs.Prelude.{List};
-    ghost use Rattle.trace_picture.specs.declared.areas.Area.{Area};
-
-    ghost Value = { List Area };
-
-    ghost view = { λ a. a.list.items };
-}
-
-impl ShownAreas {
-    /// The areas, in the order in which their spans ended.
-    pub fn list(&self) -> &[Area]
-        ensures { result.now ≡ self.now }
-    {
-        &self.list
-    }
-}
 
 // The kind of what a task does.
 fn kind_of_standing(standing: Standing) -> Kind
@@ -66,42 +40,32 @@ fn shows_area(choice: &Choice, area: &Area) -> bool
 }
 
 // Adds an area, if a picture of a choice shows it.
-fn add_shown(list: &mut Vec<Area>, choice: &Choice, area: &Area) -> Result<(), NoMemory>
-    ensures { OnOk result (list.new.items ≡ list.old.items ++ filter (shows (choice_state choice.now)) (area.now ∷ [])) }
+fn add_if_shown(areas: &mut Areas, choice: &Choice, area: Area) -> Result<(), NoMemory>
+    ensures { OnOk result (areas.new ≡ areas.old ++ filter (shows (choice_state choice.now)) (area ∷ [])) }
 {
-    if !shows_area(choice, area) {
-        return Ok(());
-    }
-    let object: Option<Awaited> = area.title.object;
-    let title = Look {
-        object,
-        ..area.title
-    };
-    if list.push(Area { title, ..*area }).is_err() {
-        return Err(NoMemory);
+    if shows_area(choice, &area) {
+        return areas.add(area);
     }
     Ok(())
 }
 
-// Those of these areas that a picture of a choice shows.
-fn only_shown(alloc: Global, choice: &Choice, areas: &[Area]) -> Result<ShownAreas, NoMemory>
-    ensures { IfOk result (λ shown. shown ≡ filter (shows (choice_state choice.now)) areas.now) }
+// Adds the areas of a span that a picture of a choice shows.
+fn add_span(areas: &mut Areas, choice: &Choice, span: &Span) -> Result<(), NoMemory>
+    ensures { OnOk result (areas.new ≡ areas.old ++ shown_areas (choice_state choice.now) (span.now ∷ [])) }
 {
-    let mut list = Vec::new(alloc);
-    for area in areas {
-        add_shown(&mut list, choice, area)?;
+    add_if_shown(areas, choice, bar_of(span))?;
+    match band_of(span) {
+        Some(band) => add_if_shown(areas, choice, band),
+        None => Ok(()),
     }
-    Ok(ShownAreas { list })
 }
 
-/// The areas of spans that a picture of a choice shows.
-pub(crate) fn shown_areas(
-    alloc: Global,
-    choice: &Choice,
-    spans: &[Span],
-) -> Result<ShownAreas, NoMemory>
-    ensures { IfOk result (λ shown. shown ≡ shown_areas_lem (choice_state choice.now) spans.now) }
+/// Adds the areas of spans that a picture of a choice shows.
+pub(crate) fn add_spans(areas: &mut Areas, choice: &Choice, spans: &[Span]) -> Result<(), NoMemory>
+    ensures { OnOk result (areas.new ≡ areas.old ++ shown_areas (choice_state choice.now) spans.now) }
 {
-    let areas = areas_of(alloc, spans)?;
-    only_shown(alloc, choice, areas.list())
+    for span in spans {
+        add_span(areas, choice, span)?;
+    }
+    Ok(())
 }

@@ -37,7 +37,7 @@ impl<'a> Teller for Observer<'a> {
 
     ghost reads = { λ before s. before ≡ before_step s };
 
-    ghost tells = { λ o first now. SeesSteps (choice_state o.choice.now) o.spans };
+    ghost tells = { λ o first now. SeesSteps (choice_state o.choice.now) o.spans o.areas };
 
     ghost lost = { λ scope first now said s k. ⊥ };
 
@@ -102,7 +102,7 @@ pub(crate) fn draw_timeline<F: Folder, O: Sink>(
     let mut observer = Observer::new(alloc, choice, board)?;
     let end = tell_run(alloc, board, folder, modules, out, limit, &mut observer)?;
     observer.close(board)?;
-    let areas = observer.take_areas()?;
+    let areas = observer.take_areas();
     let mut text = Vec::new(alloc);
     observer.draw(&mut text, &areas)?;
     Ok(TracedRun {

@@ -3,7 +3,7 @@
 ghost use Rattle.std.specs.Prelude.{◌≡◌};
 ghost use Rattle.trace_session.specs.declared.traced.Product.TheVariants as products;
 
-use crate::shown::ShownAreas;
+use trace_picture::Areas;
 use trace_summary::Summary;
 use wind_session::RunEnd;
 
@@ -13,7 +13,7 @@ pub enum Product {
     /// The text is all.
     Text,
     /// The areas of the picture.
-    Picture(ShownAreas),
+    Picture(Areas),
     /// The figures of the table.
     Table(Summary),
 }

@@ -104,7 +104,6 @@ module _ (id : ℕ) where
     jump = λ time o. refl;
     file = λ name o. refl;
     runs = λ who last o. refl;
-    exception = λ who at cause o. refl;
     abort = λ o. refl;
     queued = λ queue sender o. refl;
     handed = λ queue sender receiver o. refl;
@@ -167,7 +166,7 @@ module _ (id : ℕ) where
         (each_both Keeps (map told.Changed cs) _ (each_change Keeps (λ x y. refl) cs)
         (each_both Keeps (routines c r wrote) (writes c.actor written) (each_routine Keeps keeps_else c r wrote) (each_write Keeps keeps_else c.actor written))) in
         owner_append (causes c before after r written) (effects c before after r written) o
-        ∙ ap (owner_replayed id (effects c before after r written)) (kept_by (causes c before after r written) (each_cause Keeps keeps_else (λ who call reply x. refl) c before after r written) o)
+        ∙ ap (owner_replayed id (effects c before after r written)) (kept_by (causes c before after r written) (each_cause Keeps keeps_else (λ who call reply x. refl) (λ who at cause x. refl) c before after r written) o)
         ∙ owner_append (owners c r) rest o ∙ kept_by rest each (owner_replayed id (owners c r) o)
 
     -- an instruction names no mutex
