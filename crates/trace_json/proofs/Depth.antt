@@ -36,11 +36,11 @@ use Rattle.trace_json.specs.Lines.{end_data, head_members, line_data, standing_d
 
 -- ---- members
 -- no value of these members nests deeper than n
-abbrev Within : ℕ → List (List ℕ × Data) → Type 0
+abbrev pub Within : ℕ → List (List ℕ × Data) → Type 0
 Within n [] = Unit {0}
 Within n (m ∷ ms) = (depth m.1 ≤ n) × Within n ms
 
-both : (n : ℕ) (ms ns : List (List ℕ × Data)) → Within n ms → Within n ns → Within n (ms ++ ns)
+pub both : (n : ℕ) (ms ns : List (List ℕ × Data)) → Within n ms → Within n ns → Within n (ms ++ ns)
 both n [] ns h g = g
 both n (m ∷ ms) ns h g = (h.0, both n ms ns h.1 g)
 
@@ -48,7 +48,7 @@ all_within : (n : ℕ) (ms : List (List ℕ × Data)) (found : Members) → With
 all_within n [] found h low = low
 all_within n (m ∷ ms) found h low = all_within n ms (with_member m.0 m.1 found) h.1 (member_within m.0 m.1 found n h.0 low)
 
-made_within : (n : ℕ) (ms : List (List ℕ × Data)) → Within n ms → depth (object_of ms) ≤ suc n
+pub made_within : (n : ℕ) (ms : List (List ℕ × Data)) → Within n ms → depth (object_of ms) ≤ suc n
 made_within n ms h = object_within (with_all ms no_members) n (all_within n ms no_members h (omega arith))
 
 -- ---- calls
@@ -71,7 +71,7 @@ call_within : (c : Call) (r : Reply) → Within 1 (call_members c r)
 call_within c r = (omega arith, (list_within 0 word_data (words_of c) word_within, reply_within (gate_of c) r))
 
 -- ---- changes
-wait_within : (o : Option Awaited) → depth (wait_data o) ≤ 1
+pub wait_within : (o : Option Awaited) → depth (wait_data o) ≤ 1
 wait_within None = omega arith
 wait_within (Some object) = object_within _ 0 (member_within _ _ _ _ (maybe_within 0 (awaited_id object)) (member_within _ _ _ _ (omega arith) (omega arith)))
 
@@ -107,7 +107,7 @@ cause_within (causes.Illegal word) = (omega arith, tt)
 cause_within causes.Trap = tt
 cause_within causes.SystemCall = tt
 
-event_within : (h : Happening) → Within 1 (event_members h)
+pub event_within : (h : Happening) → Within 1 (event_members h)
 event_within (told.Tick tick) = (omega arith, tt)
 event_within (told.Arrival count) = (omega arith, tt)
 event_within (told.Interrupt slot) = (omega arith, tt)

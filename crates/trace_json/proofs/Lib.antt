@@ -1,1 +1,3 @@
+mod ChromeDepth
 mod Depth
+pub mod Gaining

@@ -1,11 +1,15 @@
-//! The lines of a run as JSON: an object for each thing that happened, and one for the end.
+//! A run as JSON: as lines, an object for each thing that happened and one for the end; and as a list
+//! of objects of the trace-event format.
 #![tactic(auto)]
 
 mod calls;
 mod changes;
+mod chrome;
 mod ending;
 mod form;
 mod happenings;
 mod lines;
+mod members;
 
 pub use form::JsonLines;
+pub use members::{add_instant, add_opening, add_span, add_spawned, close_list, open_list};

@@ -1,7 +1,9 @@
 -- A silent step is one instruction: it is told in one line, which is joined with that of the instructions before it.
 use Rattle.std.proofs.Common.{◌≡◌, ℕ, zero, suc, ◌+◌, Bool, true, false, not, ◌||◌, ◌&&◌, if◌then◌else◌, ◌<◌, ◌≤◌, ◌-◌, List, [], ◌∷◌, ◌++◌, map, Option, None, Some, refl, sym, ap, ap₂, ◌∙◌, arith, add-one}
 use Rattle.std.specs.Prelude.{cond, is_none, is_some}
-use Rattle.std.specs.List.{filter}
+use Rattle.std.specs.List.{filter, flat_map}
+use Rattle.std.proofs.lemmas.List.{append-nil}
+use Rattle.serde_json.specs.Data.{Data}
 use Rattle.board_trace.specs.Subjects.{subject_of}
 use Rattle.std.proofs.lemmas.Bool.{eq-eqb}
 use Rattle.kernel_world.specs.Actors.{is_shell}
@@ -25,11 +27,15 @@ use Rattle.board_trace.specs.declared.happening.Happening.TheVariants as told
 use Rattle.trace_text.specs.Joining.{JoiningLaw}
 use Rattle.wind_session.proofs.Continuing.{burst_counted}
 use Rattle.trace_session.specs.Choice.{AreAlike, ChoiceState, chosen_in, chosen_lines, is_chosen, is_of, is_among, is_step, kind_of, with_if}
+use Rattle.trace_session.specs.Chrome.{going_on, line_objects, objects_after, span_objects, step_objects}
 use Rattle.trace_session.specs.Bursts.{SilentLinesLaw, instructions_line, with_instructions}
 use Rattle.board_changes.specs.Spans.{SpanState, closed}
 use Rattle.trace_session.specs.Spans.{looked_at, looked_by, observed_in, opening_spans, part_after}
 
 -- ---- one silent step
+abbrev the_none : List Data
+the_none = []
+
 -- no other task runs
 no_switch : (last : Option ℕ) → switches last last ≡ []
 no_switch None = refl
@@ -152,20 +158,47 @@ module _ (law : SilentLaw) (said : Answers) (s u : State) (i : ℕ) (here : u �
     unchanged true v t part one = ap (λ x. if x then part else observed_in part t) one
     unchanged false v t part one = refl
 
+    -- the next step and the one after it are like the first
+    looked_same : (k : ℕ) (v t : State) (part : SpanState) → SilentSteps k u v → IsSilentStep v t → suc k ≤ m - 1 → looked_by c (before_step v) part t ≡ part
+    looked_same k v t part steps step few =
+        let now : v.steps + 1 ≡ u.steps + k + 1 = omega (arith, burst_counted law u v k steps) in
+        let next : v.steps + 1 + 1 ≡ u.steps + suc k + 1 = omega (arith, burst_counted law u v k steps) in
+        ap₂ (λ x y. if x then (if y then looked_at (before_step v) part t else closed (looked_at (before_step v) part t) t.time) else (if y then opening_spans t else part))
+        (ap (is_step c) now ∙ alike k (omega (arith, few))) (ap (is_step c) next ∙ alike (suc k) (omega (arith, few)))
+        ∙ unchanged (is_step c (u.steps + 1)) v t part (is_one_instruction v t step)
+
     pub part_on : (k : ℕ) (t : State) → SilentSteps k u t → k ≤ m - 1 → part_after c said s (i + k) ≡ part_after c said s i
     part_on zero t steps few = let end : i + 0 ≡ i = omega arith in ap (part_after c said s) end
     part_on (suc k) t steps few =
         let v = steps.0 in
-        let n = i + k in
-        let part = part_after c said s n in
-        let now : v.steps + 1 ≡ u.steps + k + 1 = omega (arith, burst_counted law u v k steps.1) in
-        let next : v.steps + 1 + 1 ≡ u.steps + suc k + 1 = omega (arith, burst_counted law u v k steps.1) in
+        let part = part_after c said s (i + k) in
         ap (part_after c said s) (at_end k)
         ∙ ap₂ (λ (a b : State). looked_by c (before_step a) part b) (sym (there k v steps.1)) (sym (next_there k t steps))
-        ∙ ap₂ (λ x y. if x then (if y then looked_at (before_step v) part t else closed (looked_at (before_step v) part t) t.time) else (if y then opening_spans t else part))
-        (ap (is_step c) now ∙ alike k (omega (arith, few))) (ap (is_step c) next ∙ alike (suc k) (omega (arith, few)))
-        ∙ unchanged (is_step c (u.steps + 1)) v t part (is_one_instruction v t steps.2)
+        ∙ looked_same k v t part steps.1 steps.2 few
         ∙ part_on k v steps.1 (omega (arith, few))
+
+    -- and they have no objects
+    no_object : (b : Bool) → (([] ++ (if b then [] else [])) ++ []) ++ [] ≡ the_none
+    no_object true = refl
+    no_object false = refl
+
+    step_none : (k : ℕ) (v t : State) (part : SpanState) (said : FileSaid) → SilentSteps k u v → IsSilentStep v t → suc k ≤ m - 1 → step_objects c said part v t ≡ the_none
+    step_none k v t part said steps step few =
+        ap₂ (λ ls (x : SpanState). flat_map (line_objects c) ls ++ flat_map (span_objects c) x.done) (one_line v t step said) (looked_same k v t (going_on part) steps step few)
+        ∙ no_object (is_chosen c (instructions_line v step.who 1))
+
+    pub objects_on : (k : ℕ) (t : State) → SilentSteps k u t → k ≤ m - 1 → objects_after c said s (i + k) ≡ objects_after c said s i
+    objects_on zero t steps few = let end : i + 0 ≡ i = omega arith in ap (objects_after c said s) end
+    objects_on (suc k) t steps few =
+        let v = steps.0 in
+        let n = i + k in
+        let part = part_after c said s n in
+        let made = objects_after c said s n in
+        ap (objects_after c said s) (at_end k)
+        ∙ ap₂ (λ (a b : State). made ++ step_objects c (said n) part a b) (sym (there k v steps.1)) (sym (next_there k t steps))
+        ∙ ap (λ ds. made ++ ds) (step_none k v t part (said n) steps.1 steps.2 few)
+        ∙ append-nil made
+        ∙ objects_on k v steps.1 (omega (arith, few))
 
 pub silent_lines : JoiningLaw → SilentLaw → SilentLinesLaw
 silent_lines joins law c said s u t who i k here last steps alike = lines_on law said s u i here c who joins t k last steps alike ∙ as_either c k u who (chosen_lines c said s i)

@@ -37,8 +37,8 @@ impl ShownAreas {
     }
 }
 
-// The kind of what a task does.
-fn kind_of_standing(standing: Standing) -> Kind
+/// The kind of what a task does.
+pub(crate) fn kind_of_standing(standing: Standing) -> Kind
     ensures { result ≡ kind_of_standing_lem standing }
 {
     match standing {

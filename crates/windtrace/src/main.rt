@@ -1,4 +1,4 @@
-//! windtrace plays a session as windplay does, and tells what happened: as lines, as a picture, or as
+//! windtrace plays a session as windplay does, and tells what happened: as lines, as a picture, as objects for other programs, or as
 //! the board that is left.
 #![tactic(auto)]
 

@@ -1,0 +1,136 @@
+-- Objects of the trace-event format. The process is 1; a task's thread is its id, and thread 0 is the board with its
+-- interrupt level. A microsecond is a unit of board time.
+use Rattle.std.specs.Prelude.{◌≡◌, ℕ, ◌-◌, List, [], ◌∷◌, ◌++◌, map, Option, None, Some, if◌then◌else◌, codes}
+use Rattle.std.specs.List.{flat_map}
+use Rattle.serde_json.specs.Data.{Data, boolean, string}
+use Rattle.serde_json.specs.Read.{read}
+use Rattle.board_changes.specs.declared.change.Change.TheVariants as changes
+use Rattle.board_changes.specs.declared.look.Look.{Look}
+use Rattle.board_changes.specs.declared.look.Standing.{Standing}
+use Rattle.board_changes.specs.declared.look.Standing.TheVariants.{Running, Ready, Waiting, Sleeping, Suspended}
+use Rattle.board_changes.specs.declared.spans.Span.{Span}
+use Rattle.board_changes.specs.declared.view.TaskView.{TaskView}
+use Rattle.board_trace.specs.Subjects.{subject_of}
+use Rattle.board_trace.specs.declared.happening.Happening.{Happening}
+use Rattle.board_trace.specs.declared.happening.Happening.TheVariants as told
+use Rattle.board_trace.specs.declared.who.Subject.{Subject}
+use Rattle.board_trace.specs.declared.who.Subject.TheVariants as subjects
+use Rattle.trace_text.specs.Pages.{is_instructions}
+use Rattle.trace_state.specs.Board.{time_shown}
+use Rattle.trace_state.specs.Json.{number_of, object_of, text_of}
+use Rattle.trace_state.specs.Tasks.{wait_data}
+use Rattle.trace_json.specs.Happenings.{event_members, event_word}
+
+-- the thread of a subject
+abbrev pub thread_of : Subject → ℕ
+thread_of subjects.Board = 0
+thread_of subjects.Interrupt = 0
+thread_of (subjects.Task id) = id
+
+-- the phase of an object, its name, and its process and thread
+abbrev pub place_members : List ℕ → List ℕ → ℕ → List (List ℕ × Data)
+place_members phase name thread =
+    (codes "ph", string phase) ∷ (codes "name", string name) ∷ (codes "pid", number_of 1) ∷ (codes "tid", number_of thread) ∷ []
+
+-- what else is told of it
+abbrev pub args_members : Data → List (List ℕ × Data)
+args_members d = (codes "args", d) ∷ []
+
+-- ---- names
+-- a thread has this name
+abbrev pub thread_args : List ℕ → Data
+thread_args name = object_of ((codes "name", text_of name) ∷ [])
+
+unfoldable pub thread_data : ℕ → List ℕ → Data
+thread_data thread name = object_of (place_members (codes "M") (codes "thread_name") thread ++ args_members (thread_args name))
+
+-- a task's thread has the task's name
+abbrev pub task_objects : TaskView → List Data
+task_objects t = thread_data t.id t.name ∷ []
+
+-- the names before the first step: of the board's thread, and of its tasks'
+abbrev pub opening_objects : List TaskView → List Data
+opening_objects tasks = (thread_data 0 (codes "board") ∷ []) ++ flat_map task_objects tasks
+
+-- the task that a happening spawns
+abbrev pub spawned_task : Happening → Option ℕ
+spawned_task (told.Changed (changes.Spawned who pri)) = Some who
+spawned_task h = None
+
+-- its thread gets its name
+abbrev pub thread_objects : Option ℕ → List ℕ → List Data
+thread_objects None name = []
+thread_objects (Some who) name = thread_data who name ∷ []
+
+abbrev pub name_objects : Happening → List ℕ → List Data
+name_objects h name = thread_objects (spawned_task h) name
+
+-- ---- spans
+-- the word for what a task does
+abbrev pub standing_word : Standing → List ℕ
+standing_word Running = codes "running"
+standing_word Ready = codes "ready"
+standing_word Waiting = codes "waiting"
+standing_word Sleeping = codes "sleeping"
+standing_word Suspended = codes "suspended"
+
+-- what a task waits for, and whether its priority is inherited
+abbrev pub look_data : Look → Data
+look_data l = object_of ((codes "wait", wait_data l.object) ∷ (codes "inherits", boolean l.inherits) ∷ [])
+
+-- from when, and for how long
+abbrev pub times_members : ℕ → ℕ → List (List ℕ × Data)
+times_members from to = (codes "ts", number_of (time_shown from)) ∷ (codes "dur", number_of (time_shown (to - from))) ∷ []
+
+-- a span of a task
+unfoldable pub span_data : Span → Data
+span_data s =
+    object_of (place_members (codes "X") (standing_word s.look.standing) s.who ++ (times_members s.from s.to ++ args_members (look_data s.look)))
+
+-- ---- instants
+-- how far an instant reaches, a thread (t) or everything (g); and its time
+abbrev pub instant_members : List ℕ → ℕ → List (List ℕ × Data)
+instant_members scope time = (codes "s", string scope) ∷ (codes "ts", number_of (time_shown time)) ∷ []
+
+-- the number of a step, and what else is told of a happening in it
+abbrev pub detail_data : ℕ → Happening → Data
+detail_data step h = object_of ((codes "step", number_of step) ∷ event_members h)
+
+-- a happening in the step with this number, which begins at this time
+unfoldable pub instant_data : ℕ → ℕ → Happening → Data
+instant_data time step h =
+    object_of (place_members (codes "i") (event_word h) (thread_of (subject_of h)) ++ (instant_members (codes "t") time ++ args_members (detail_data step h)))
+
+-- each happening is an instant; instructions are not, as the spans show them
+abbrev pub instant_objects : ℕ → ℕ → Happening → List Data
+instant_objects time step h = if is_instructions h then [] else instant_data time step h ∷ []
+
+-- ---- the end
+-- the run ended at this time after this step, like this
+abbrev pub ending_args : ℕ → List ℕ → Data
+ending_args step how = object_of ((codes "step", number_of step) ∷ (codes "how", text_of how) ∷ [])
+
+unfoldable pub closing_data : ℕ → ℕ → List ℕ → Data
+closing_data time step how =
+    object_of (place_members (codes "i") (codes "end") 0 ++ (instant_members (codes "g") time ++ args_members (ending_args step how)))
+
+-- ---- texts
+-- an object that others follow: a comma and a newline come after it
+abbrev pub member_text : List ℕ → List ℕ
+member_text json = json ++ codes ",\n"
+
+-- the text has these objects, each followed by others; each reads back as its value
+pub record AreMembers (ds : List Data) (text : List ℕ) : Type 0 where
+  pub jsons : List (List ℕ)
+  pub read_back : map read jsons ≡ map Some ds
+  pub text_is : text ≡ flat_map member_text jsons
+
+-- the text is the last object and the end of the list; the object reads back as this value
+pub record IsLastMember (d : Data) (text : List ℕ) : Type 0 where
+  pub json : List ℕ
+  pub reads_back : read json ≡ Some d
+  pub text_is : text ≡ json ++ codes "\n]\n"
+
+-- how a list begins
+abbrev pub list_opening : List ℕ
+list_opening = codes "[\n"

@@ -1,0 +1,137 @@
+"""Checks `windtrace --as chrome`: usage: chrome.py WINDTRACE [COUNT [SEED]], or chrome.faults(WINDTRACE, FOLDER).
+
+COUNT random sessions of replay.py are played, each whole and in parts. The text has to be JSON, also if it is cut after
+a line and closed. Its objects have to follow the rules of the trace-event format. Its spans have to be those of the
+timeline, and its instants the objects of `--as json-lines` without those of instructions.
+"""
+
+import argparse
+import concurrent.futures
+import json
+import pathlib
+import re
+import subprocess
+import sys
+import tempfile
+
+import replay
+
+RECTANGLE = re.compile(rb'<rect class="(\w+)"[^>]*><title>(\d+) [^<]*, (\d+) to (\d+)</title>')
+STANDINGS = {"running", "ready", "waiting", "sleeping", "suspended"}
+# Keys of `--as json-lines` that an instant has elsewhere, or that its thread tells.
+PLACED = ("time", "event", "who", "task", "name")
+CHOICES = [(), ("--from", "40", "--to", "400"), ("--tasks", "1,3"), ("--kinds", "runs,messages"), ("--to", "1")]
+
+
+def run(windtrace, folder, form, words):
+    file = folder / "words"
+    words = [*words, *(file.read_bytes().split() if file.exists() else ())]
+    return subprocess.run([windtrace, "--as", form, *words], cwd=folder, stdout=subprocess.PIPE, check=False).stdout
+
+
+def is_count(value):
+    return isinstance(value, int) and not isinstance(value, bool) and value >= 0
+
+
+def broken_rules(events):
+    """The rules of the format that objects break: which keys each phase has, with their types."""
+    for it in events:
+        phase = it.get("ph")
+        if phase not in ("M", "X", "i"):
+            yield f"{it}: its phase"
+        if not isinstance(it.get("name"), str) or not is_count(it.get("pid")) or not is_count(it.get("tid")):
+            yield f"{it}: its name, process or thread"
+        if phase != "M" and not is_count(it.get("ts")):
+            yield f"{it}: its time"
+        if phase == "X" and not (is_count(it.get("dur")) and it["dur"] > 0):
+            yield f"{it}: its duration"
+        if phase == "i" and it.get("s") not in ("t", "p", "g"):
+            yield f"{it}: its scope"
+        if phase == "M" and not (it["name"] == "thread_name" and isinstance(it["args"]["name"], str)):
+            yield f"{it}: the name that it gives"
+
+
+def unnamed(events):
+    """The threads of spans and instants that have no name before the first of them."""
+    named = set()
+    for it in events:
+        if it["ph"] == "M":
+            named.add(it["tid"])
+        elif it["tid"] not in named:
+            yield f"{it}: its thread has no name"
+
+
+def spans_of_objects(events):
+    return sorted((it["name"], it["tid"], it["ts"], it["ts"] + it["dur"]) for it in events if it["ph"] == "X")
+
+
+def spans_of_timeline(svg):
+    found = ((kind.decode(), int(task), int(since), int(until)) for kind, task, since, until in RECTANGLE.findall(svg))
+    return sorted(it for it in found if it[0] in STANDINGS)
+
+
+def instants_of_objects(events):
+    return [(it["tid"], it["name"], it["ts"], it["args"]) for it in events if it["ph"] == "i"]
+
+
+def instants_of_lines(text):
+    """The instants that lines of JSON give: all but instructions, and the end without its tasks."""
+    for line in map(json.loads, text.splitlines()):
+        rest = {key: value for key, value in line.items() if key not in PLACED}
+        if line["event"] == "end":
+            rest = {"step": line["step"], "how": line["how"]}
+        if line["event"] != "instructions":
+            yield line.get("task", 0), line["event"], line["time"], rest
+
+
+def faults(windtrace, folder, words=()):
+    """What is wrong with the objects of a session."""
+    text = run(windtrace, folder, "chrome", words)
+    try:
+        events = json.loads(text)
+    except ValueError as error:
+        return [f"it is no JSON: {error}"]
+    found = [*broken_rules(events), *unnamed(events)]
+    if spans_of_objects(events) != spans_of_timeline(run(windtrace, folder, "timeline", words)):
+        found.append("its spans are not those of the timeline")
+    if instants_of_objects(events) != list(instants_of_lines(run(windtrace, folder, "json-lines", words))):
+        found.append("its instants are not the objects of the lines")
+    lines = text.splitlines()
+    for cut in (2, len(lines) // 2):
+        try:
+            json.loads(b"\n".join(lines[:cut]).rstrip(b",") + b"]")
+        except ValueError as error:
+            found.append(f"after {cut} lines it is no JSON: {error}")
+    return found
+
+
+def random_faults(windtrace, seed):
+    session = replay.Session(seed)
+    words = ("--profile", str(session.profile), "--limit", str(replay.LIMIT))
+    with tempfile.TemporaryDirectory() as name:
+        folder = pathlib.Path(name)
+        (folder / "console.txt").write_text(session.console)
+        (folder / "ticks.txt").write_text(session.ticks)
+        return [f"{' '.join(some)}: {fault}" for some in CHOICES for fault in faults(windtrace, folder, (*words, *some))]
+
+
+def main():
+    parser = argparse.ArgumentParser()
+    parser.add_argument("windtrace", type=pathlib.Path)
+    parser.add_argument("count", nargs="?", type=int, default=200)
+    parser.add_argument("seed", nargs="?", type=int, default=1)
+    given = parser.parse_args()
+    windtrace = given.windtrace.resolve()
+    wrong = 0
+    with concurrent.futures.ThreadPoolExecutor(2) as pool:
+        found = pool.map(lambda it: random_faults(windtrace, given.seed + it), range(given.count))
+        for session, texts in enumerate(found):
+            wrong += bool(texts)
+            for text in texts[:5]:
+                print(f"session {session}: {text}")
+    print(f"{given.count} sessions, {wrong} are wrong")
+    return 1 if wrong or not given.count else 0
+
+
+if __name__ == "__main__":
+    sys.exit(main())
