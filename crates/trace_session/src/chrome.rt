@@ -1,10 +1,10 @@
 //! A run, told as a list of objects of the trace-event format.
 
-ghost use Rattle.std.specs.Prelude.{◌≡◌, ◌≢◌, ◌⊎◌, ◌≤◌, ◌+◌, ◌++◌, ℕ, List, Option, IfOk, OnErr};
+ghost use Rattle.std.specs.Prelude.{◌≡◌, ◌≢◌, ◌⊎◌, ◌≤◌, ◌+◌, ◌++◌, ℕ, List, [], Option, IfOk, OnErr};
 ghost use Rattle.std.specs.List.{flat_map};
 ghost use Rattle.serde_json.specs.Data.{Data};
 ghost use Rattle.wind_base.specs.Limits.{most_steps};
-ghost use Rattle.wind_outside.specs.Counts.{Rose};
+ghost use Rattle.wind_outside.specs.{Appending.{Appended, AppendedPrefix}, Counts.Rose};
 ghost use Rattle.wind_outside.specs.declared.sink.Put.TheVariants as puts;
 ghost use Rattle.wind_machine.specs.{State.State, Run.{Answers, after}, Silent.SilentSteps};
 ghost use Rattle.wind_session.specs.{Keeping.KeepsFiles, Telling.Told};
@@ -18,17 +18,30 @@ ghost use Rattle.trace_session.specs.Traced.{Alone, IsPutOf};
 
 use crate::charter::Charter;
 use crate::choice::Choice;
+use crate::part_spans::burst_within;
 use crate::traced::TracedRun;
 use board_trace::BeforeStep;
 use std::alloc::Global;
 use trace_state::{last_actor, look_before};
 use wind_base::NoMemory;
-use wind_machine::silent_law;
 use wind_outside::{Device, Folder, Put, Sink};
 use wind_session::{Board, RunEnd, Teller, tell_run};
 
 // The text is put once it has this many bytes.
 const PAGE_BYTES: usize = 65_536;
+
+// Puts the text of objects.
+fn put_objects<O: Sink>(text: &mut Vec<u8>, out: &mut O) -> Put
+    ensures done { result ≡ puts.Done → Appended (O.bytes out.old) (O.bytes out.new) text.old.items }
+    ensures part { AppendedPrefix (O.bytes out.old) (O.bytes out.new) text.old.items }
+    ensures text { text.new.items ≡ [] }
+    ensures failed { result ≡ puts.Failed → Rose (O.faults out.old) (O.faults out.new) }
+    ensures faults { O.faults out.old ≤ O.faults out.new }
+{
+    let put = out.put(text);
+    text.clear();
+    put
+}
 
 // Puts the text of objects if it is full.
 fn put_full<O: Sink>(text: &mut Vec<u8>, out: &mut O) -> Put
@@ -43,9 +56,7 @@ fn put_full<O: Sink>(text: &mut Vec<u8>, out: &mut O) -> Put
     if text.len() < PAGE_BYTES {
         return Put::Done;
     }
-    let put = out.put(text);
-    text.clear();
-    put
+    put_objects(text, out)
 }
 
 // Makes instructions at once, at most `most`. They have no objects. Returns how many it made.
@@ -68,19 +79,17 @@ fn burst(board: &mut Board, charter: &mut Charter, most: u64) -> u64
     ensures before { snapshot_state charter.new.reader.before
         ≡ snapshot_of (seen ⟦<dyn Device as Device>⟧ board.new).world }
 {
-    silent_law();
     board.facts();
     let who = last_actor(board.world());
-    // the step after them is like them, so the first and the last step that is shown is none of them
-    let alike = charter.choice.most_alike(board.steps(), most);
-    let count = board.burst(alike.saturating_sub(1));
+    let count = burst_within(board, charter.choice, most);
     // somebody made a step before, or no instruction is made at once
     let Some(who) = who else {
         return count;
     };
-    if count > 0 {
-        charter.reader.skip(board, &who);
+    if count == 0 {
+        return count;
     }
+    charter.reader.skip(board, &who);
     count
 }
 
@@ -149,7 +158,7 @@ fn tell_end<O: Sink>(
     ensures faults { O.faults out.old ≤ O.faults out.new }
 {
     charter.add_end(board, end)?;
-    match out.put(&charter.text) {
+    match put_objects(&mut charter.text, out) {
         Put::Done => Ok(end),
         Put::Failed => Ok(RunEnd::WriteFault),
     }

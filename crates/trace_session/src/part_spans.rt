@@ -1,10 +1,14 @@
 //! The spans of the steps of a choice.
 
-ghost use Rattle.std.specs.Prelude.{◌≡◌, ◌+◌, ◌<◌, ◌^◌, IfOk, OnOk};
+ghost use Rattle.std.specs.Prelude.{◌≡◌, ◌≤◌, ◌+◌, ◌<◌, ◌^◌, ℕ, IfOk, OnOk};
+ghost use Rattle.wind_base.specs.Limits.{most_steps};
+ghost use Rattle.wind_machine.specs.{State.State, Run.{Answers, after}, Silent.SilentSteps};
+ghost use Rattle.wind_session.specs.BoardPlayerBursts.{MovesLast};
 ghost use Rattle.wind_session.specs.BoardPlayerSeen.{seen};
 ghost use Rattle.board_trace.specs.Snapshots.{snapshot_of};
 ghost use Rattle.trace_session.specs.Choice.{choice_state};
-ghost use Rattle.trace_session.specs.Spans.{first_spans, looked_at, looked_by, looked_in, looked_outside, observed_in, opening_spans};
+ghost use Rattle.trace_session.specs.Chrome.{objects_after};
+ghost use Rattle.trace_session.specs.Spans.{first_spans, looked_at, looked_by, looked_in, looked_outside, observed_in, opening_spans, part_after};
 
 use crate::choice::Choice;
 use board_changes::{Spans, TaskView};
@@ -12,6 +16,7 @@ use board_trace::{BeforeStep, is_instruction};
 use std::alloc::Global;
 use trace_state::running_task;
 use wind_base::NoMemory;
+use wind_machine::silent_law;
 use wind_outside::Device;
 use wind_session::Board;
 
@@ -126,4 +131,25 @@ pub(crate) fn look(
         return look_in(spans, choice, board, before_step, tasks);
     }
     look_outside(alloc, spans, choice, board, before_step, tasks)
+}
+
+/// Makes instructions at once, at most `most`. They leave the spans of a choice as they are and have
+/// no objects. Returns how many it made.
+pub(crate) fn burst_within(board: &mut Board, choice: &Choice, most: u64) -> u64
+    requires { (seen ⟦<dyn Device as Device>⟧ board.old).steps + most ≤ most_steps }
+    ensures made { SilentSteps result (seen ⟦<dyn Device as Device>⟧ board.old)
+        (seen ⟦<dyn Device as Device>⟧ board.new) }
+    ensures within { result ≤ most }
+    ensures only { 0 < result → MovesLast (seen ⟦<dyn Device as Device>⟧ board.old).world
+        (seen ⟦<dyn Device as Device>⟧ board.new).world }
+    ensures part { (said : Answers) (s : State) (i : ℕ) → seen ⟦<dyn Device as Device>⟧ board.old ≡ after said s i
+        → part_after (choice_state choice.now) said s (i + result) ≡ part_after (choice_state choice.now) said s i }
+    ensures objects { (said : Answers) (s : State) (i : ℕ) → seen ⟦<dyn Device as Device>⟧ board.old ≡ after said s i
+        → objects_after (choice_state choice.now) said s (i + result)
+        ≡ objects_after (choice_state choice.now) said s i }
+{
+    silent_law();
+    // the step after them is like them, so the first and the last step that is shown is none of them
+    let alike = choice.most_alike(board.steps(), most);
+    board.burst(alike.saturating_sub(1))
 }
