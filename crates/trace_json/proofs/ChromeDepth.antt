@@ -9,7 +9,8 @@ use Rattle.board_trace.specs.Subjects.{subject_of}
 use Rattle.board_trace.specs.declared.happening.Happening.{Happening}
 use Rattle.trace_state.specs.Json.{number_of, object_of, text_of}
 use Rattle.trace_state.specs.Tasks.{wait_data}
-use Rattle.trace_json.specs.Chrome.{args_members, closing_data, detail_data, ending_args, instant_data, instant_members, look_data, place_members, span_data, standing_word, thread_args, thread_data, thread_of, times_members}
+use Rattle.board_trace.specs.declared.who.Subject.{Subject}
+use Rattle.trace_json.specs.Chrome.{args_members, bind_members, closing_data, detail_data, ending_args, finish_data, flow_members, instant_data, instant_members, look_data, place_members, routine_data, span_data, standing_word, start_data, thread_args, thread_data, thread_of, times_members}
 use Rattle.trace_json.specs.Happenings.{event_members, event_word}
 use Rattle.trace_json.proofs.Depth.{Within, both, event_within, made_within, wait_within}
 
@@ -44,12 +45,33 @@ look_within l =
     let ms : List (List ℕ × Data) = (codes "wait", wait_data l.object) ∷ (codes "inherits", boolean l.inherits) ∷ [] in
     made_within 1 ms (wait_within l.object, (omega arith, tt))
 
-times_within : (from to : ℕ) → Within 2 (times_members from to)
-times_within from to = (omega arith, (omega arith, tt))
+times_within : (n : ℕ) (from to : ℕ) → Within n (times_members from to)
+times_within n from to = (omega arith, (omega arith, tt))
 
 span_within : (s : Span) → depth (span_data s) ≤ 3
 unfolding span_data
-span_within s = long_within 2 (codes "X") (standing_word s.look.standing) s.who (times_members s.from s.to) (look_data s.look) (times_within s.from s.to) (look_within s.look)
+span_within s = long_within 2 (codes "X") (standing_word s.look.standing) s.who (times_members s.from s.to) (look_data s.look) (times_within 2 s.from s.to) (look_within s.look)
+
+-- an object of a place and these members
+flat_within : (n : ℕ) (phase name : List ℕ) (thread : ℕ) (more : List (List ℕ × Data)) → Within n more → depth (object_of (place_members phase name thread ++ more)) ≤ suc n
+flat_within n phase name thread more few =
+    made_within n (place_members phase name thread ++ more) (both n (place_members phase name thread) more (place_within n phase name thread) few)
+
+routine_within : (from to : ℕ) → depth (routine_data from to) ≤ 1
+unfolding routine_data
+routine_within from to = flat_within 0 (codes "X") (codes "routine") 0 (times_members from to) (times_within 0 from to)
+
+flow_within : (number time : ℕ) → Within 0 (flow_members number time)
+flow_within number time = (omega arith, (omega arith, (omega arith, tt)))
+
+start_within : (number time : ℕ) (giver : Subject) → depth (start_data number time giver) ≤ 1
+unfolding start_data
+start_within number time giver = flat_within 0 (codes "s") (codes "wait ends") (thread_of giver) (flow_members number time) (flow_within number time)
+
+finish_within : (number time waiter : ℕ) → depth (finish_data number time waiter) ≤ 1
+unfolding finish_data
+finish_within number time waiter =
+    flat_within 0 (codes "f") (codes "wait ends") waiter (flow_members number time ++ bind_members) (both 0 (flow_members number time) bind_members (flow_within number time) (omega arith, tt))
 
 at_within : (n : ℕ) (scope : List ℕ) (time : ℕ) → Within n (instant_members scope time)
 at_within n scope time = (omega arith, (omega arith, tt))
@@ -80,6 +102,15 @@ thread_shallow d thread name is = shallow d (thread_data thread name) 2 is (thre
 
 pub span_shallow : (d : Data) (s : Span) → d ≡ span_data s → depth d ≤ max_depth
 span_shallow d s is = shallow d (span_data s) 3 is (span_within s) (omega arith)
+
+pub routine_shallow : (d : Data) (from to : ℕ) → d ≡ routine_data from to → depth d ≤ max_depth
+routine_shallow d from to is = shallow d (routine_data from to) 1 is (routine_within from to) (omega arith)
+
+pub start_shallow : (d : Data) (number time : ℕ) (giver : Subject) → d ≡ start_data number time giver → depth d ≤ max_depth
+start_shallow d number time giver is = shallow d (start_data number time giver) 1 is (start_within number time giver) (omega arith)
+
+pub finish_shallow : (d : Data) (number time waiter : ℕ) → d ≡ finish_data number time waiter → depth d ≤ max_depth
+finish_shallow d number time waiter is = shallow d (finish_data number time waiter) 1 is (finish_within number time waiter) (omega arith)
 
 pub instant_shallow : (d : Data) (time step : ℕ) (h : Happening) → d ≡ instant_data time step h → depth d ≤ max_depth
 instant_shallow d time step h is = shallow d (instant_data time step h) 3 is (instant_within time step h) (omega arith)

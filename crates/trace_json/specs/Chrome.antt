@@ -87,6 +87,10 @@ unfoldable pub span_data : Span → Data
 span_data s =
     object_of (place_members (codes "X") (standing_word s.look.standing) s.who ++ (times_members s.from s.to ++ args_members (look_data s.look)))
 
+-- a span in which an interrupt routine is active
+unfoldable pub routine_data : ℕ → ℕ → Data
+routine_data from to = object_of (place_members (codes "X") (codes "routine") 0 ++ times_members from to)
+
 -- ---- instants
 -- how far an instant reaches, a thread (t) or everything (g); and its time
 abbrev pub instant_members : List ℕ → ℕ → List (List ℕ × Data)
@@ -104,6 +108,27 @@ instant_data time step h =
 -- each happening is an instant; instructions are not, as the spans show them
 abbrev pub instant_objects : ℕ → ℕ → Happening → List Data
 instant_objects time step h = if is_instructions h then [] else instant_data time step h ∷ []
+
+-- ---- flows
+-- the number of a flow, and the time at one of its ends
+abbrev pub flow_members : ℕ → ℕ → List (List ℕ × Data)
+flow_members number time =
+    (codes "cat", string (codes "wait")) ∷ (codes "id", number_of number) ∷ (codes "ts", number_of (time_shown time)) ∷ []
+
+-- a flow begins at this time, at who ends a wait
+unfoldable pub start_data : ℕ → ℕ → Subject → Data
+start_data number time giver = object_of (place_members (codes "s") (codes "wait ends") (thread_of giver) ++ flow_members number time)
+
+-- it ends at this time, at the task whose wait ends, in the span that begins then
+abbrev pub bind_members : List (List ℕ × Data)
+bind_members = (codes "bp", string (codes "e")) ∷ []
+
+unfoldable pub finish_data : ℕ → ℕ → ℕ → Data
+finish_data number time waiter = object_of (place_members (codes "f") (codes "wait ends") waiter ++ (flow_members number time ++ bind_members))
+
+-- a flow from who ends a wait, when the step begins, to the task, when the step has been made
+abbrev pub flow_objects : ℕ → Subject → ℕ → ℕ → ℕ → List Data
+flow_objects number giver waiter from to = start_data number from giver ∷ finish_data number to waiter ∷ []
 
 -- ---- the end
 -- the run ended at this time after this step, like this

@@ -4,11 +4,12 @@ ghost use Rattle.std.specs.Prelude.{◌≡◌, IfOk, OnOk};
 ghost use Rattle.serde_json.specs.View.{view};
 ghost use Rattle.trace_state.specs.Held.{members_in};
 ghost use Rattle.trace_state.specs.Json.{with_all};
-ghost use Rattle.trace_json.specs.Chrome.{closing_data, detail_data, ending_args, instant_data, instant_members, look_data, place_members, span_data, standing_word as standing_word_lem, thread_args, thread_data, thread_of as thread_of_lem, times_members};
+ghost use Rattle.trace_json.specs.Chrome.{closing_data, detail_data, ending_args, finish_data, flow_members, instant_data, instant_members, look_data, place_members, routine_data, span_data, start_data, standing_word as standing_word_lem, thread_args, thread_data, thread_of as thread_of_lem, times_members};
 
 use crate::happenings::{add_happening, event_word};
 use board_changes::{Look, Span, Standing};
 use board_trace::{Happening, Subject, subject_of};
+use id_table::Ident;
 use serde_json::Value;
 use std::alloc::{AllocError, Global};
 use trace_state::{Members, time_shown, wait_value};
@@ -109,6 +110,17 @@ pub(crate) fn span_value(alloc: Global, span: &Span) -> Result<Value, AllocError
     Ok(members.finish())
 }
 
+/// A span in which an interrupt routine is active.
+#[tactic(auto, unfolding(crate::specs::Chrome::routine_data))]
+pub(crate) fn routine_value(alloc: Global, from: u128, to: u128) -> Result<Value, AllocError>
+    ensures { IfOk result (λ v. view v ≡ routine_data from to) }
+{
+    let mut members = Members::new(alloc);
+    add_place(&mut members, "X", "routine", 0)?;
+    add_times(&mut members, from, to)?;
+    Ok(members.finish())
+}
+
 // Adds how far an instant reaches, and its time.
 fn add_instant_members(members: &mut Members, scope: &str, time: u128) -> Result<(), AllocError>
     ensures { OnOk result (members_in members.new
@@ -143,6 +155,48 @@ pub(crate) fn instant_value(
     add_instant_members(&mut members, "t", at.time)?;
     let args = detail_value(alloc, at.step, happening)?;
     members.put("args", args)?;
+    Ok(members.finish())
+}
+
+// Adds the number of a flow, and the time at one of its ends.
+fn add_flow_members(members: &mut Members, number: u64, time: u128) -> Result<(), AllocError>
+    ensures { OnOk result (members_in members.new ≡ with_all (flow_members number time) (members_in members.old)) }
+{
+    members.put_word("cat", "wait")?;
+    members.put_number("id", number)?;
+    members.put_number("ts", time_shown(time))
+}
+
+/// A flow that begins at this time, at who ends a wait.
+#[tactic(auto, unfolding(crate::specs::Chrome::start_data))]
+pub(crate) fn start_value(
+    alloc: Global,
+    number: u64,
+    time: u128,
+    giver: Subject,
+) -> Result<Value, AllocError>
+    ensures { IfOk result (λ v. view v ≡ start_data number time giver) }
+{
+    let mut members = Members::new(alloc);
+    add_place(&mut members, "s", "wait ends", thread_of(giver))?;
+    add_flow_members(&mut members, number, time)?;
+    Ok(members.finish())
+}
+
+/// The end of a flow at this time, at the task whose wait ends.
+#[tactic(auto, unfolding(crate::specs::Chrome::finish_data))]
+pub(crate) fn finish_value(
+    alloc: Global,
+    number: u64,
+    time: u128,
+    waiter: Ident,
+) -> Result<Value, AllocError>
+    ensures { IfOk result (λ v. view v ≡ finish_data number time waiter) }
+{
+    let mut members = Members::new(alloc);
+    add_place(&mut members, "f", "wait ends", waiter.get())?;
+    add_flow_members(&mut members, number, time)?;
+    members.put_word("bp", "e")?;
     Ok(members.finish())
 }
 

@@ -12,4 +12,7 @@ mod lines;
 mod members;
 
 pub use form::JsonLines;
-pub use members::{add_instant, add_opening, add_span, add_spawned, close_list, open_list};
+pub use members::{
+    Flow, add_flow, add_instant, add_opening, add_routine, add_span, add_spawned, close_list,
+    open_list,
+};

@@ -5,11 +5,14 @@ ghost use Rattle.std.specs.List.{flat_map};
 ghost use Rattle.serde_json.specs.{Data.depth, Read.max_depth, View.view};
 ghost use Rattle.trace_text.specs.Forms.{Gained};
 ghost use Rattle.trace_text.specs.Pages.{is_instructions as is_instructions_lem};
-ghost use Rattle.trace_json.specs.Chrome.{AreMembers, IsLastMember, closing_data, instant_objects, list_opening, name_objects, opening_objects, span_data, spawned_task as spawned_task_lem, task_objects, thread_data};
+ghost use Rattle.trace_json.specs.Chrome.{AreMembers, IsLastMember, closing_data, finish_data, flow_objects, instant_objects, list_opening, name_objects, opening_objects, routine_data, span_data, start_data, spawned_task as spawned_task_lem, task_objects, thread_data};
 
-use crate::chrome::{closing_value, instant_value, span_value, thread_value};
+use crate::chrome::{
+    closing_value, finish_value, instant_value, routine_value, span_value, start_value,
+    thread_value,
+};
 use board_changes::{Change, Span, TaskView};
-use board_trace::Happening;
+use board_trace::{Happening, Subject};
 use id_table::Ident;
 use serde_json::Value;
 use std::alloc::Global;
@@ -92,6 +95,14 @@ pub fn add_span(alloc: Global, text: &mut Vec<u8>, span: &Span) -> Result<(), No
     add_member(alloc, text, &value)
 }
 
+/// Adds a span in which an interrupt routine is active.
+pub fn add_routine(alloc: Global, text: &mut Vec<u8>, from: u128, to: u128) -> Result<(), NoMemory>
+    ensures { OnOk result (Gained (AreMembers (routine_data from to ∷ [])) text.old.items text.new.items) }
+{
+    let value = routine_value(alloc, from, to)?;
+    add_member(alloc, text, &value)
+}
+
 // It is of instructions.
 fn is_instructions(happening: &Happening) -> bool
     ensures { result ≡ is_instructions_lem happening.now }
@@ -114,6 +125,57 @@ pub fn add_instant(
     }
     let value = instant_value(alloc, at, happening)?;
     add_member(alloc, text, &value)
+}
+
+// Adds the beginning of a flow.
+fn add_start(
+    alloc: Global,
+    text: &mut Vec<u8>,
+    number: u64,
+    time: u128,
+    giver: Subject,
+) -> Result<(), NoMemory>
+    ensures { OnOk result (Gained (AreMembers (start_data number time giver ∷ [])) text.old.items text.new.items) }
+{
+    let value = start_value(alloc, number, time, giver)?;
+    add_member(alloc, text, &value)
+}
+
+// Adds the end of a flow.
+fn add_finish(
+    alloc: Global,
+    text: &mut Vec<u8>,
+    number: u64,
+    time: u128,
+    waiter: Ident,
+) -> Result<(), NoMemory>
+    ensures { OnOk result (Gained (AreMembers (finish_data number time waiter ∷ [])) text.old.items text.new.items) }
+{
+    let value = finish_value(alloc, number, time, waiter)?;
+    add_member(alloc, text, &value)
+}
+
+/// A wait that ends: by whom, whose it is, and when the step begins and has been made.
+#[derive(Clone, Copy)]
+pub struct Flow {
+    /// Who ends it.
+    pub giver: Subject,
+    /// The task that waited.
+    pub waiter: Ident,
+    /// Board time when the step begins.
+    pub from: u128,
+    /// Board time when it has been made.
+    pub to: u128,
+}
+
+/// Adds the flow with this number from who ends a wait to the task.
+pub fn add_flow(alloc: Global, text: &mut Vec<u8>, number: u64, flow: &Flow) -> Result<(), NoMemory>
+    ensures { OnOk result (Gained
+        (AreMembers (flow_objects number flow.now.giver flow.now.waiter flow.now.from flow.now.to))
+        text.old.items text.new.items) }
+{
+    add_start(alloc, text, number, flow.from, flow.giver)?;
+    add_finish(alloc, text, number, flow.to, flow.waiter)
 }
 
 /// Adds the end of a run after the step of this moment, and ends the list.
