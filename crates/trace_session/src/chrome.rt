@@ -1,7 +1,6 @@
 //! A run, told as a list of objects of the trace-event format.
 
 ghost use Rattle.std.specs.Prelude.{◌≡◌, ◌≢◌, ◌⊎◌, ◌≤◌, ◌+◌, ◌++◌, ℕ, List, [], Option, IfOk, OnErr};
-ghost use Rattle.std.specs.List.{flat_map};
 ghost use Rattle.serde_json.specs.Data.{Data};
 ghost use Rattle.wind_base.specs.Limits.{most_steps};
 ghost use Rattle.wind_outside.specs.{Appending.{Appended, AppendedPrefix}, Counts.Rose};
@@ -12,8 +11,7 @@ ghost use Rattle.wind_session.specs.BoardPlayerSeen.{seen};
 ghost use Rattle.wind_session.specs.declared.run.RunEnd.TheVariants as ends;
 ghost use Rattle.board_trace.specs.{Snapshots.snapshot_of, Views.snapshot_state};
 ghost use Rattle.trace_session.specs.Choice.{choice_state};
-ghost use Rattle.trace_session.specs.Chrome.{HoldsFirst, HoldsObjects, IsList, TellsFirst, TellsObjects, last_object, left_spans, objects_after, span_objects};
-ghost use Rattle.trace_session.specs.Spans.{part_after};
+ghost use Rattle.trace_session.specs.Chrome.{HoldsFirst, HoldsObjects, IsList, TellsFirst, TellsObjects, chart_after, charted, last_object, left_objects, objects_after};
 ghost use Rattle.trace_session.specs.Traced.{Alone, IsPutOf};
 
 use crate::charter::Charter;
@@ -70,11 +68,12 @@ fn burst(board: &mut Board, charter: &mut Charter, most: u64) -> u64
     ensures objects { (said : Answers) (s : State) (i : ℕ) → seen ⟦<dyn Device as Device>⟧ board.old ≡ after said s i
         → objects_after (choice_state charter.old.choice.now) said s (i + result)
         ≡ objects_after (choice_state charter.old.choice.now) said s i }
-    ensures part { (said : Answers) (s : State) (i : ℕ) → seen ⟦<dyn Device as Device>⟧ board.old ≡ after said s i
-        → part_after (choice_state charter.old.choice.now) said s (i + result)
-        ≡ part_after (choice_state charter.old.choice.now) said s i }
+    ensures goes_on { (said : Answers) (s : State) (i : ℕ) → seen ⟦<dyn Device as Device>⟧ board.old ≡ after said s i
+        → chart_after (choice_state charter.old.choice.now) said s (i + result)
+        ≡ chart_after (choice_state charter.old.choice.now) said s i }
     ensures choice { charter.new.choice ≡ charter.old.choice }
-    ensures spans { charter.new.spans ≡ charter.old.spans }
+    ensures chart { charted charter.new.spans charter.new.level charter.new.flows
+        ≡ charted charter.old.spans charter.old.level charter.old.flows }
     ensures text { charter.new.text.items ≡ charter.old.text.items }
     ensures before { snapshot_state charter.new.reader.before
         ≡ snapshot_of (seen ⟦<dyn Device as Device>⟧ board.new).world }
@@ -97,7 +96,7 @@ impl<'a> Teller for Charter<'a> {
     ghost use Rattle.std.specs.Prelude.{◌≡◌};
     ghost use Rattle.board_trace.specs.{Before.before_step, Snapshots.snapshot_of, Views.snapshot_state};
     ghost use Rattle.trace_session.specs.Choice.{choice_state};
-    ghost use Rattle.trace_session.specs.Chrome.{ChartsPart, ChartsSteps};
+    ghost use Rattle.trace_session.specs.Chrome.{ChartsPart, ChartsSteps, charted};
 
     type Before = BeforeStep;
 
@@ -109,7 +108,7 @@ impl<'a> Teller for Charter<'a> {
 
     ghost reads = { λ before s. before ≡ before_step s };
 
-    ghost tells = { λ t first now. ChartsSteps (choice_state t.choice.now) t.spans first.bytes now.bytes t.text.items };
+    ghost tells = { λ t first now. ChartsSteps (choice_state t.choice.now) (charted t.spans t.level t.flows) first.bytes now.bytes t.text.items };
 
     ghost lost = { λ scope first now. ChartsPart (choice_state scope.now) first.bytes now.bytes };
 
@@ -147,8 +146,9 @@ fn tell_end<O: Sink>(
 ) -> Result<RunEnd, NoMemory>
     ensures told { IfOk result (λ e. (first : Option (List ℕ)) (objects : List Data)
         → HoldsObjects first (O.bytes out.old) charter.old.text.items objects
-        → (text : List ℕ) × IsList (objects ++ flat_map (span_objects (choice_state charter.old.choice.now))
-        (left_spans charter.old.spans (seen ⟦<dyn Device as Device>⟧ board.now).time))
+        → (text : List ℕ) × IsList (objects ++ left_objects (choice_state charter.old.choice.now)
+        (charted charter.old.spans charter.old.level charter.old.flows)
+        (seen ⟦<dyn Device as Device>⟧ board.now).time)
         (last_object end (seen ⟦<dyn Device as Device>⟧ board.now)) text
         × IsPutOf text e end first (O.bytes out.new)) }
     ensures given_up { OnErr result (O.bytes out.new ≡ O.bytes out.old) }

@@ -7,8 +7,8 @@ ghost use Rattle.wind_session.specs.BoardPlayerBursts.{MovesLast};
 ghost use Rattle.wind_session.specs.BoardPlayerSeen.{seen};
 ghost use Rattle.board_trace.specs.Snapshots.{snapshot_of};
 ghost use Rattle.trace_session.specs.Choice.{choice_state};
-ghost use Rattle.trace_session.specs.Chrome.{objects_after};
-ghost use Rattle.trace_session.specs.Spans.{first_spans, looked_at, looked_by, looked_in, looked_outside, observed_in, opening_spans, part_after};
+ghost use Rattle.trace_session.specs.Chrome.{chart_after, objects_after};
+ghost use Rattle.trace_session.specs.Spans.{first_spans, looked_at, looked_by, looked_in, looked_outside, observed_in, opening_spans};
 
 use crate::choice::Choice;
 use board_changes::{Spans, TaskView};
@@ -133,7 +133,7 @@ pub(crate) fn look(
     look_outside(alloc, spans, choice, board, before_step, tasks)
 }
 
-/// Makes instructions at once, at most `most`. They leave the spans of a choice as they are and have
+/// Makes instructions at once, at most `most`. They leave what goes on in a choice as it is and have
 /// no objects. Returns how many it made.
 pub(crate) fn burst_within(board: &mut Board, choice: &Choice, most: u64) -> u64
     requires { (seen ⟦<dyn Device as Device>⟧ board.old).steps + most ≤ most_steps }
@@ -142,8 +142,8 @@ pub(crate) fn burst_within(board: &mut Board, choice: &Choice, most: u64) -> u64
     ensures within { result ≤ most }
     ensures only { 0 < result → MovesLast (seen ⟦<dyn Device as Device>⟧ board.old).world
         (seen ⟦<dyn Device as Device>⟧ board.new).world }
-    ensures part { (said : Answers) (s : State) (i : ℕ) → seen ⟦<dyn Device as Device>⟧ board.old ≡ after said s i
-        → part_after (choice_state choice.now) said s (i + result) ≡ part_after (choice_state choice.now) said s i }
+    ensures chart { (said : Answers) (s : State) (i : ℕ) → seen ⟦<dyn Device as Device>⟧ board.old ≡ after said s i
+        → chart_after (choice_state choice.now) said s (i + result) ≡ chart_after (choice_state choice.now) said s i }
     ensures objects { (said : Answers) (s : State) (i : ℕ) → seen ⟦<dyn Device as Device>⟧ board.old ≡ after said s i
         → objects_after (choice_state choice.now) said s (i + result)
         ≡ objects_after (choice_state choice.now) said s i }
