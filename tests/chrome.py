@@ -2,7 +2,8 @@
 
 COUNT random sessions of replay.py are played, each whole and in parts. The text has to be JSON, also if it is cut after
 a line and closed. Its objects have to follow the rules of the trace-event format. Its spans have to be those of the
-timeline, and its instants the objects of `--as json-lines` without those of instructions.
+timeline, its instants the objects of `--as json-lines` without those of instructions, and its flows the waits that end
+in a step with a call.
 """
 
 import argparse
@@ -17,6 +18,7 @@ import tempfile
 import replay
 
 RECTANGLE = re.compile(rb'<rect class="(\w+)"[^>]*><title>(\d+) [^<]*, (\d+) to (\d+)</title>')
+ROUTINE = re.compile(rb"<title>interrupt routine, (\d+) to (\d+)</title>")
 STANDINGS = {"running", "ready", "waiting", "sleeping", "suspended"}
 # Keys of `--as json-lines` that an instant has elsewhere, or that its thread tells.
 PLACED = ("time", "event", "who", "task", "name")
@@ -37,7 +39,7 @@ def broken_rules(events):
     """The rules of the format that objects break: which keys each phase has, with their types."""
     for it in events:
         phase = it.get("ph")
-        if phase not in ("M", "X", "i"):
+        if phase not in ("M", "X", "i", "s", "f"):
             yield f"{it}: its phase"
         if not isinstance(it.get("name"), str) or not is_count(it.get("pid")) or not is_count(it.get("tid")):
             yield f"{it}: its name, process or thread"
@@ -47,6 +49,10 @@ def broken_rules(events):
             yield f"{it}: its duration"
         if phase == "i" and it.get("s") not in ("t", "p", "g"):
             yield f"{it}: its scope"
+        if phase in ("s", "f") and not (is_count(it.get("id")) and isinstance(it.get("cat"), str)):
+            yield f"{it}: its flow"
+        if phase == "f" and it.get("bp") != "e":
+            yield f"{it}: where it ends"
         if phase == "M" and not (it["name"] == "thread_name" and isinstance(it["args"]["name"], str)):
             yield f"{it}: the name that it gives"
 
@@ -61,8 +67,40 @@ def unnamed(events):
             yield f"{it}: its thread has no name"
 
 
+def broken_flows(events):
+    """The flows whose ends are not beside each other, or whose numbers do not count up."""
+    ends = [it for it in events if it["ph"] in ("s", "f")]
+    for number, (start, finish) in enumerate(zip(ends[::2], ends[1::2]), 1):
+        if (start["ph"], finish["ph"], start["id"], finish["id"]) != ("s", "f", number, number):
+            yield f"{start}, {finish}: a flow"
+    if len(ends) % 2:
+        yield f"{ends[-1]}: a flow without its end"
+
+
+def flows_of_objects(events):
+    """Who ends a wait, whose, and when."""
+    ends = [it for it in events if it["ph"] in ("s", "f")]
+    return [(start["tid"], finish["tid"], start["ts"]) for start, finish in zip(ends[::2], ends[1::2])]
+
+
+def flows_of_lines(text, told):
+    """The flows that lines of JSON give: to each task whose wait ends in a step in which a task or a routine calls."""
+    callers = {}
+    for line in map(json.loads, text.splitlines()):
+        if line["event"] in ("call", "exception"):
+            callers[line["step"]] = line.get("task", 0)
+    for line in map(json.loads, told.splitlines()):
+        if line["event"] in ("served", "failed", "goes_on") and line["step"] in callers:
+            yield callers[line["step"]], line["task"], line["time"]
+
+
 def spans_of_objects(events):
-    return sorted((it["name"], it["tid"], it["ts"], it["ts"] + it["dur"]) for it in events if it["ph"] == "X")
+    return sorted((it["name"], it["tid"], it["ts"], it["ts"] + it["dur"])
+                  for it in events if it["ph"] == "X" and it["name"] in STANDINGS)
+
+
+def routines_of_objects(events):
+    return sorted((it["ts"], it["ts"] + it["dur"]) for it in events if it["ph"] == "X" and it["name"] == "routine")
 
 
 def spans_of_timeline(svg):
@@ -84,18 +122,24 @@ def instants_of_lines(text):
             yield line.get("task", 0), line["event"], line["time"], rest
 
 
-def faults(windtrace, folder, words=()):
-    """What is wrong with the objects of a session."""
+def faults(windtrace, folder, words=(), whole=()):
+    """What is wrong with the objects of a session, of which `words` choose a part and `whole` choose none."""
     text = run(windtrace, folder, "chrome", words)
     try:
         events = json.loads(text)
     except ValueError as error:
         return [f"it is no JSON: {error}"]
-    found = [*broken_rules(events), *unnamed(events)]
-    if spans_of_objects(events) != spans_of_timeline(run(windtrace, folder, "timeline", words)):
+    found = [*broken_rules(events), *unnamed(events), *broken_flows(events)]
+    svg = run(windtrace, folder, "timeline", words)
+    if spans_of_objects(events) != spans_of_timeline(svg):
         found.append("its spans are not those of the timeline")
-    if instants_of_objects(events) != list(instants_of_lines(run(windtrace, folder, "json-lines", words))):
+    if routines_of_objects(events) != sorted((int(since), int(until)) for since, until in ROUTINE.findall(svg)):
+        found.append("its routines are not those of the timeline")
+    told = run(windtrace, folder, "json-lines", words)
+    if instants_of_objects(events) != list(instants_of_lines(told)):
         found.append("its instants are not the objects of the lines")
+    if flows_of_objects(events) != list(flows_of_lines(run(windtrace, folder, "json-lines", whole), told)):
+        found.append("its flows are not the waits that calls end")
     lines = text.splitlines()
     for cut in (2, len(lines) // 2):
         try:
@@ -112,7 +156,7 @@ def random_faults(windtrace, seed):
         folder = pathlib.Path(name)
         (folder / "console.txt").write_text(session.console)
         (folder / "ticks.txt").write_text(session.ticks)
-        return [f"{' '.join(some)}: {fault}" for some in CHOICES for fault in faults(windtrace, folder, (*words, *some))]
+        return [f"{' '.join(some)}: {fault}" for some in CHOICES for fault in faults(windtrace, folder, (*words, *some), words)]
 
 
 def main():
