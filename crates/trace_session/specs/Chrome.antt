@@ -1,5 +1,5 @@
 -- A run as a list of objects of the trace-event format.
-use Rattle.std.specs.Prelude.{◌≡◌, ◌⊎◌, ℕ, zero, suc, ◌+◌, ◌≤◌, min, nat_lt, Bool, ◌&&◌, if◌then◌else◌, List, [], ◌∷◌, ◌++◌, Option, None, Some}
+use Rattle.std.specs.Prelude.{◌≡◌, ◌⊎◌, ℕ, zero, suc, ◌+◌, ◌-◌, ◌^◌, ◌≤◌, min, nat_lt, Bool, ◌&&◌, if◌then◌else◌, List, [], ◌∷◌, ◌++◌, Option, None, Some}
 use Rattle.std.specs.List.{flat_map}
 use Rattle.std.specs.Option.{unwrap_or}
 use Rattle.serde_json.specs.Data.{Data}
@@ -94,7 +94,7 @@ chosen_waiter c step h = if chosen c step h then waiter_of h else None
 
 -- flows are numbered from 1; from 2 ^ 64 - 1 on they have that number
 abbrev pub next_number : ℕ → ℕ
-next_number n = min (n + 1) 18446744073709551615
+next_number n = min (n + 1) (2 ^ 64 - 1)
 
 -- the number of the last flow, with that to this task
 abbrev pub numbered : Option ℕ → ℕ → ℕ
