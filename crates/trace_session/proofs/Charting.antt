@@ -213,8 +213,11 @@ charted_burst c old new first now text later said s i k chart_is text_is objects
     }
 
 -- before the first step
-pub charted_none : (c : ChoiceState) (x : ChartState) (first : Option (List ℕ)) (text : List ℕ) (said : Answers) (s : State) → x ≡ chart_after c said s 0 → BeginsList (opening_objects (snapshot_of s.world).tasks) text → ChartsSteps c x first first text said s 0
-charted_none c x first text said s same begins = record { holds = objects_begun first text (opening_objects (snapshot_of s.world).tasks) begins; going = ap chart_on same }
+pub charted_none : (c mine : ChoiceState) → mine ≡ c → (x : ChartState) (first : Option (List ℕ)) (text : List ℕ) (said : Answers) (s : State) → x ≡ chart_after c said s 0 → BeginsList (opening_objects (snapshot_of s.world).tasks) text
+    → ChartsSteps mine x first first text said s 0
+charted_none c mine mine_is x first text said s same begins =
+    subst (λ y. ChartsSteps y x first first text said s 0) (sym mine_is)
+    (record { holds = objects_begun first text (opening_objects (snapshot_of s.world).tasks) begins; going = ap chart_on same })
 
 -- ---- how the run ended
 module _ (c mine later : ChoiceState) (same : mine ≡ c) (shelf : Shelf) (s board : State) (n : ℕ) (old mid : Option (List Request)) (first now : Option (List ℕ)) where
