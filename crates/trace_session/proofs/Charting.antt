@@ -170,8 +170,11 @@ charted_burst c old new first now text later said s i k spans_are text_is object
     }
 
 -- before the first step
-pub charted_none : (c : ChoiceState) (spans : SpanState) (first : Option (List ℕ)) (text : List ℕ) (said : Answers) (s : State) → spans ≡ part_after c said s 0 → BeginsList (opening_objects (snapshot_of s.world).tasks) text → ChartsSteps c spans first first text said s 0
-charted_none c spans first text said s same begins = record { holds = objects_begun first text (opening_objects (snapshot_of s.world).tasks) begins; going = ap going_on same }
+pub charted_none : (c mine : ChoiceState) → mine ≡ c → (spans : SpanState) (first : Option (List ℕ)) (text : List ℕ) (said : Answers) (s : State) → spans ≡ part_after c said s 0 → BeginsList (opening_objects (snapshot_of s.world).tasks) text
+    → ChartsSteps mine spans first first text said s 0
+charted_none c mine mine_is spans first text said s same begins =
+    subst (λ x. ChartsSteps x spans first first text said s 0) (sym mine_is)
+    (record { holds = objects_begun first text (opening_objects (snapshot_of s.world).tasks) begins; going = ap going_on same })
 
 -- ---- how the run ended
 module _ (c mine later : ChoiceState) (same : mine ≡ c) (shelf : Shelf) (s board : State) (n : ℕ) (old mid : Option (List Request)) (first now : Option (List ℕ)) where

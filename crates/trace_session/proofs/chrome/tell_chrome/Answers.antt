@@ -16,7 +16,7 @@ returns-in_err-charter-clause-given_up g c =
     rw p.1 (given_up (ChartsPart _ _ _) _ _ _ _ c.args.limit 0 0 _ _ (none_charted _ _ refl _) (omega arith) (begun _ _ c.args.limit _ c.requires.fresh))
 
 pub tell_run-requires-clause-tells : goal.tell_run-requires-clause-tells
-tell_run-requires-clause-tells g c = λ said. charted_none _ _ _ _ said _ c.in_ok-charter.ensures.spans c.in_ok-charter.ensures.text
+tell_run-requires-clause-tells g c = λ said. charted_none _ _ (ap (λ (x : Bor Choice). choice_state x.now) c.in_ok-charter.ensures.choice) _ _ _ said _ c.in_ok-charter.ensures.spans c.in_ok-charter.ensures.text
 
 -- a put failed before the end
 pub returns-in-WriteFault-clause-told : goal.returns-in-WriteFault-clause-told
