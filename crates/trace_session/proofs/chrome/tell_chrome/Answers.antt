@@ -31,7 +31,7 @@ returns-clause-told g c =
     let state = board_by (λ d. (goal.Device-dyn g (d.vtable, d.value)).kind_of d.value) (λ d. (goal.Device-dyn g (d.vtable, d.value)).words_of d.value) in
     let same = ap (λ (x : Bor Choice). choice_state x.now) (c.in_ok-end.ensures.scope ∙ c.in_ok-charter.ensures.choice) in
     rw c.text-in_default.ensures (alone _ _ _ _ _ _ _ _ refl
-    (chart_told _ _ same _ _ _ _ _ _ _ _ _ _ _ (charted_of _ _ _ (ap (λ (x : Bor Choice). choice_state x.now) c.in_ok-charter.ensures.choice) _ _ _ _ _ _ _ _ _ _ _ c.in_ok-end.ensures.told) c.in_default.not-WriteFault _ _ (end_by _ _ same _ _ _ _ c.tell_run-end.new.teller.spans (state c.tell_run-end.new.board) _ _ (c.in_ok-last-in_default.ensures.told _))))
+    (chart_told _ _ same _ _ _ _ _ _ _ _ _ _ _ (charted_of _ _ _ (ap (λ (x : Bor Choice). choice_state x.now) c.in_ok-charter.ensures.choice) _ _ _ _ _ _ _ _ _ _ _ c.in_ok-end.ensures.told) c.in_default.not-WriteFault _ _ (end_by _ _ same _ _ _ _ c.tell_run.new.teller.spans (state c.tell_run.new.board) _ _ (c.in_ok-last-in_default.ensures.told _))))
 
 pub returns-in_err-last-in_default-clause-given_up : goal.returns-in_err-last-in_default-clause-given_up
 returns-in_err-last-in_default-clause-given_up g c =
