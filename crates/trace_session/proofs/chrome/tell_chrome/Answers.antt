@@ -1,9 +1,10 @@
 use Rattle.std.proofs.Common.{Bor, ap, arith, refl, ◌∙◌}
 use Rattle.std.proofs.lemmas.Result.{err_from_is_err_and}
+use Rattle.wind_session.specs.BoardPlayerSeen.{board_by}
 use Rattle.wind_session.proofs.RunLemmas.{begun}
 use Rattle.wind_session.proofs.ToldLemmas.{given_up}
 use Rattle.trace_session.specs.Choice.{choice_state}
-use Rattle.trace_session.specs.Chrome.{ChartsPart}
+use Rattle.trace_session.specs.Chrome.{ChartsPart, charted}
 use Rattle.trace_session.specs.declared.choice.Choice.{Choice}
 use Rattle.trace_session.proofs.Charting.{chart_given_up, chart_lost, chart_told, charted_first, charted_none, charted_of, end_by, none_charted}
 use Rattle.trace_session.proofs.Seeing.{alone}
@@ -27,9 +28,10 @@ returns-in-WriteFault-clause-told g c =
 -- the end was put, or memory ran out for it
 pub returns-clause-told : goal.returns-clause-told
 returns-clause-told g c =
+    let state = board_by (λ d. (goal.Device-dyn g (d.vtable, d.value)).kind_of d.value) (λ d. (goal.Device-dyn g (d.vtable, d.value)).words_of d.value) in
     let same = ap (λ (x : Bor Choice). choice_state x.now) (c.in_ok-end.ensures.scope ∙ c.in_ok-charter.ensures.choice) in
     rw c.text-in_default.ensures (alone _ _ _ _ _ _ _ _ refl
-    (chart_told _ _ same _ _ _ _ _ _ _ _ _ _ _ (charted_of _ _ _ (ap (λ (x : Bor Choice). choice_state x.now) c.in_ok-charter.ensures.choice) _ _ _ _ _ _ _ _ _ _ _ c.in_ok-end.ensures.told) c.in_default.not-WriteFault _ _ (end_by _ _ same _ _ _ _ _ _ _ _ (c.in_ok-last-in_default.ensures.told _))))
+    (chart_told _ _ same _ _ _ _ _ _ _ _ _ _ _ (charted_of _ _ _ (ap (λ (x : Bor Choice). choice_state x.now) c.in_ok-charter.ensures.choice) _ _ _ _ _ _ _ _ _ _ _ c.in_ok-end.ensures.told) c.in_default.not-WriteFault _ _ (end_by _ _ same _ _ _ _ (charted c.tell_run.new.teller.spans c.tell_run.new.teller.level c.tell_run.new.teller.flows) (state c.tell_run.new.board) _ _ (c.in_ok-last-in_default.ensures.told _))))
 
 pub returns-in_err-last-in_default-clause-given_up : goal.returns-in_err-last-in_default-clause-given_up
 returns-in_err-last-in_default-clause-given_up g c =
