@@ -7,6 +7,8 @@ in a step with a call.
 """
 
 import argparse
+import bisect
+import collections
 import concurrent.futures
 import json
 import pathlib
@@ -17,7 +19,7 @@ import tempfile
 
 import replay
 
-RECTANGLE = re.compile(rb'<rect class="(\w+)"[^>]*><title>(\d+) [^<]*, (\d+) to (\d+)</title>')
+RECTANGLE = re.compile(rb'<rect class="(\w+)"[^>]*><title>(\d+) ([^<]*), (\d+) to (\d+)</title>')
 ROUTINE = re.compile(rb"<title>interrupt routine, (\d+) to (\d+)</title>")
 STANDINGS = {"running", "ready", "waiting", "sleeping", "suspended"}
 # Keys of `--as json-lines` that an instant has elsewhere, or that its thread tells.
@@ -103,9 +105,33 @@ def routines_of_objects(events):
     return sorted((it["ts"], it["ts"] + it["dur"]) for it in events if it["ph"] == "X" and it["name"] == "routine")
 
 
-def spans_of_timeline(svg):
-    found = ((kind.decode(), int(task), int(since), int(until)) for kind, task, since, until in RECTANGLE.findall(svg))
-    return sorted(it for it in found if it[0] in STANDINGS)
+def bars_of_timeline(svg):
+    """The bars of one span, and the times of each task in which short spans share a bar."""
+    alone, shared = [], collections.defaultdict(set)
+    for kind, task, what, since, until in RECTANGLE.findall(svg):
+        if kind.decode() not in STANDINGS:
+            continue
+        if what.endswith(b" %"):
+            shared[int(task)].add((int(since), int(until)))
+        else:
+            alone.append((kind.decode(), int(task), int(since), int(until)))
+    return sorted(alone), {task: sorted(times) for task, times in shared.items()}
+
+
+def are_those_of_timeline(spans, svg):
+    """The spans are those of the timeline; in the time of a shared bar, they are as long as the bar."""
+    alone, shared = bars_of_timeline(svg)
+    rest, lengths = [], collections.Counter()
+    for span in spans:
+        name, task, since, until = span
+        times = shared.get(task, [])
+        place = bisect.bisect_right(times, (since, float("inf"))) - 1
+        if place >= 0 and until <= times[place][1]:
+            lengths[task, times[place]] += until - since
+        else:
+            rest.append(span)
+    bars = {(task, time): time[1] - time[0] for task, times in shared.items() for time in times}
+    return rest == alone and dict(lengths) == bars
 
 
 def instants_of_objects(events):
@@ -131,7 +157,7 @@ def faults(windtrace, folder, words=(), whole=()):
         return [f"it is no JSON: {error}"]
     found = [*broken_rules(events), *unnamed(events), *broken_flows(events)]
     svg = run(windtrace, folder, "timeline", words)
-    if spans_of_objects(events) != spans_of_timeline(svg):
+    if not are_those_of_timeline(spans_of_objects(events), svg):
         found.append("its spans are not those of the timeline")
     if routines_of_objects(events) != sorted((int(since), int(until)) for since, until in ROUTINE.findall(svg)):
         found.append("its routines are not those of the timeline")
