@@ -18,13 +18,13 @@ returns g c =
     let new = state c.args.board.now in
     let choice = choice_state c.args.self.now.choice.now in
     let spans : c.done.result.now ≡ left_spans c.args.self.now.spans new.time =
-    c.done.ensures ∙ ap (λ (x : SpanState). x.done) (c.in_ok-close.ensures ∙ ap₂ closed c.forget_done.ensures c.time.ensures) in
+    c.done.ensures ∙ ap (λ (x : SpanState). x.done) (c.in_ok-close.ensures ∙ ap₂ closed c.forget_done.ensures c.time-time.ensures) in
     let P : List Span → Type 0 = λ xs. Gained (AreMembers (flat_map (span_objects choice) xs)) c.args.self.now.text.items c.add_spans.new.text.items in
     let R : ℕ → Type 0 = λ time. Gained (AreMembers (level_objects choice c.args.self.now.level None time)) c.add_spans.new.text.items c.add_level.new.text.items in
     let Q : ℕ → ℕ → List ℕ → Type 0 = λ time step how. Gained (IsLastMember (closing_data time step how)) c.add_level.new.text.items c.close_list.new.text.items in
     on_ok_weaker c.close_list.result
     (λ ended given objects begins.
     list_ended objects (flat_map (span_objects choice) (left_spans c.args.self.now.spans new.time) ++ level_objects choice c.args.self.now.level None new.time) _ given _ _ _ begins
-    (gained_both _ _ _ _ _ (subst P spans c.in_ok-add_spans.ensures) (subst R c.time.ensures c.in_ok-add_level.ensures))
-    (subst (λ n. Q new.time new.steps n) c.how.ensures (subst (λ n. Q new.time n c.how.result.now) c.steps.ensures (subst (λ n. Q n c.steps.result c.how.result.now) c.time.ensures ended))))
+    (gained_both _ _ _ _ _ (subst P spans c.in_ok-add_spans.ensures) (subst R c.time-time.ensures c.in_ok-add_level.ensures))
+    (subst (λ n. Q new.time new.steps n) c.how.ensures (subst (λ n. Q new.time n c.how.result.now) c.steps.ensures (subst (λ n. Q n c.steps.result c.how.result.now) c.time-time.ensures ended))))
     c.close_list.ensures

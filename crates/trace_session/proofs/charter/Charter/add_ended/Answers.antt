@@ -34,5 +34,5 @@ returns-clause-text g c =
     (λ gained.
     gained_both _ _ _ _ _
     (subst P (c.done.ensures ∙ ap (λ (x : SpanState). x.done) (c.in_ok-look.ensures ∙ ap (λ (x : SpanState). looked_by choice b x new) c.forget_done.ensures)) c.in_ok-add_spans.ensures)
-    (subst (Q (level_by choice old.level new)) c.time.ensures (subst (λ l. Q l c.time.result) c.level_by.ensures gained)))
+    (subst (Q (level_by choice old.level new)) c.time-time.ensures (subst (λ l. Q l c.time-time.result) c.level_by-self.ensures gained)))
     c.add_level.ensures

@@ -40,7 +40,7 @@ returns-clause-text g c =
     (gained_both _ _ _ _ _
     (subst (λ step. F step new.time (happenings said s new)) is
     (subst (F b new.time) (happenings_are said s new _ _ _ _ (c.deref-2.ensures.value ∙ c.in_ok-read.ensures.list) is from replied)
-    (subst (λ time. F b time c.deref-2.result.now) c.time.ensures c.in_ok-add_flows.ensures.text)))
+    (subst (λ time. F b time c.deref-2.result.now) c.time.ensures c.in_ok-self.ensures.text)))
     (subst E is c.in_ok-add_ended.ensures.text))
 
 pub returns-clause-chart : goal.returns-clause-chart
@@ -55,6 +55,6 @@ returns-clause-chart g c =
     ∙ ap (λ x. charted (looked_by choice (before_step s) (going_on old.spans) new) x later.flows) c.in_ok-add_ended.ensures.level
     ∙ ap (charted (looked_by choice (before_step s) (going_on old.spans) new) (level_by choice old.level new))
     (c.in_ok-add_ended.ensures.flows
-    ∙ c.in_ok-add_flows.ensures.number
+    ∙ c.in_ok-self.ensures.number
     ∙ ap (λ hs. step_number choice c.args.before_step.now hs old.flows) (happenings_are said s new _ _ _ _ (c.deref-2.ensures.value ∙ c.in_ok-read.ensures.list) is from replied)
     ∙ ap (λ (b : BeforeStep). step_number choice b (happenings said s new) old.flows) is)
