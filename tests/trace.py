@@ -8,6 +8,7 @@ import sys
 import tempfile
 import xml.dom.minidom
 
+import chrome
 import objects
 
 # Lines of a console and of a tick file, and a line that their trace has to have: a call with its reply, by the table in
@@ -159,6 +160,7 @@ def faults(session, windtrace, windplay):
     wanted = session / "coverage"
     if wanted.exists() and wanted.read_bytes() != run(windtrace, session, "--as", "coverage")[1]:
         yield "the coverage is not that of the file"
+    yield from (f"as objects of the trace-event format: {fault}" for fault in chrome.faults(windtrace, session))
     try:
         json.loads(run(windtrace, session, "--as", "state")[1])
     except ValueError as error:

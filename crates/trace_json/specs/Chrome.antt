@@ -115,18 +115,19 @@ abbrev pub flow_members : ℕ → ℕ → List (List ℕ × Data)
 flow_members number time =
     (codes "cat", string (codes "wait")) ∷ (codes "id", number_of number) ∷ (codes "ts", number_of (time_shown time)) ∷ []
 
--- a flow begins at this time, at who ends a wait
+-- a flow begins at this time with whoever ends a wait
 unfoldable pub start_data : ℕ → ℕ → Subject → Data
 start_data number time giver = object_of (place_members (codes "s") (codes "wait ends") (thread_of giver) ++ flow_members number time)
 
--- it ends at this time, at the task whose wait ends, in the span that begins then
+-- it ends in the span that begins at its time
 abbrev pub bind_members : List (List ℕ × Data)
 bind_members = (codes "bp", string (codes "e")) ∷ []
 
+-- it ends at this time with the task whose wait ends
 unfoldable pub finish_data : ℕ → ℕ → ℕ → Data
 finish_data number time waiter = object_of (place_members (codes "f") (codes "wait ends") waiter ++ (flow_members number time ++ bind_members))
 
--- a flow from who ends a wait, when the step begins, to the task, when the step has been made
+-- a flow from whoever ends a wait, when the step begins, to the task, when the step has been made
 abbrev pub flow_objects : ℕ → Subject → ℕ → ℕ → ℕ → List Data
 flow_objects number giver waiter from to = start_data number from giver ∷ finish_data number to waiter ∷ []
 

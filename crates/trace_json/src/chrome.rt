@@ -167,7 +167,7 @@ fn add_flow_members(members: &mut Members, number: u64, time: u128) -> Result<()
     members.put_number("ts", time_shown(time))
 }
 
-/// A flow that begins at this time, at who ends a wait.
+/// The beginning of a flow at this time, with whoever ends a wait.
 #[tactic(auto, unfolding(crate::specs::Chrome::start_data))]
 pub(crate) fn start_value(
     alloc: Global,
@@ -183,7 +183,7 @@ pub(crate) fn start_value(
     Ok(members.finish())
 }
 
-/// The end of a flow at this time, at the task whose wait ends.
+/// The end of a flow at this time, with the task whose wait ends.
 #[tactic(auto, unfolding(crate::specs::Chrome::finish_data))]
 pub(crate) fn finish_value(
     alloc: Global,

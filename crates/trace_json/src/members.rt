@@ -155,7 +155,7 @@ fn add_finish(
     add_member(alloc, text, &value)
 }
 
-/// A wait that ends: by whom, whose it is, and when the step begins and has been made.
+/// A wait that ends in a step.
 #[derive(Clone, Copy)]
 pub struct Flow {
     /// Who ends it.
@@ -168,7 +168,7 @@ pub struct Flow {
     pub to: u128,
 }
 
-/// Adds the flow with this number from who ends a wait to the task.
+/// Adds the flow with this number from whoever ends a wait to the task.
 pub fn add_flow(alloc: Global, text: &mut Vec<u8>, number: u64, flow: &Flow) -> Result<(), NoMemory>
     ensures { OnOk result (Gained
         (AreMembers (flow_objects number flow.now.giver flow.now.waiter flow.now.from flow.now.to))

@@ -1,4 +1,5 @@
 pub mod Bursts
+pub mod Charting
 pub mod Counting
 pub mod Counts
 pub mod Covering

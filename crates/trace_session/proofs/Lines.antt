@@ -53,6 +53,16 @@ lines_read said s t b old before after reply hs read is same from to replied =
     ∙ ap (λ r. map (line_of b (snapshot_of s.world) (snapshot_of t.world)) (happenings_read b (snapshot_of s.world) r t)) replied
     ∙ ap (λ c. map (line_of c (snapshot_of s.world) (snapshot_of t.world)) (happenings_read c (snapshot_of s.world) (step_reply said s) t)) is
 
+-- and what was read is what happens in it
+pub happenings_are : (said : FileSaid) (s t : State) (b : BeforeStep) (old : SnapshotState) (reply : Option Reply) (hs : List Happening) → hs ≡ happenings_read b old reply t → b ≡ before_step s → old ≡ snapshot_of s.world
+    → reply ≡ step_reply said s → hs ≡ happenings said s t
+unfolding happenings
+happenings_are said s t b old reply hs read is from replied =
+    read
+    ∙ ap (λ v. happenings_read b v reply t) from
+    ∙ ap (λ r. happenings_read b (snapshot_of s.world) r t) replied
+    ∙ ap (λ c. happenings_read c (snapshot_of s.world) (step_reply said s) t) is
+
 -- the page has one line more
 pub added : (is_line : Line → List ℕ → Type 0) (c : ChoiceState) (b : BeforeStep) (before after : SnapshotState) (hs : List Happening) (i : ℕ) (h : Happening) (given : List ℕ) (made : List Line) (page : PageState) (name : List ℕ) → i < length hs → h ≡ get_or hs i h
     → name ≡ subject_name before after h

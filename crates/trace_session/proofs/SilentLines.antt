@@ -1,15 +1,19 @@
 -- A silent step is one instruction: it is told in one line, which is joined with that of the instructions before it.
 use Rattle.std.proofs.Common.{◌≡◌, ℕ, zero, suc, ◌+◌, Bool, true, false, not, ◌||◌, ◌&&◌, if◌then◌else◌, ◌<◌, ◌≤◌, ◌-◌, List, [], ◌∷◌, ◌++◌, map, Option, None, Some, refl, sym, ap, ap₂, ◌∙◌, arith, add-one}
 use Rattle.std.specs.Prelude.{cond, is_none, is_some}
-use Rattle.std.specs.List.{filter}
-use Rattle.board_trace.specs.Subjects.{subject_of}
+use Rattle.std.specs.List.{filter, flat_map}
+use Rattle.std.specs.Option.{option_map, unwrap_or}
+use Rattle.std.proofs.lemmas.List.{append-nil}
+use Rattle.serde_json.specs.Data.{Data}
+use Rattle.board_trace.specs.Subjects.{subject_actor, subject_of}
 use Rattle.std.proofs.lemmas.Bool.{eq-eqb}
 use Rattle.kernel_world.specs.Actors.{is_shell}
 use Rattle.kernel_world.specs.declared.actor.Actor.{Actor}
+use Rattle.kernel_world.specs.declared.actor.Actor.TheVariants.{Task as by_task, Interrupt}
 use Rattle.wind_machine.specs.LiveLoadingSaid.{FileSaid}
 use Rattle.wind_machine.specs.State.{State}
 use Rattle.wind_machine.specs.Replies.{step_reply}
-use Rattle.wind_machine.specs.Next.{next}
+use Rattle.wind_machine.specs.Next.{is_active, next}
 use Rattle.wind_machine.specs.Machine.{actor_of}
 use Rattle.wind_machine.specs.Processor.{regs_of}
 use Rattle.wind_machine.specs.Run.{Answers, after}
@@ -21,15 +25,21 @@ use Rattle.board_trace.specs.Outside.{switches}
 use Rattle.board_trace.specs.Runs.{Line, line_in, step_lines, with_line, with_lines}
 use Rattle.board_trace.specs.Snapshots.{after_step, snapshot_of}
 use Rattle.board_trace.specs.Steps.{happenings, has_written, instruction_of, is_instruction, step_happenings}
+use Rattle.board_trace.specs.declared.happening.Happening.{Happening}
 use Rattle.board_trace.specs.declared.happening.Happening.TheVariants as told
+use Rattle.board_trace.specs.declared.moment.BeforeStep.{BeforeStep}
 use Rattle.trace_text.specs.Joining.{JoiningLaw}
 use Rattle.wind_session.proofs.Continuing.{burst_counted}
-use Rattle.trace_session.specs.Choice.{AreAlike, ChoiceState, chosen_in, chosen_lines, is_chosen, is_of, is_among, is_step, kind_of, with_if}
+use Rattle.trace_session.specs.Choice.{AreAlike, ChoiceState, chosen, chosen_in, chosen_lines, is_chosen, is_of, is_among, is_step, kind_of, with_if}
+use Rattle.trace_session.specs.Chrome.{chart_after, charted, flows_after, going_on, level_after, level_by, flows_by, level_objects, line_objects, number_by, numbered, objects_after, span_objects, step_flows, step_number, step_objects, waiter_objects, waiter_of}
 use Rattle.trace_session.specs.Bursts.{SilentLinesLaw, instructions_line, with_instructions}
 use Rattle.board_changes.specs.Spans.{SpanState, closed}
 use Rattle.trace_session.specs.Spans.{looked_at, looked_by, observed_in, opening_spans, part_after}
 
 -- ---- one silent step
+abbrev the_none : List Data
+the_none = []
+
 -- no other task runs
 no_switch : (last : Option ℕ) → switches last last ≡ []
 no_switch None = refl
@@ -66,6 +76,49 @@ module _ (s t : State) (step : IsSilentStep s t) where
 
   one_line : (said : FileSaid) → step_lines said s t ≡ instructions_line s step.who 1 ∷ []
   one_line said = ap (map (line_in s t)) (one_happening said)
+
+-- a routine is active after it exactly if one was before
+same_active : (a b : Bool) (x y : Option ℕ) (who : Actor) → (if a then Some Interrupt else option_map (λ id. by_task id) x) ≡ Some who → (if b then Some Interrupt else option_map (λ id. by_task id) y) ≡ Some who → a ≡ b
+same_active true true x y who p q = refl
+same_active true false x None who p q = absurd (cc)
+same_active true false x (Some id) who p q = absurd (cc)
+same_active false true None y who p q = absurd (cc)
+same_active false true (Some id) y who p q = absurd (cc)
+same_active false false x y who p q = refl
+
+active_stays : (s t : State) → IsSilentStep s t → is_active s.world ≡ is_active t.world
+active_stays s t step = same_active (is_active s.world) (is_active t.world) s.world.kern.last t.world.kern.last step.who step.last step.goes_on
+
+-- since when a routine is active, in a step of the choice or not
+level_is : (a b : Bool) (since : Option ℕ) (time : ℕ) → is_some (if a then (if b then Some (unwrap_or since time) else None) else None) ≡ (a && b)
+level_is true true since time = refl
+level_is true false since time = refl
+level_is false b since time = refl
+
+level_kept : (a b : Bool) (since : Option ℕ) (time : ℕ) → is_some since ≡ (a && b) → (if a then (if b then Some (unwrap_or since time) else None) else None) ≡ since
+level_kept true true None time same = absurd (cc)
+level_kept true true (Some from) time same = refl
+level_kept true false None time same = refl
+level_kept true false (Some from) time same = absurd (cc)
+level_kept false b None time same = refl
+level_kept false b (Some from) time same = absurd (cc)
+
+no_level : (c : ChoiceState) (since : Option ℕ) (time : ℕ) → level_objects c since since time ≡ the_none
+no_level c None time = refl
+no_level c (Some from) time = refl
+
+-- a line that ends no wait has no flow
+none_told : (b : Bool) (waiter : Option ℕ) → waiter ≡ None → (if b then waiter else None) ≡ None
+none_told true waiter none = none
+none_told false waiter none = refl
+
+no_flow : (c : ChoiceState) (who : Option Actor) (b : BeforeStep) (to : ℕ) (h : Happening) (n : ℕ) → waiter_of h ≡ None → flows_by c who b to (h ∷ []) n ≡ the_none
+no_flow c None b to h n none = refl
+no_flow c (Some giver) b to h n none = ap (λ w. waiter_objects (subject_actor giver) w n b.time to ++ the_none) (none_told (chosen c b.step h) (waiter_of h) none)
+
+no_number : (c : ChoiceState) (who : Option Actor) (b : BeforeStep) (h : Happening) (n : ℕ) → waiter_of h ≡ None → number_by c who b (h ∷ []) n ≡ n
+no_number c None b h n none = refl
+no_number c (Some giver) b h n none = ap (λ w. numbered w n) (none_told (chosen c b.step h) (waiter_of h) none)
 
 -- ---- many silent steps
 -- the same task or routine makes all of them
@@ -152,20 +205,100 @@ module _ (law : SilentLaw) (said : Answers) (s u : State) (i : ℕ) (here : u �
     unchanged true v t part one = ap (λ x. if x then part else observed_in part t) one
     unchanged false v t part one = refl
 
+    -- the next step and the one after it are like the first
+    looked_same : (k : ℕ) (v t : State) (part : SpanState) → SilentSteps k u v → IsSilentStep v t → suc k ≤ m - 1 → looked_by c (before_step v) part t ≡ part
+    looked_same k v t part steps step few =
+        let now : v.steps + 1 ≡ u.steps + k + 1 = omega (arith, burst_counted law u v k steps) in
+        let next : v.steps + 1 + 1 ≡ u.steps + suc k + 1 = omega (arith, burst_counted law u v k steps) in
+        ap₂ (λ x y. if x then (if y then looked_at (before_step v) part t else closed (looked_at (before_step v) part t) t.time) else (if y then opening_spans t else part))
+        (ap (is_step c) now ∙ alike k (omega (arith, few))) (ap (is_step c) next ∙ alike (suc k) (omega (arith, few)))
+        ∙ unchanged (is_step c (u.steps + 1)) v t part (is_one_instruction v t step)
+
     pub part_on : (k : ℕ) (t : State) → SilentSteps k u t → k ≤ m - 1 → part_after c said s (i + k) ≡ part_after c said s i
     part_on zero t steps few = let end : i + 0 ≡ i = omega arith in ap (part_after c said s) end
     part_on (suc k) t steps few =
         let v = steps.0 in
-        let n = i + k in
-        let part = part_after c said s n in
-        let now : v.steps + 1 ≡ u.steps + k + 1 = omega (arith, burst_counted law u v k steps.1) in
-        let next : v.steps + 1 + 1 ≡ u.steps + suc k + 1 = omega (arith, burst_counted law u v k steps.1) in
+        let part = part_after c said s (i + k) in
         ap (part_after c said s) (at_end k)
         ∙ ap₂ (λ (a b : State). looked_by c (before_step a) part b) (sym (there k v steps.1)) (sym (next_there k t steps))
-        ∙ ap₂ (λ x y. if x then (if y then looked_at (before_step v) part t else closed (looked_at (before_step v) part t) t.time) else (if y then opening_spans t else part))
-        (ap (is_step c) now ∙ alike k (omega (arith, few))) (ap (is_step c) next ∙ alike (suc k) (omega (arith, few)))
-        ∙ unchanged (is_step c (u.steps + 1)) v t part (is_one_instruction v t steps.2)
+        ∙ looked_same k v t part steps.1 steps.2 few
         ∙ part_on k v steps.1 (omega (arith, few))
+
+    -- a routine is active as before
+    settled : (k : ℕ) → is_some (level_after c said s k) ≡ (is_step c ((after said s k).steps + 1) && is_active (after said s k).world)
+    settled zero = level_is (is_step c (s.steps + 1)) (is_active s.world) None s.time
+    settled (suc k) = level_is (is_step c ((after said s (suc k)).steps + 1)) (is_active (after said s (suc k)).world) (level_after c said s k) (after said s (suc k)).time
+
+    -- the step after them is like the first of them
+    step_alike : (k : ℕ) (v : State) → SilentSteps k u v → k < m → is_step c (v.steps + 1) ≡ is_step c (u.steps + 1)
+    step_alike k v steps few =
+        let now : v.steps + 1 ≡ u.steps + k + 1 = omega (arith, burst_counted law u v k steps) in
+        ap (is_step c) now ∙ alike k few
+
+    level_same : (k : ℕ) (t : State) (steps : SilentSteps (suc k) u t) → suc k ≤ m - 1 → level_by c (level_after c said s (i + k)) t ≡ level_after c said s (i + k)
+    level_same k t steps few =
+        let v = steps.0 in
+        let first = step_alike k v steps.1 (omega (arith, few)) in
+        let later = step_alike (suc k) t steps (omega (arith, few)) in
+        level_kept (is_step c (t.steps + 1)) (is_active t.world) (level_after c said s (i + k)) t.time
+        (settled (i + k)
+        ∙ ap (λ (x : State). is_step c (x.steps + 1) && is_active x.world) (sym (there k v steps.1))
+        ∙ ap₂ (λ a b. a && b) (first ∙ sym later) (active_stays v t steps.2))
+
+    level_on : (k : ℕ) (t : State) → SilentSteps k u t → k ≤ m - 1 → level_after c said s (i + k) ≡ level_after c said s i
+    level_on zero t steps few = let end : i + 0 ≡ i = omega arith in ap (level_after c said s) end
+    level_on (suc k) t steps few =
+        ap (level_after c said s) (at_end k)
+        ∙ ap (level_by c (level_after c said s (i + k))) (sym (next_there k t steps))
+        ∙ level_same k t steps few
+        ∙ level_on k steps.0 steps.1 (omega (arith, few))
+
+    -- no flow is told
+    flows_on : (k : ℕ) (t : State) → SilentSteps k u t → flows_after c said s (i + k) ≡ flows_after c said s i
+    flows_on zero t steps = let end : i + 0 ≡ i = omega arith in ap (flows_after c said s) end
+    flows_on (suc k) t steps =
+        let v = steps.0 in
+        let n = i + k in
+        ap (flows_after c said s) (at_end k)
+        ∙ ap₂ (λ (a b : State). step_number c (before_step a) (happenings (said n) a b) (flows_after c said s n)) (sym (there k v steps.1)) (sym (next_there k t steps))
+        ∙ ap (λ hs. step_number c (before_step v) hs (flows_after c said s n)) (one_happening v t steps.2 (said n))
+        ∙ no_number c (before_step v).actor (before_step v) (told.Instructions steps.2.who 1) (flows_after c said s n) refl
+        ∙ flows_on k v steps.1
+
+    pub charts_on : (k : ℕ) (t : State) → SilentSteps k u t → k ≤ m - 1 → chart_after c said s (i + k) ≡ chart_after c said s i
+    charts_on k t steps few =
+        ap (λ x. charted x (level_after c said s (i + k)) (flows_after c said s (i + k))) (part_on k t steps few)
+        ∙ ap (λ x. charted (part_after c said s i) x (flows_after c said s (i + k))) (level_on k t steps few)
+        ∙ ap (charted (part_after c said s i) (level_after c said s i)) (flows_on k t steps)
+
+    -- and they have no objects
+    no_object : (b : Bool) → ([] ++ (if b then [] else [])) ++ [] ≡ the_none
+    no_object true = refl
+    no_object false = refl
+
+    step_none : (k : ℕ) (t : State) (said_then : FileSaid) (steps : SilentSteps (suc k) u t) → suc k ≤ m - 1 → step_objects c said_then (chart_after c said s (i + k)) steps.0 t ≡ the_none
+    step_none k t said_then steps few =
+        let v = steps.0 in
+        let x = chart_after c said s (i + k) in
+        let l = instructions_line v steps.2.who 1 in
+        let h = told.Instructions steps.2.who 1 in
+        ap₂ (λ ls hs. flat_map (line_objects c) ls ++ (step_flows c (before_step v) t.time hs x.flows ++ (flat_map (span_objects c) (looked_by c (before_step v) (going_on x.spans) t).done ++ level_objects c x.level (level_by c x.level t) t.time))) (one_line v t steps.2 said_then) (one_happening v t steps.2 said_then)
+        ∙ ap₂ (λ (a : SpanState) b. flat_map (line_objects c) (l ∷ []) ++ (step_flows c (before_step v) t.time (h ∷ []) x.flows ++ (flat_map (span_objects c) a.done ++ level_objects c x.level b t.time))) (looked_same k v t (going_on x.spans) steps.1 steps.2 few) (level_same k t steps few)
+        ∙ ap₂ (λ a b. a ++ (step_flows c (before_step v) t.time (h ∷ []) x.flows ++ ([] ++ b))) (no_object (is_chosen c l)) (no_level c x.level t.time)
+        ∙ ap (λ a. [] ++ (a ++ ([] ++ []))) (no_flow c (before_step v).actor (before_step v) t.time h x.flows refl)
+
+    pub objects_on : (k : ℕ) (t : State) → SilentSteps k u t → k ≤ m - 1 → objects_after c said s (i + k) ≡ objects_after c said s i
+    objects_on zero t steps few = let end : i + 0 ≡ i = omega arith in ap (objects_after c said s) end
+    objects_on (suc k) t steps few =
+        let v = steps.0 in
+        let n = i + k in
+        let x = chart_after c said s n in
+        let made = objects_after c said s n in
+        ap (objects_after c said s) (at_end k)
+        ∙ ap₂ (λ (a b : State). made ++ step_objects c (said n) x a b) (sym (there k v steps.1)) (sym (next_there k t steps))
+        ∙ ap (λ ds. made ++ ds) (step_none k t (said n) steps few)
+        ∙ append-nil made
+        ∙ objects_on k v steps.1 (omega (arith, few))
 
 pub silent_lines : JoiningLaw → SilentLaw → SilentLinesLaw
 silent_lines joins law c said s u t who i k here last steps alike = lines_on law said s u i here c who joins t k last steps alike ∙ as_either c k u who (chosen_lines c said s i)

@@ -37,7 +37,7 @@ same_lines c a b s (suc k) same =
     ∙ ap (λ said. with_lines (chosen_in c said (after b s k) (after b s (suc k))) (chosen_lines c a s k)) (same k (omega arith))
     ∙ ap (with_lines (chosen_in c (b k) (after b s k) (after b s (suc k)))) (same_lines c a b s k (shorter a b k same))
 
-same_part : (c : ChoiceState) (a b : Answers) (s : State) (k : ℕ) → Agree a b k → part_after c a s k ≡ part_after c b s k
+pub same_part : (c : ChoiceState) (a b : Answers) (s : State) (k : ℕ) → Agree a b k → part_after c a s k ≡ part_after c b s k
 same_part c a b s zero same = refl
 same_part c a b s (suc k) same =
     ap₂ (λ (u v : State). looked_by c (before_step u) (part_after c a s k) v) (same_after a b s k (shorter a b k same)) (same_after a b s (suc k) same)

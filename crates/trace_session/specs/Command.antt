@@ -10,7 +10,7 @@ use Rattle.trace_session.specs.Choice.{ChoiceState, everything}
 use Rattle.trace_session.specs.Kinds.{kind_named}
 use Rattle.trace_session.specs.declared.choice.Kind.{Kind}
 use Rattle.trace_session.specs.declared.forms.Form.{Form}
-use Rattle.trace_session.specs.declared.forms.Form.TheVariants.{Events, JsonLines, Timeline, State, Coverage, Summary, SummaryJson}
+use Rattle.trace_session.specs.declared.forms.Form.TheVariants.{Events, JsonLines, Chrome, Timeline, State, Coverage, Summary, SummaryJson}
 
 -- a command: the form in which a session is told, what is told of it, and the session
 pub record TraceState : Type 0 where
@@ -23,6 +23,7 @@ abbrev pub form_named : Text → Option Form
 form_named name =
     if bytes_eq name (codes "events") then Some Events
     else if bytes_eq name (codes "json-lines") then Some JsonLines
+    else if bytes_eq name (codes "chrome") then Some Chrome
     else if bytes_eq name (codes "timeline") then Some Timeline
     else if bytes_eq name (codes "state") then Some State
     else if bytes_eq name (codes "coverage") then Some Coverage
@@ -96,6 +97,7 @@ has_defaults rows =
 abbrev pub has_choice : Form → Bool
 has_choice Events = true
 has_choice JsonLines = true
+has_choice Chrome = true
 has_choice Timeline = true
 has_choice State = false
 has_choice Coverage = false

@@ -1,5 +1,6 @@
 pub mod Bursts
 pub mod Choice
+pub mod Chrome
 pub mod Covering
 pub mod Forms
 pub mod Kinds

@@ -203,7 +203,7 @@ fn has_choice(form: Form) -> bool
     ensures { result ≡ has_choice_lem form }
 {
     match form {
-        Form::Events | Form::JsonLines | Form::Timeline => true,
+        Form::Events | Form::JsonLines | Form::Chrome | Form::Timeline => true,
         Form::State | Form::Coverage | Form::Summary | Form::SummaryJson => false,
     }
 }

@@ -33,7 +33,7 @@ pub(crate) const PROGRAM: &str = "windtrace";
 
 // The message for an invalid form.
 const BAD_FORM: &str =
-    "'--as <FORM>' takes events, json-lines, timeline, state, coverage, summary or summary-json";
+    "'--as <FORM>' takes events, json-lines, chrome, timeline, state, coverage, summary or summary-json";
 
 // The form with this name.
 fn form_named(name: &str) -> Option<Form>
@@ -42,6 +42,7 @@ fn form_named(name: &str) -> Option<Form>
     match name {
         "events" => Some(Form::Events),
         "json-lines" => Some(Form::JsonLines),
+        "chrome" => Some(Form::Chrome),
         "timeline" => Some(Form::Timeline),
         "state" => Some(Form::State),
         "coverage" => Some(Form::Coverage),
@@ -62,7 +63,7 @@ fn app<'a>(alloc: Global) -> Result<clap::Command<'a>, AllocError>
         "as",
         "FORM",
         "events",
-        "What is told: events, json-lines, timeline, state, coverage, summary or summary-json",
+        "What is told: events, json-lines, chrome, timeline, state, coverage, summary or summary-json",
     );
     let command = command_line(alloc, PROGRAM, about).arg(form)?;
     let command = with_choice_options(alloc, command)?;

@@ -10,6 +10,7 @@ ghost use Rattle.trace_session.specs.Choice.{choice_state};
 ghost use Rattle.trace_session.specs.Forms.{TellsForm, TellsLess};
 
 use crate::choice::Choice;
+use crate::chrome::tell_chrome;
 use crate::coverage::tell_coverage;
 use crate::line_forms::{tell_events, tell_objects};
 use crate::state::show_state;
@@ -28,6 +29,8 @@ pub enum Form {
     Events,
     /// The same, as JSON.
     JsonLines,
+    /// A list of objects of the trace-event format.
+    Chrome,
     /// A picture.
     Timeline,
     /// The board that is left.
@@ -75,6 +78,7 @@ pub fn trace_board<F: Folder, O: Sink>(
     match form {
         Form::Events => tell_events(alloc, choice, board, folder, modules, out, limit),
         Form::JsonLines => tell_objects(alloc, choice, board, folder, modules, out, limit),
+        Form::Chrome => tell_chrome(alloc, choice, board, folder, modules, out, limit),
         Form::Timeline => draw_timeline(alloc, choice, board, folder, modules, out, limit),
         Form::State => show_state(alloc, board, folder, modules, out, limit),
         Form::Coverage => tell_coverage(alloc, board, folder, modules, out, limit),

@@ -2,8 +2,10 @@
 //! picture or as the board that it leaves, and how the run ended.
 #![tactic(auto)]
 
+mod charter;
 mod choice;
 mod choosing;
+mod chrome;
 mod command;
 mod counter;
 mod coverage;
@@ -14,6 +16,7 @@ mod kinds;
 mod laws;
 mod line_forms;
 mod observer;
+mod part_spans;
 mod playing;
 mod program;
 mod put;

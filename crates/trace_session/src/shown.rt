@@ -11,8 +11,8 @@ use board_trace::Subject;
 use trace_picture::{Area, AreaKind, Areas, band_of, bar_of};
 use wind_base::NoMemory;
 
-// The kind of what a task does.
-fn kind_of_standing(standing: Standing) -> Kind
+/// The kind of what a task does.
+pub(crate) fn kind_of_standing(standing: Standing) -> Kind
     ensures { result ≡ kind_of_standing_lem standing }
 {
     match standing {

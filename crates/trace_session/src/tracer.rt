@@ -87,8 +87,8 @@ fn add_lines<L: LineForm>(
     Ok(())
 }
 
-// What the last line says of how a run ended.
-fn how(end: RunEnd) -> &'static [u8]
+/// What the last line says of how a run ended.
+pub(crate) fn how(end: RunEnd) -> &'static [u8]
     ensures { result.now ≡ how_text end }
 {
     match end {

@@ -1,5 +1,5 @@
-//! windtrace plays a session as windplay does, and tells what happened: as lines, as a picture, or as
-//! the board that is left.
+//! windtrace plays a session as windplay does, and tells what happened: as lines, as a picture, as
+//! objects for other programs, or as the board that is left.
 #![tactic(auto)]
 
 use program_main::start;
