@@ -79,7 +79,7 @@ module _ (c : BeforeStep) (before after : SnapshotState) (r : AfterStep) (writte
       (quiet_by (routines c r (has_written written)) (each_routine IsNone no_exceptions c r (has_written written)))
       (quiet_by (writes c.actor written) (each_write IsNone no_exceptions c.actor written)))))
 
-  -- what is told of an exception, if the step is one
+  -- the exception's happening, if the step is an exception
   abbrev raised : Bool → List Happening
   raised e = cond e (exception_told c written c.actor c.at) []
 

@@ -282,7 +282,7 @@ trap_reported said s t who trap good step made traps_so =
       is = wrote said s t who step made ∙ ap (λ (p : Part). p.world.output) (word_traps (word_of s) s.shell w who trap traps_so) ∙ reports.is;
     }
 
--- then the exception that is told is that of the trap
+-- the line tells the exception of that trap
 pub trap_told : (s : State) (who : Actor) (trap : Trap) (written : List ℕ) → IsInstructionOf who s → Reports trap written → exception_told (before_step s) written (stepping s) (at_of s) ≡ exception_by s who (Some trap)
 trap_told s who trap written step reports =
     let pc = (regs_of s.world who).pc in

@@ -171,7 +171,7 @@ struct ServedEvents {
     last: u64,
 }
 
-// The first of these events, if it brings at most so many bytes, and the others.
+// The first event and those after it, if `left` bytes are enough for the first.
 fn first_served(events: &[(u64, Event)], left: usize) -> Option<(&(u64, Event), &[(u64, Event)])>
     ensures { MatchOption result (served_lem left events.now ≡ [])
         (λ x. (events.now ≡ x.0.now ∷ x.1.now) × (bytes_asked_lem x.0.now.1 ≤ left)) }

@@ -81,8 +81,8 @@ pub trait RecordFolder {
         ensures failed { result ≡ puts.Failed → Rose (faults self.old) (faults self.new) }
         ensures never_falls { faults self.old ≤ faults self.new };
 
-    /// Reads the file with this name, if it has at most so many bytes. That can fail, and counts as a
-    /// fault, or run out of memory.
+    /// Reads the file with this name. The answer is `TooLong` if the file is over `limit` bytes, `Failed`
+    /// if the read failed, which counts as a fault, and `NoMemory` if host memory ran out.
     fn read(&mut self, alloc: Global, name: &str, limit: u32) -> Fetched
         ensures kept { files self.new ≡ files self.old }
         ensures answers { IfSome (files self.old) (λ held. IsFetchOf (held name.now) limit result) }

@@ -200,8 +200,8 @@ fn room_for(len: u32, n: u32) -> u32
     u32::max(n, u32::min(len, SYMBOLS - len))
 }
 
-/// Removes the symbols of a group, all of which are at position `first` or after it, and their
-/// hashes.
+/// Removes a group's symbols and their hashes. No symbol before position `first` belongs to the
+/// group.
 fn drop_group(list: &mut Vec<Symbol>, hashes: &mut Vec<Hashes>, first: usize, group: u32)
     requires hashed { hashes.old.items ≡ map hashes_of list.old.items }
     requires within { first ≤ length list.old.items }

@@ -6,7 +6,7 @@ use Rattle.trace_coverage.specs.Executed.{coverage_after}
 use Rattle.trace_coverage.specs.Text.{Holds}
 use Rattle.trace_coverage.specs.declared.coverage.Coverage.{Coverage}
 
--- if the old coverage is that of a run until it comes to this state, then the new one is that of k steps more
+-- the coverage gains what k further steps from this state cover
 abbrev pub CoversOn : Coverage → Coverage → State → ℕ → Type 0
 CoversOn old new u k =
     (given : List ℕ) (said : Answers) (s : State) (i : ℕ) → u ≡ after said s i

@@ -18,7 +18,7 @@ use Rattle.trace_json.proofs.Depth.{Within, both, event_within, made_within, wai
 place_within : (n : ℕ) (phase name : List ℕ) (thread : ℕ) → Within n (place_members phase name thread)
 place_within n phase name thread = (omega arith, (omega arith, (omega arith, (omega arith, tt))))
 
--- its other members nest as deep as what else is told of it
+-- its `args` nest no deeper than their value
 args_within : (n : ℕ) (args : Data) → depth args ≤ n → Within n (args_members args)
 args_within n args h = (h, tt)
 

@@ -32,7 +32,7 @@ abbrev pub place_members : List ℕ → List ℕ → ℕ → List (List ℕ × D
 place_members phase name thread =
     (codes "ph", string phase) ∷ (codes "name", string name) ∷ (codes "pid", number_of 1) ∷ (codes "tid", number_of thread) ∷ []
 
--- what else is told of it
+-- its `args`: further values
 abbrev pub args_members : Data → List (List ℕ × Data)
 args_members d = (codes "args", d) ∷ []
 

@@ -1,4 +1,4 @@
--- What happens in a step as JSON: the word for it, and what else is told of it. Names and bytes are strings in which a byte
+-- What happens in a step as JSON: its word, and its further members. Names and bytes are strings in which a byte
 -- that isn't plain is `\xNN`.
 use Rattle.std.specs.Prelude.{ℕ, List, [], ◌∷◌, codes}
 use Rattle.std.specs.Int.{cast_signed, w32}

@@ -31,7 +31,7 @@ use Rattle.trace_session.specs.Chrome.{BeginsList, ChartState, ChartsPart, Chart
 use Rattle.trace_session.specs.Spans.{looked_by, observed_in, opening_spans}
 use Rattle.trace_session.specs.Traced.{IsPutOf}
 use Rattle.trace_session.proofs.Puts.{prefix_more, prefix_whole, text_lost, text_put}
-use Rattle.trace_session.proofs.Telling.{lost_if, part_now, same_part, tells_unless}
+use Rattle.trace_session.proofs.Telling.{lost_if, same_part, tells_unless}
 
 -- ---- the same is said at the first steps
 shorter : (a b : Answers) (k : ℕ) → Agree a b (suc k) → Agree a b k

@@ -1,11 +1,10 @@
-use Rattle.std.proofs.Common.{◌≡◌, Option, List, ℕ, take, refl, subst, sym, ap, ◌∙◌}
+use Rattle.std.proofs.Common.{Option, ℕ, refl, subst, sym, ap, ◌∙◌}
 use Rattle.kernel_world.specs.declared.actor.Actor.{Actor}
-use Rattle.board_trace.specs.declared.who.Subject.{Subject}
 use Rattle.trace_text.specs.Forms.{Gained}
 use Rattle.trace_json.specs.Chrome.{AreMembers}
 use Rattle.trace_json.proofs.Gaining.{gained_none}
 use Rattle.trace_session.specs.Choice.{choice_state}
-use Rattle.trace_session.specs.Chrome.{flows_by, flows_in, numbered, number_by, waiter_objects}
+use Rattle.trace_session.specs.Chrome.{flows_by, numbered, number_by, waiter_objects}
 use Rattle.trace_session.proofs.Charting.{flows_on, numbers_on}
 use Rattle.trace_session.proofs.charter.add_flows.Goals as goal
 

@@ -1,4 +1,4 @@
-use Rattle.std.proofs.Common.{Bool, if◌then◌else◌, List, [], ◌∷◌, ℕ, ◌∙◌, subst, sym}
+use Rattle.std.proofs.Common.{Bool, if◌then◌else◌, [], ◌∷◌, ◌∙◌, subst, sym}
 use Rattle.std.proofs.lemmas.Result.{on_ok_weaker}
 use Rattle.trace_text.specs.Forms.{Gained}
 use Rattle.trace_json.specs.Chrome.{AreMembers, span_data}

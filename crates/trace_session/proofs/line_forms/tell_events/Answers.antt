@@ -1,4 +1,4 @@
-use Rattle.std.proofs.Common.{List, ℕ, arith}
+use Rattle.std.proofs.Common.{arith}
 use Rattle.std.proofs.lemmas.Result.{IfOk-weaker, err_from_is_err_and, on_err_weaker}
 use Rattle.wind_session.proofs.AppendingLemmas.{appended_none}
 use Rattle.wind_session.proofs.RunLemmas.{begun}

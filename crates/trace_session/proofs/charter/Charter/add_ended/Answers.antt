@@ -1,4 +1,4 @@
-use Rattle.std.proofs.Common.{◌≡◌, List, Option, ℕ, ap, subst, ◌∙◌}
+use Rattle.std.proofs.Common.{List, Option, ℕ, ap, subst, ◌∙◌}
 use Rattle.std.specs.List.{flat_map}
 use Rattle.std.proofs.lemmas.Result.{on_ok_weaker}
 use Rattle.wind_session.specs.BoardPlayerSeen.{board_by}
@@ -9,7 +9,7 @@ use Rattle.trace_text.specs.Forms.{Gained}
 use Rattle.trace_json.specs.Chrome.{AreMembers}
 use Rattle.trace_json.proofs.Gaining.{gained_both}
 use Rattle.trace_session.specs.Choice.{choice_state}
-use Rattle.trace_session.specs.Chrome.{going_on, level_by, level_objects, span_objects}
+use Rattle.trace_session.specs.Chrome.{level_by, level_objects, span_objects}
 use Rattle.trace_session.specs.Spans.{looked_by}
 use Rattle.trace_session.proofs.charter.Charter.add_ended.Goals as goal
 

@@ -1,4 +1,4 @@
-use Rattle.std.proofs.Common.{List, ℕ, ap, subst, ◌∙◌, length}
+use Rattle.std.proofs.Common.{ap, subst, ◌∙◌, length}
 use Rattle.std.proofs.lemmas.Result.{on_ok_weaker}
 use Rattle.wind_session.specs.BoardPlayerSeen.{board_by}
 use Rattle.board_trace.specs.Views.{SnapshotState}
