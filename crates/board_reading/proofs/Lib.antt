@@ -1,6 +1,6 @@
 pub mod Collecting
 mod Coming
-mod Taking
+pub mod Taking
 mod Reading
 mod InterruptKey
 mod Moving

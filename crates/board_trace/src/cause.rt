@@ -27,7 +27,7 @@ fn begins_with(word: &[u8], text: &[u8]) -> bool
 
 /// The exception that a step reported, which executed this word at an address. `target` is the word's
 /// data address, if it is a load or store.
-pub(crate) fn cause_of(written: &[u8], at: u32, word: Option<u32>, target: Option<u32>) -> Cause
+pub fn cause_of(written: &[u8], at: u32, word: Option<u32>, target: Option<u32>) -> Cause
     ensures { result ≡ cause_of_lem written.now at word target }
 {
     if begins_with(b"\nexception access", written) {

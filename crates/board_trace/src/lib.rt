@@ -17,7 +17,7 @@ mod snapshot;
 mod step;
 mod who;
 
-pub use cause::Cause;
+pub use cause::{Cause, cause_of};
 pub use errors::errno_named;
 pub use happening::Happening;
 pub use laws::{

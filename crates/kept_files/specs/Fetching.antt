@@ -1,5 +1,6 @@
 -- The first fetch of a file, whose answer is kept.
 use Rattle.std.specs.Prelude.{◌≡◌, ℕ, ◌≤◌, ◌↔◌, List, [], ◌∷◌, Option, Result, Err, IfSome, OnOk, OnErr}
+use Rattle.wind_base.specs.Limits.{longest_module_file}
 use Rattle.wind_outside.specs.Counts.{Rose}
 use Rattle.wind_outside.specs.Files.{Files, IsFetchOf, IsWithin}
 use Rattle.wind_outside.specs.Requests.{GrowsBy, Request, request_of}
@@ -19,14 +20,14 @@ pub record Asked : Type 0 where
 abbrev pub asked_of : {F : Type 0} → Ghosts F → F → Asked
 asked_of folder f = record { files = folder.files f; requests = folder.requests f; faults = folder.faults f }
 
--- the file was fetched once, and what the answer says is kept; nothing is added after a read that failed, or if memory
+-- the file was fetched once, and the answer is kept; nothing is added after a read that failed, or if memory
 -- ran out
-pub record IsFirst {A : Type 0} (name : List ℕ) (limit : ℕ) (before after : Asked) (old new : Kept) (result : Result A Unkept) : Type 0 where
+pub record IsFirst {A : Type 0} (name : List ℕ) (before after : Asked) (old new : Kept) (result : Result A Unkept) : Type 0 where
   pub answer : Fetched
   pub files : after.files ≡ before.files
-  pub true : IfSome before.files (λ held. IsFetchOf (held name) limit answer)
-  pub within : IsWithin limit answer
-  pub requested : GrowsBy before.requests after.requests (request_of name limit answer ∷ [])
+  pub true : IfSome before.files (λ held. IsFetchOf (held name) longest_module_file answer)
+  pub within : IsWithin longest_module_file answer
+  pub requested : GrowsBy before.requests after.requests (request_of name longest_module_file answer ∷ [])
   pub faults : before.faults ≤ after.faults
   pub rose : answer ≡ fetched.Failed → Rose before.faults after.faults
   pub failed : (result ≡ Err unkept.Failed) ↔ (answer ≡ fetched.Failed)

@@ -3,24 +3,16 @@
 ghost use Rattle.std.specs.Prelude.{◌≡◌, ◌↔◌, ℕ, List, Some, None, Err, IsSome, IfOk, OnOk, OnErr};
 ghost use Rattle.std.specs.Option.{option_map};
 ghost use Rattle.wind_outside.specs.declared.folder.Fetched.TheVariants as answers;
+ghost use Rattle.live_loading.specs.Said.{said_of};
 ghost use Rattle.kept_files.specs.Fetching.{IsFirst, asked_of};
-ghost use Rattle.kept_files.specs.Kept.{kept_of, said_by, said_of, with_kept};
+ghost use Rattle.kept_files.specs.Kept.{Grows, IsTrue, kept_of, said_by, with_kept};
 ghost use Rattle.kept_files.specs.declared.kept.Unkept.TheVariants as unkept;
 
+use live_loading::FileAnswer;
 use std::alloc::{AllocError, Global};
 use std::collections::BTreeMap;
+use wind_base::limits::MODULE_FILE_BYTES;
 use wind_outside::{Fetched, Folder};
-
-/// What a folder said of a file.
-#[derive(Debug, Drop)]
-pub enum KeptFile {
-    /// Its bytes.
-    Found(Vec<u8>),
-    /// The file doesn't exist.
-    Missing,
-    /// The file is longer than the limit.
-    TooLong,
-}
 
 /// Why nothing is kept of a file.
 #[derive(Clone, Copy, Debug, PartialEq, Eq)]
@@ -31,53 +23,50 @@ pub enum Unkept {
     NoMemory,
 }
 
-/// What a folder said of its files, by name. Each is fetched once, and the answer is kept.
+/// A folder's answers about module files, by name. Each file is fetched once, and the answer is
+/// kept.
 #[derive(Drop)]
 pub struct KeptFiles {
-    files: BTreeMap<String, KeptFile>,
-    limit: u32,
+    files: BTreeMap<String, FileAnswer>,
 }
 
-// What a fetch says of its file.
-fn file_of(fetched: Fetched) -> Result<KeptFile, Unkept>
+// The answer that a fetch gives.
+fn answer_of(fetched: Fetched) -> Result<FileAnswer, Unkept>
     ensures said { IfOk result (λ file. said_by fetched ≡ Some (said_of file)) }
     ensures unsaid { OnErr result (said_by fetched ≡ None) }
     ensures failed { (result ≡ Err unkept.Failed) ↔ (fetched ≡ answers.Failed) }
 {
     match fetched {
-        Fetched::Found(bytes) => Ok(KeptFile::Found(bytes)),
-        Fetched::Missing => Ok(KeptFile::Missing),
-        Fetched::TooLong => Ok(KeptFile::TooLong),
+        Fetched::Found(bytes) => Ok(FileAnswer::File(bytes)),
+        Fetched::Missing => Ok(FileAnswer::NoFile),
+        Fetched::TooLong => Ok(FileAnswer::LongFile),
         Fetched::Failed => Err(Unkept::Failed),
         Fetched::NoMemory => Err(Unkept::NoMemory),
     }
 }
 
 impl KeptFiles {
-    /// Nothing is kept yet. A file of more than `limit` bytes is too long.
-    pub fn new(alloc: Global, limit: u32) -> KeptFiles
-        ensures empty { (name : List ℕ) → kept_of result name ≡ None }
-        ensures limit { result.limit ≡ limit }
+    /// Nothing is kept yet.
+    pub fn new(alloc: Global) -> KeptFiles
+        ensures { (name : List ℕ) → kept_of result name ≡ None }
     {
         KeptFiles {
             files: BTreeMap::new(alloc),
-            limit,
         }
     }
 
-    /// What is kept of the file with this name.
-    pub fn get(&self, name: &str) -> Option<&KeptFile>
+    /// The answer about the file with this name, if one is kept.
+    pub fn get(&self, name: &str) -> Option<&FileAnswer>
         ensures { option_map (λ file. said_of file.now) result ≡ kept_of self.now name.now }
     {
         self.files.get(name)
     }
 
-    // Keeps what was said of the file with this name.
-    fn add(&mut self, alloc: Global, name: &str, file: KeptFile) -> Result<(), AllocError>
+    // Keeps the answer about the file with this name.
+    fn add(&mut self, alloc: Global, name: &str, file: FileAnswer) -> Result<(), AllocError>
         ensures ok { OnOk result ((other : List ℕ) → kept_of self.new other
             ≡ with_kept (kept_of self.old) name.now (said_of file) other) }
         ensures err { OnErr result (kept_of self.new ≡ kept_of self.old) }
-        ensures limit { self.new.limit ≡ self.old.limit }
     {
         let name = name.to_string(alloc)?;
         self.files.insert(name, file)?;
@@ -98,15 +87,18 @@ impl KeptFiles {
     ) -> Result<(), Unkept>
         ensures again { IsSome (kept_of self.old name.now) → OnErr result ⊥ × (folder.new ≡ folder.old)
             × (kept_of self.new ≡ kept_of self.old) }
-        ensures first { kept_of self.old name.now ≡ None → IsFirst name.now self.old.limit
+        ensures kept { OnOk result (IsSome (kept_of self.new name.now)) }
+        ensures first { kept_of self.old name.now ≡ None → IsFirst name.now
             (asked_of ⟦<F as Folder>⟧ folder.old) (asked_of ⟦<F as Folder>⟧ folder.new)
             (kept_of self.old) (kept_of self.new) result }
-        ensures limit { self.new.limit ≡ self.old.limit }
+        ensures grows { Grows (kept_of self.old) (kept_of self.new) }
+        ensures truth { IsTrue (F.files folder.old) (kept_of self.old)
+            → IsTrue (F.files folder.new) (kept_of self.new) }
     {
         if self.files.contains_key(name) {
             return Ok(());
         }
-        let file = file_of(folder.fetch(alloc, name, self.limit))?;
+        let file = answer_of(folder.fetch(alloc, name, MODULE_FILE_BYTES))?;
         match self.add(alloc, name, file) {
             Ok(()) => Ok(()),
             Err(AllocError) => Err(Unkept::NoMemory),
@@ -125,7 +117,7 @@ mod tests {
         let alloc = rt.alloc();
         let mut folder = MemFolder::new(alloc, [3].to_vec(alloc)?);
         folder.add("a", b"old".to_vec(alloc)?).or(Err("memory"))?;
-        let mut kept = KeptFiles::new(alloc, 3);
+        let mut kept = KeptFiles::new(alloc);
         kept.keep(alloc, &mut folder, "a").or(Err("a"))?;
         kept.keep(alloc, &mut folder, "b").or(Err("b"))?;
         folder.add("a", b"new".to_vec(alloc)?).or(Err("memory"))?;
@@ -133,10 +125,10 @@ mod tests {
         kept.keep(alloc, &mut folder, "a").or(Err("a again"))?;
         kept.keep(alloc, &mut folder, "b").or(Err("b again"))?;
         match kept.get("a") {
-            Some(KeptFile::Found(bytes)) => assert_eq!(rt; bytes.as_slice(), b"old".as_slice()),
+            Some(FileAnswer::File(bytes)) => assert_eq!(rt; bytes.as_slice(), b"old".as_slice()),
             _ => assert!(rt; false, "not found"),
         }
-        assert!(rt; matches!(kept.get("b"), Some(KeptFile::Missing)));
+        assert!(rt; matches!(kept.get("b"), Some(FileAnswer::NoFile)));
         assert!(rt; matches!(kept.keep(alloc, &mut folder, "c"), Err(Unkept::Failed)));
         assert!(rt; matches!(kept.get("c"), None));
         Ok(())

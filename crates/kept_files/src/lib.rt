@@ -3,4 +3,5 @@
 
 mod kept;
 
-pub use kept::{KeptFile, KeptFiles, Unkept};
+pub use kept::{KeptFiles, Unkept};
+pub use live_loading::FileAnswer;

@@ -26,7 +26,7 @@ lines_more piece bs =
     let k = first_piece bs in ap (λ ps. lines_of (piece ∷ ps)) k.2 ∙ ap (λ ps. without_return piece ∷ lines_of ps) (sym k.2)
 
 -- if the first line has an end, the other lines come after it
-line_and_others : (bs : List ℕ) → line_length bs < length bs → tick_lines bs ≡ first_line bs ∷ tick_lines (after_line bs)
+pub line_and_others : (bs : List ℕ) → line_length bs < length bs → tick_lines bs ≡ first_line bs ∷ tick_lines (after_line bs)
 unfolding tick_lines
 line_and_others bs h =
     let t : nat_lt (line_length bs) (length bs) ≡ true = grind (arith, nat_tests) in
@@ -35,7 +35,7 @@ line_and_others bs h =
     ∙ ap (λ b. cond b (without_return (take (line_length bs) bs)) bs ∷ lines_of (pieces (after_line bs))) (sym t)
 
 -- otherwise it is the only line, and nothing comes after it
-last_line : (bs : List ℕ) → length bs ≤ line_length bs → (tick_lines bs ≡ first_line bs ∷ []) × (tick_lines (after_line bs) ≡ [] ∷ [])
+pub last_line : (bs : List ℕ) → length bs ≤ line_length bs → (tick_lines bs ≡ first_line bs ∷ []) × (tick_lines (after_line bs) ≡ [] ∷ [])
 unfolding tick_lines
 last_line bs h =
     let t : nat_lt (line_length bs) (length bs) ≡ false = grind (arith, nat_tests) in (

@@ -14,6 +14,8 @@ mod reading;
 mod schedule;
 
 pub use event::{Event, Rule, Said};
+pub use line::{number, said};
+pub use lines::first_line;
 pub use reading::{TickErr, read_ticks};
 pub use schedule::Schedule;
 

@@ -21,8 +21,8 @@ const BYTES_MOST: u64 = 4_096;
 // The most digits of a number.
 const DIGITS: usize = 10;
 
-// The number that a text spells.
-fn number(text: &[u8]) -> Option<u64>
+/// The number that a text spells: 1 to 10 decimal digits, at most 4,294,967,295.
+pub fn number(text: &[u8]) -> Option<u64>
     ensures { result ≡ word_number text.now }
 {
     if text.len() > DIGITS {
@@ -146,7 +146,7 @@ fn is_comment(line: &[u8]) -> bool
 
 /// What a line says.
 #[tactic(auto, unfolding(crate::specs::Grammar::said))]
-pub(crate) fn said(line: &[u8]) -> Said
+pub fn said(line: &[u8]) -> Said
     ensures { result ≡ said_lem line.now }
 {
     if is_empty(line) || is_comment(line) {

@@ -16,7 +16,7 @@ fn without_return(piece: &[u8]) -> &[u8]
 }
 
 /// The first line of a text, without its end.
-pub(crate) fn first_line(text: &[u8]) -> &[u8]
+pub fn first_line(text: &[u8]) -> &[u8]
     ensures { result.now ≡ first_line_lem text.now }
 {
     let n = line_len(text);

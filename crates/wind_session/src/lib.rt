@@ -28,7 +28,7 @@ pub use laws::{growing_law, words_law};
 pub use modules::step;
 pub use opening::OpeningDevices;
 pub use paths::path_in;
-pub use playing::{Inputs, inputs_of, play};
+pub use playing::{Inputs, fetched as fetch_text, inputs_of, play, schedule_of};
 pub use report::{put_pieces, tell, tell_no_memory, tell_usage};
 pub use resuming::resume_board;
 pub use run::{RunEnd, run_board};

@@ -43,8 +43,8 @@ fn is_given_up(end: RunEnd) -> bool
     matches!(end, RunEnd::ReadFault | RunEnd::NoMemory)
 }
 
-// Fetches the file with this name; the error says why it can't be played.
-fn fetched<F: Folder>(
+/// Fetches the file with this name; the error says why it can't be played.
+pub fn fetched<F: Folder>(
     alloc: Global,
     folder: &mut F,
     name: &str,
@@ -69,8 +69,8 @@ fn fetched<F: Folder>(
     }
 }
 
-// The schedule of a tick file; the error says why it can't be played.
-fn schedule_of(alloc: Global, ticks: &[u8]) -> Result<Schedule, Status>
+/// The schedule of a tick file; the error says why it can't be played.
+pub fn schedule_of(alloc: Global, ticks: &[u8]) -> Result<Schedule, Status>
     ensures read { IfOk result (λ schedule. (console : List ℕ) → plan_ticks console ticks.now
         ≡ Start console schedule) }
     ensures refused { IfErr result (λ s. (console : List ℕ) → IsRefusal s (plan_ticks console ticks.now) ⊥) }

@@ -5,7 +5,7 @@ ghost use Rattle.std.specs.Prelude.{◌≢◌};
 ghost use Rattle.wind_outside.specs.Files.{IsWithin};
 ghost use Rattle.wind_outside.specs.declared.folder.Fetched.TheVariants as fetched;
 
-use kept_files::{KeptFile, KeptFiles, Unkept};
+use kept_files::{FileAnswer, KeptFiles, Unkept};
 use live_session::Command;
 use std::alloc::{AllocError, Global};
 use std::cell::Cell;
@@ -60,19 +60,19 @@ fn copy_path(alloc: Global, record: &str, file: &str) -> Result<String, AllocErr
 }
 
 // What is kept of a file, for a fetch of at most so many bytes.
-fn answer_of(alloc: Global, kept: Option<&KeptFile>, limit: u32) -> Fetched
+fn answer_of(alloc: Global, kept: Option<&FileAnswer>, limit: u32) -> Fetched
     ensures within { IsWithin limit result }
     ensures kept { result ≢ fetched.Failed }
 {
     match kept {
-        Some(KeptFile::Found(bytes)) if bytes.len() <= limit as usize => {
+        Some(FileAnswer::File(bytes)) if bytes.len() <= limit as usize => {
             match Vec::from_slice(alloc, bytes) {
                 Ok(copy) => Fetched::Found(copy),
                 Err(AllocError) => Fetched::NoMemory,
             }
         }
-        Some(KeptFile::Found(_) | KeptFile::TooLong) => Fetched::TooLong,
-        Some(KeptFile::Missing) => Fetched::Missing,
+        Some(FileAnswer::File(_) | FileAnswer::LongFile) => Fetched::TooLong,
+        Some(FileAnswer::NoFile) => Fetched::Missing,
         None => Fetched::NoMemory,
     }
 }
@@ -97,7 +97,7 @@ impl<'a, R: Files + Copy + Drop, P: Print + Drop> Modules<'a, R, P> {
         Modules {
             rt,
             source,
-            kept: KeptFiles::new(alloc, MODULE_FILE_BYTES),
+            kept: KeptFiles::new(alloc),
             has_older: Cell::new(command.force),
             texts,
         }
@@ -130,7 +130,7 @@ impl<'a, R: Files + Copy + Drop, P: Print + Drop> Modules<'a, R, P> {
         self.set_older_aside(alloc, &folder)?;
         let copy = copy_path(alloc, self.source.record, file)?;
         match self.kept.get(path) {
-            Some(KeptFile::Found(bytes)) => {
+            Some(FileAnswer::File(bytes)) => {
                 make_folder(&self.rt, &folder)?;
                 fs::write(&self.rt, copy.as_str(), bytes.as_slice())
             }
@@ -145,7 +145,7 @@ impl<'a, R: Files + Copy + Drop, P: Print + Drop> Modules<'a, R, P> {
             self.tell(file, " isn't in the record, since its name is a path\n");
         } else if self.write_copy(alloc, path, file).is_err() {
             self.tell(file, " isn't in the record: it can't be written\n");
-        } else if let Some(KeptFile::TooLong) = self.kept.get(path) {
+        } else if let Some(FileAnswer::LongFile) = self.kept.get(path) {
             self.tell(file, " isn't in the record: it is over 4 MiB\n");
         }
     }
@@ -154,11 +154,11 @@ impl<'a, R: Files + Copy + Drop, P: Print + Drop> Modules<'a, R, P> {
     fn has_changed(&self, alloc: Global, path: &str) -> bool {
         let now = HostFolder::new(self.rt).fetch(alloc, path, MODULE_FILE_BYTES);
         match (self.kept.get(path), now) {
-            (Some(KeptFile::Found(first)), Fetched::Found(bytes)) => {
+            (Some(FileAnswer::File(first)), Fetched::Found(bytes)) => {
                 first.as_slice() != bytes.as_slice()
             }
-            (Some(KeptFile::Missing), Fetched::Missing) => false,
-            (Some(KeptFile::TooLong), Fetched::TooLong) => false,
+            (Some(FileAnswer::NoFile), Fetched::Missing) => false,
+            (Some(FileAnswer::LongFile), Fetched::TooLong) => false,
             (_, Fetched::Failed | Fetched::NoMemory) => false,
             _ => true,
         }

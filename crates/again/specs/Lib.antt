@@ -1,0 +1,3 @@
+pub mod Laws
+pub mod Libraries
+pub mod Reaching

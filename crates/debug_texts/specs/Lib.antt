@@ -1,0 +1,5 @@
+pub mod Xml
+pub mod Target
+pub mod Lists
+pub mod Replies
+pub mod Parts

@@ -1,0 +1,5 @@
+pub mod Numbers
+pub mod Frames
+pub mod Keeping
+pub mod Escapes
+pub mod Laws
