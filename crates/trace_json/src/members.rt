@@ -5,13 +5,13 @@ ghost use Rattle.std.specs.List.{flat_map};
 ghost use Rattle.serde_json.specs.{Data.depth, Read.max_depth, View.view};
 ghost use Rattle.trace_text.specs.Forms.{Gained};
 ghost use Rattle.trace_text.specs.Pages.{is_instructions as is_instructions_lem};
-ghost use Rattle.trace_json.specs.Chrome.{AreMembers, IsLastMember, closing_data, finish_data, flow_objects, instant_objects, list_opening, name_objects, opening_objects, routine_data, span_data, start_data, spawned_task as spawned_task_lem, task_objects, thread_data};
+ghost use Rattle.trace_json.specs.Chrome.{AreMembers, FlowFinish, FlowStart, IsLastMember, QueueMessages, ReadyTasks, RoutineSpan, TaskSpan, ThreadName, TraceObject, closing_data, flow_objects, instant_objects, list_opening, name_objects, object_data, opening_objects, spawned_task as spawned_task_lem, task_objects};
 
 use crate::chrome::{
-    closing_value, finish_value, instant_value, routine_value, span_value, start_value,
-    thread_value,
+    closing_value, finish_value, instant_value, messages_value, ready_value, routine_value,
+    span_value, start_value, thread_value,
 };
-use board_changes::{Change, Span, TaskView};
+use board_changes::{Awaited, Change, Span, TaskView};
 use board_trace::{Happening, Subject};
 use id_table::Ident;
 use serde_json::Value;
@@ -29,7 +29,8 @@ pub fn open_list(text: &mut Vec<u8>) -> Result<(), NoMemory>
 // Adds an object that others follow.
 fn add_member(alloc: Global, text: &mut Vec<u8>, value: &Value) -> Result<(), NoMemory>
     requires { depth (view value.now) ≤ max_depth }
-    ensures { OnOk result (Gained (AreMembers (view value.now ∷ [])) text.old.items text.new.items) }
+    ensures { OnOk result ((object : TraceObject) → view value.now ≡ object_data object
+        → Gained (AreMembers (object ∷ [])) text.old.items text.new.items) }
 {
     let object = value.to_vec(alloc)?;
     add(text, &object)?;
@@ -38,7 +39,7 @@ fn add_member(alloc: Global, text: &mut Vec<u8>, value: &Value) -> Result<(), No
 
 // Adds the name of a thread.
 fn add_name(alloc: Global, text: &mut Vec<u8>, thread: u32, name: &[u8]) -> Result<(), NoMemory>
-    ensures { OnOk result (Gained (AreMembers (thread_data thread name.now ∷ [])) text.old.items text.new.items) }
+    ensures { OnOk result (Gained (AreMembers (ThreadName thread name.now ∷ [])) text.old.items text.new.items) }
 {
     let value = thread_value(alloc, thread, name)?;
     add_member(alloc, text, &value)
@@ -89,7 +90,7 @@ pub fn add_spawned(
 
 /// Adds a span of a task.
 pub fn add_span(alloc: Global, text: &mut Vec<u8>, span: &Span) -> Result<(), NoMemory>
-    ensures { OnOk result (Gained (AreMembers (span_data span.now ∷ [])) text.old.items text.new.items) }
+    ensures { OnOk result (Gained (AreMembers (TaskSpan span.now ∷ [])) text.old.items text.new.items) }
 {
     let value = span_value(alloc, span)?;
     add_member(alloc, text, &value)
@@ -97,7 +98,7 @@ pub fn add_span(alloc: Global, text: &mut Vec<u8>, span: &Span) -> Result<(), No
 
 /// Adds a span in which an interrupt routine is active.
 pub fn add_routine(alloc: Global, text: &mut Vec<u8>, from: u128, to: u128) -> Result<(), NoMemory>
-    ensures { OnOk result (Gained (AreMembers (routine_data from to ∷ [])) text.old.items text.new.items) }
+    ensures { OnOk result (Gained (AreMembers (RoutineSpan from to ∷ [])) text.old.items text.new.items) }
 {
     let value = routine_value(alloc, from, to)?;
     add_member(alloc, text, &value)
@@ -127,32 +128,13 @@ pub fn add_instant(
     add_member(alloc, text, &value)
 }
 
-// Adds the beginning of a flow.
-fn add_start(
-    alloc: Global,
-    text: &mut Vec<u8>,
-    number: u64,
-    time: u128,
-    giver: Subject,
-) -> Result<(), NoMemory>
-    ensures { OnOk result (Gained (AreMembers (start_data number time giver ∷ [])) text.old.items text.new.items) }
-{
-    let value = start_value(alloc, number, time, giver)?;
-    add_member(alloc, text, &value)
-}
-
-// Adds the end of a flow.
-fn add_finish(
-    alloc: Global,
-    text: &mut Vec<u8>,
-    number: u64,
-    time: u128,
-    waiter: Ident,
-) -> Result<(), NoMemory>
-    ensures { OnOk result (Gained (AreMembers (finish_data number time waiter ∷ [])) text.old.items text.new.items) }
-{
-    let value = finish_value(alloc, number, time, waiter)?;
-    add_member(alloc, text, &value)
+/// A wait that has ended.
+#[derive(Clone, Copy)]
+pub struct EndedWait {
+    /// The task that waited.
+    pub waiter: Ident,
+    /// What it waited for.
+    pub object: Awaited,
 }
 
 /// A wait that ends in a step.
@@ -160,22 +142,69 @@ fn add_finish(
 pub struct Flow {
     /// Who ends it.
     pub giver: Subject,
-    /// The task that waited.
-    pub waiter: Ident,
+    /// The wait.
+    pub wait: EndedWait,
     /// Board time when the step begins.
     pub from: u128,
     /// Board time when it has been made.
     pub to: u128,
 }
 
-/// Adds the flow with this number from whoever ends a wait to the task.
-pub fn add_flow(alloc: Global, text: &mut Vec<u8>, number: u64, flow: &Flow) -> Result<(), NoMemory>
+// Adds the beginning of the flow with this number.
+fn add_start(alloc: Global, text: &mut Vec<u8>, number: u64, flow: &Flow) -> Result<(), NoMemory>
     ensures { OnOk result (Gained
-        (AreMembers (flow_objects number flow.now.giver flow.now.waiter flow.now.from flow.now.to))
+        (AreMembers (FlowStart number flow.now.from flow.now.wait.object flow.now.giver ∷ []))
         text.old.items text.new.items) }
 {
-    add_start(alloc, text, number, flow.from, flow.giver)?;
-    add_finish(alloc, text, number, flow.to, flow.waiter)
+    let value = start_value(alloc, number, flow.from, flow.wait.object, flow.giver)?;
+    add_member(alloc, text, &value)
+}
+
+// Adds its end.
+fn add_finish(alloc: Global, text: &mut Vec<u8>, number: u64, flow: &Flow) -> Result<(), NoMemory>
+    ensures { OnOk result (Gained
+        (AreMembers (FlowFinish number flow.now.to flow.now.wait.object flow.now.wait.waiter ∷ []))
+        text.old.items text.new.items) }
+{
+    let value = finish_value(alloc, number, flow.to, flow.wait)?;
+    add_member(alloc, text, &value)
+}
+
+/// Adds the flow with this number, from whoever ends the wait to the task that waited.
+pub fn add_flow(alloc: Global, text: &mut Vec<u8>, number: u64, flow: &Flow) -> Result<(), NoMemory>
+    ensures { OnOk result (Gained
+        (AreMembers (flow_objects number flow.now.giver flow.now.wait flow.now.from flow.now.to))
+        text.old.items text.new.items) }
+{
+    add_start(alloc, text, number, flow)?;
+    add_finish(alloc, text, number, flow)
+}
+
+/// Adds how many tasks are ready at this time.
+pub fn add_ready(
+    alloc: Global,
+    text: &mut Vec<u8>,
+    time: u128,
+    number: u64,
+) -> Result<(), NoMemory>
+    ensures { OnOk result (Gained (AreMembers (ReadyTasks time number ∷ [])) text.old.items text.new.items) }
+{
+    let value = ready_value(alloc, time, number)?;
+    add_member(alloc, text, &value)
+}
+
+/// Adds how many messages the queue with this id has at this time.
+pub fn add_messages(
+    alloc: Global,
+    text: &mut Vec<u8>,
+    time: u128,
+    queue: u32,
+    number: u32,
+) -> Result<(), NoMemory>
+    ensures { OnOk result (Gained (AreMembers (QueueMessages time queue number ∷ [])) text.old.items text.new.items) }
+{
+    let value = messages_value(alloc, time, queue, number)?;
+    add_member(alloc, text, &value)
 }
 
 /// Adds the end of a run after the step of this moment, and ends the list.

@@ -2,7 +2,6 @@
 use Rattle.std.proofs.Common.{◌≡◌, ◌≢◌, ℕ, zero, suc, ◌+◌, ◌<◌, length, take, get_or, Bool, true, false, if◌then◌else◌, List, [], ◌∷◌, ◌++◌, Option, None, inl, inr, refl, sym, ap, ap₂, subst, ◌∙◌, append_assoc, arith, add-one}
 use Rattle.std.specs.List.{flat_map}
 use Rattle.std.proofs.lemmas.List.{append-nil, take_more}
-use Rattle.serde_json.specs.Data.{Data}
 use Rattle.wind_outside.specs.Appending.{Appended, AppendedPrefix}
 use Rattle.wind_outside.specs.Requests.{Request}
 use Rattle.kernel_world.specs.declared.reply.Reply.{Reply}
@@ -18,16 +17,17 @@ use Rattle.wind_session.specs.declared.run.RunEnd.TheVariants as ends
 use Rattle.board_changes.specs.Spans.{SpanState, closed}
 use Rattle.board_trace.specs.Before.{before_step}
 use Rattle.board_trace.specs.Runs.{step_lines}
-use Rattle.board_trace.specs.Snapshots.{snapshot_of}
 use Rattle.board_trace.specs.Steps.{happenings, is_instruction}
 use Rattle.board_trace.specs.declared.happening.Happening.{Happening}
 use Rattle.board_trace.specs.declared.moment.BeforeStep.{BeforeStep}
 use Rattle.board_trace.specs.declared.who.Subject.{Subject}
+use Rattle.serde_json.specs.Data.{Data}
 use Rattle.trace_text.specs.Forms.{Gained}
-use Rattle.trace_json.specs.Chrome.{AreMembers, IsLastMember, list_opening, opening_objects}
+use Rattle.trace_json.specs.Chrome.{AreMembers, IsLastMember, TraceObject, list_opening}
 use Rattle.trace_json.proofs.Gaining.{gained_both, gained_none}
 use Rattle.trace_session.specs.Choice.{ChoiceState, is_step}
-use Rattle.trace_session.specs.Chrome.{BeginsList, ChartState, ChartsPart, ChartsSteps, HoldsFirst, HoldsObjects, IsList, TellsFirst, TellsObjects, chart_after, chart_by, chart_on, charted, chosen_waiter, flows_after, flows_in, going_on, last_object, left_objects, level_after, level_by, level_objects, line_objects, number_in, numbered, objects_after, span_objects, step_flows, step_number, step_objects, waiter_objects}
+use Rattle.trace_session.specs.Chrome.{BeginsList, ChartState, ChartsPart, ChartsSteps, HoldsFirst, HoldsObjects, IsList, TellsFirst, TellsObjects, chart_after, chart_by, chart_on, charted, chosen_wait, flows_after, flows_in, first_objects, going_on, last_object, left_objects, level_after, level_by, level_objects, line_objects, number_in, numbered, objects_after, span_objects, step_flows, step_number, step_objects, wait_objects}
+use Rattle.trace_session.specs.Counters.{counts_in, step_counters}
 use Rattle.trace_session.specs.Spans.{looked_by, observed_in, opening_spans}
 use Rattle.trace_session.specs.Traced.{IsPutOf}
 use Rattle.trace_session.proofs.Puts.{prefix_more, prefix_whole, text_lost, text_put}
@@ -95,11 +95,11 @@ gained_after IsPiece given old new gained = record {
   is_piece = gained.is_piece;
 }
 
-begins_on : (xs ys : List Data) (given old new : List ℕ) → BeginsList xs (given ++ old) → Gained (AreMembers ys) old new → BeginsList (xs ++ ys) (given ++ new)
+begins_on : (xs ys : List TraceObject) (given old new : List ℕ) → BeginsList xs (given ++ old) → Gained (AreMembers ys) old new → BeginsList (xs ++ ys) (given ++ new)
 begins_on xs ys given old new begins gained = gained_both xs ys list_opening (given ++ old) (given ++ new) begins (gained_after (AreMembers ys) given old new gained)
 
 -- the spans that went on, and the end
-pub list_ended : (objects spans : List Data) (last : Data) (given old mid new : List ℕ) → BeginsList objects (given ++ old) → Gained (AreMembers spans) old mid → Gained (IsLastMember last) mid new → IsList (objects ++ spans) last (given ++ new)
+pub list_ended : (objects spans : List TraceObject) (last : Data) (given old mid new : List ℕ) → BeginsList objects (given ++ old) → Gained (AreMembers spans) old mid → Gained (IsLastMember last) mid new → IsList (objects ++ spans) last (given ++ new)
 list_ended objects spans last given old mid new begins more ended = record {
   before = given ++ mid;
   is_text = begins_on objects spans given old mid begins more;
@@ -107,7 +107,7 @@ list_ended objects spans last given old mid new begins more ended = record {
 }
 
 -- ---- puts
-module _ (first old new : Option (List ℕ)) (text : List ℕ) (objects : List Data) (holds : HoldsObjects first old text objects) where
+module _ (first old new : Option (List ℕ)) (text : List ℕ) (objects : List TraceObject) (holds : HoldsObjects first old text objects) where
   -- a put of the text was made
   pub objects_put : Appended old new text → HoldsObjects first new [] objects
   objects_put put = record {
@@ -127,7 +127,7 @@ module _ (first old new : Option (List ℕ)) (text : List ℕ) (objects : List D
     gained = text_lost first old new holds.given text holds.gained part;
   }
 
-pub objects_held : (first now : Option (List ℕ)) (text : List ℕ) (objects : List Data) → HoldsObjects first now text objects → HoldsFirst first now objects
+pub objects_held : (first now : Option (List ℕ)) (text : List ℕ) (objects : List TraceObject) → HoldsObjects first now text objects → HoldsFirst first now objects
 objects_held first now text objects holds = record {
   earlier = objects;
   later = [];
@@ -138,11 +138,11 @@ objects_held first now text objects holds = record {
 }
 
 -- nothing was put yet
-pub objects_begun : (first : Option (List ℕ)) (text : List ℕ) (objects : List Data) → BeginsList objects text → HoldsObjects first first text objects
+pub objects_begun : (first : Option (List ℕ)) (text : List ℕ) (objects : List TraceObject) → BeginsList objects text → HoldsObjects first first text objects
 objects_begun first text objects begins = record { given = []; gained = appended_none first; begins = begins }
 
 -- nothing was put
-pub none_charted : (first now : Option (List ℕ)) → first ≡ now → (objects : List Data) → HoldsFirst first now objects
+pub none_charted : (first now : Option (List ℕ)) → first ≡ now → (objects : List TraceObject) → HoldsFirst first now objects
 none_charted first now same objects = record {
   earlier = [];
   later = objects;
@@ -167,11 +167,12 @@ module _ (said next : Answers) (s u t : State) (reply : Option Reply) (i : ℕ) 
       ∙ ap (chart_after c next s) (sym (add-one i))
 
   -- a step's objects come from what goes on
-  abbrev objects_by : ChartState → List Data
+  abbrev objects_by : ChartState → List TraceObject
   objects_by x =
       flat_map (line_objects c) (step_lines (next i) u t)
       ++ (step_flows c (before_step u) t.time (happenings (next i) u t) x.flows
-      ++ (flat_map (span_objects c) (looked_by c (before_step u) x.spans t).done ++ level_objects c x.level (level_by c x.level t) t.time))
+      ++ ((flat_map (span_objects c) (looked_by c (before_step u) x.spans t).done ++ level_objects c x.level (level_by c x.level t) t.time)
+      ++ step_counters c (before_step u) (counts_in u) t))
 
   from_going : (old : ChartState) → chart_on old ≡ chart_on (chart_after c said s i) → step_objects c (next i) old u t ≡ step_objects c (next i) (chart_after c said s i) u t
   from_going old same = ap objects_by same
@@ -186,7 +187,7 @@ module _ (said next : Answers) (s u t : State) (reply : Option Reply) (i : ℕ) 
   pub charted_on : (first now : Option (List ℕ)) (old new : ChartState) (text later : List ℕ) → ChartsSteps c old first now text said s i
       → Gained (AreMembers (step_objects c (next i) old u t)) text later → new ≡ chart_by c (next i) (chart_on old) u t → ChartsSteps c new first now later next s (i + 1)
   charted_on first now old new text later charts gained is =
-      let P : List Data → Type 0 = λ ds. Gained (AreMembers ds) text later in
+      let P : List TraceObject → Type 0 = λ ds. Gained (AreMembers ds) text later in
       let holds = charts.holds in
       record {
         holds = record {
@@ -206,18 +207,18 @@ charted_part c x first now text said next s i same charts = subst (HoldsFirst fi
 pub charted_burst : (c : ChoiceState) (old new : ChartState) (first now : Option (List ℕ)) (text later : List ℕ) (said : Answers) (s : State) (i k : ℕ) → new ≡ old → later ≡ text
     → objects_after c said s (i + k) ≡ objects_after c said s i → chart_after c said s (i + k) ≡ chart_after c said s i → ChartsSteps c old first now text said s i → ChartsSteps c new first now later said s (i + k)
 charted_burst c old new first now text later said s i k chart_is text_is objects_are stays charts =
-    let P : List ℕ → List Data → Type 0 = λ bytes ds. HoldsObjects first now bytes ds in
+    let P : List ℕ → List TraceObject → Type 0 = λ bytes ds. HoldsObjects first now bytes ds in
     record {
       holds = subst (λ ds. P later ds) (sym objects_are) (subst (λ bytes. P bytes (objects_after c said s i)) (sym text_is) charts.holds);
       going = ap chart_on chart_is ∙ charts.going ∙ ap chart_on (sym stays);
     }
 
 -- before the first step
-pub charted_none : (c mine : ChoiceState) → mine ≡ c → (x : ChartState) (first : Option (List ℕ)) (text : List ℕ) (said : Answers) (s : State) → x ≡ chart_after c said s 0 → BeginsList (opening_objects (snapshot_of s.world).tasks) text
+pub charted_none : (c mine : ChoiceState) → mine ≡ c → (x : ChartState) (first : Option (List ℕ)) (text : List ℕ) (said : Answers) (s : State) → x ≡ chart_after c said s 0 → BeginsList (first_objects c s) text
     → ChartsSteps mine x first first text said s 0
 charted_none c mine mine_is x first text said s same begins =
     subst (λ y. ChartsSteps y x first first text said s 0) (sym mine_is)
-    (record { holds = objects_begun first text (opening_objects (snapshot_of s.world).tasks) begins; going = ap chart_on same })
+    (record { holds = objects_begun first text (first_objects c s) begins; going = ap chart_on same })
 
 -- ---- how the run ended
 module _ (c mine later : ChoiceState) (same : mine ≡ c) (shelf : Shelf) (s board : State) (n : ℕ) (old mid : Option (List Request)) (first now : Option (List ℕ)) where
@@ -230,8 +231,8 @@ module _ (c mine later : ChoiceState) (same : mine ≡ c) (shelf : Shelf) (s boa
 
 -- by the choice of the run
 pub end_by : (c later : ChoiceState) → later ≡ c → (first now new : Option (List ℕ)) (text : List ℕ) (x : ChartState) (board : State) (result end : RunEnd)
-    → ((objects : List Data) → HoldsObjects first now text objects → (bytes : List ℕ) × IsList (objects ++ left_objects later x board.time) (last_object end board) bytes × IsPutOf bytes result end first new)
-    → (objects : List Data) → HoldsObjects first now text objects → (bytes : List ℕ) × IsList (objects ++ left_objects c x board.time) (last_object end board) bytes × IsPutOf bytes result end first new
+    → ((objects : List TraceObject) → HoldsObjects first now text objects → (bytes : List ℕ) × IsList (objects ++ left_objects later x board.time) (last_object end board) bytes × IsPutOf bytes result end first new)
+    → (objects : List TraceObject) → HoldsObjects first now text objects → (bytes : List ℕ) × IsList (objects ++ left_objects c x board.time) (last_object end board) bytes × IsPutOf bytes result end first new
 end_by c later same first now new text x board result end puts objects holds =
     subst (λ y. (bytes : List ℕ) × IsList (objects ++ left_objects y x board.time) (last_object end board) bytes × IsPutOf bytes result end first new) same (puts objects holds)
 
@@ -255,7 +256,7 @@ module _ (c later : ChoiceState) (stays : later ≡ c) (shelf : Shelf) (s board 
 
     -- it was put, or that put failed
     pub chart_told : (new : Option (List ℕ)) (result : RunEnd)
-        → ((objects : List Data) → HoldsObjects first now text objects → (bytes : List ℕ) × IsList (objects ++ left_objects c x board.time) (last_object end board) bytes × IsPutOf bytes result end first new)
+        → ((objects : List TraceObject) → HoldsObjects first now text objects → (bytes : List ℕ) × IsList (objects ++ left_objects c x board.time) (last_object end board) bytes × IsPutOf bytes result end first new)
         → Told (TellsObjects c result s first new) shelf s n board old mid
     chart_told new result puts =
         let objects = objects_after c ran.said s ran.k in
@@ -282,28 +283,28 @@ module _ (c later : ChoiceState) (stays : later ≡ c) (shelf : Shelf) (s board 
 -- ---- the flows of a step
 -- one happening more
 flows_more : (c : ChoiceState) (giver : Subject) (b : BeforeStep) (to : ℕ) (hs : List Happening) (h : Happening) (n : ℕ)
-    → flows_in c giver b to hs n ++ waiter_objects giver (chosen_waiter c b.step h) (number_in c b hs n) b.time to ≡ flows_in c giver b to (hs ++ h ∷ []) n
-flows_more c giver b to [] h n = sym (append-nil (waiter_objects giver (chosen_waiter c b.step h) n b.time to))
+    → flows_in c giver b to hs n ++ wait_objects giver (chosen_wait c b.step h) (number_in c b hs n) b.time to ≡ flows_in c giver b to (hs ++ h ∷ []) n
+flows_more c giver b to [] h n = sym (append-nil (wait_objects giver (chosen_wait c b.step h) n b.time to))
 flows_more c giver b to (g ∷ gs) h n =
-    append_assoc (waiter_objects giver (chosen_waiter c b.step g) n b.time to) (flows_in c giver b to gs (numbered (chosen_waiter c b.step g) n)) (waiter_objects giver (chosen_waiter c b.step h) (number_in c b gs (numbered (chosen_waiter c b.step g) n)) b.time to)
-    ∙ ap (λ ds. waiter_objects giver (chosen_waiter c b.step g) n b.time to ++ ds) (flows_more c giver b to gs h (numbered (chosen_waiter c b.step g) n))
+    append_assoc (wait_objects giver (chosen_wait c b.step g) n b.time to) (flows_in c giver b to gs (numbered (chosen_wait c b.step g) n)) (wait_objects giver (chosen_wait c b.step h) (number_in c b gs (numbered (chosen_wait c b.step g) n)) b.time to)
+    ∙ ap (λ ds. wait_objects giver (chosen_wait c b.step g) n b.time to ++ ds) (flows_more c giver b to gs h (numbered (chosen_wait c b.step g) n))
 
-number_more : (c : ChoiceState) (b : BeforeStep) (hs : List Happening) (h : Happening) (n : ℕ) → numbered (chosen_waiter c b.step h) (number_in c b hs n) ≡ number_in c b (hs ++ h ∷ []) n
+number_more : (c : ChoiceState) (b : BeforeStep) (hs : List Happening) (h : Happening) (n : ℕ) → numbered (chosen_wait c b.step h) (number_in c b hs n) ≡ number_in c b (hs ++ h ∷ []) n
 number_more c b [] h n = refl
-number_more c b (g ∷ gs) h n = number_more c b gs h (numbered (chosen_waiter c b.step g) n)
+number_more c b (g ∷ gs) h n = number_more c b gs h (numbered (chosen_wait c b.step g) n)
 
 module _ (c : ChoiceState) (b : BeforeStep) (hs : List Happening) (i : ℕ) (h : Happening) (below : i < length hs) (at : h ≡ get_or hs i h) where
   one_longer : take i hs ++ h ∷ [] ≡ take (i + 1) hs
   one_longer = ap (λ g. take i hs ++ g ∷ []) at ∙ sym (take_more hs i h below)
 
-  pub numbers_on : (first last next : ℕ) → last ≡ number_in c b (take i hs) first → next ≡ numbered (chosen_waiter c b.step h) last → next ≡ number_in c b (take (i + 1) hs) first
+  pub numbers_on : (first last next : ℕ) → last ≡ number_in c b (take i hs) first → next ≡ numbered (chosen_wait c b.step h) last → next ≡ number_in c b (take (i + 1) hs) first
   numbers_on first last next last_is next_is =
-      next_is ∙ ap (numbered (chosen_waiter c b.step h)) last_is ∙ number_more c b (take i hs) h first ∙ ap (λ gs. number_in c b gs first) one_longer
+      next_is ∙ ap (numbered (chosen_wait c b.step h)) last_is ∙ number_more c b (take i hs) h first ∙ ap (λ gs. number_in c b gs first) one_longer
 
   pub flows_on : (giver : Subject) (to first last : ℕ) (old mid new : List ℕ) → last ≡ number_in c b (take i hs) first → Gained (AreMembers (flows_in c giver b to (take i hs) first)) old mid
-      → Gained (AreMembers (waiter_objects giver (chosen_waiter c b.step h) last b.time to)) mid new → Gained (AreMembers (flows_in c giver b to (take (i + 1) hs) first)) old new
+      → Gained (AreMembers (wait_objects giver (chosen_wait c b.step h) last b.time to)) mid new → Gained (AreMembers (flows_in c giver b to (take (i + 1) hs) first)) old new
   flows_on giver to first last old mid new last_is gained more =
-      let P : ℕ → Type 0 = λ n. Gained (AreMembers (waiter_objects giver (chosen_waiter c b.step h) n b.time to)) mid new in
-      let Q : List Data → Type 0 = λ ds. Gained (AreMembers ds) old new in
+      let P : ℕ → Type 0 = λ n. Gained (AreMembers (wait_objects giver (chosen_wait c b.step h) n b.time to)) mid new in
+      let Q : List TraceObject → Type 0 = λ ds. Gained (AreMembers ds) old new in
       subst Q (flows_more c giver b to (take i hs) h first ∙ ap (λ gs. flows_in c giver b to gs first) one_longer)
-      (gained_both (flows_in c giver b to (take i hs) first) (waiter_objects giver (chosen_waiter c b.step h) (number_in c b (take i hs) first) b.time to) old mid new gained (subst P last_is more))
+      (gained_both (flows_in c giver b to (take i hs) first) (wait_objects giver (chosen_wait c b.step h) (number_in c b (take i hs) first) b.time to) old mid new gained (subst P last_is more))

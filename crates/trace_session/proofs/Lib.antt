@@ -1,5 +1,6 @@
 pub mod Bursts
 pub mod Charting
+mod ChartSpans
 pub mod Counting
 pub mod Counts
 pub mod Covering
@@ -10,6 +11,7 @@ pub mod Living
 pub mod Parting
 pub mod Picturing
 pub mod Puts
+mod QueueRows
 pub mod Seeing
 pub mod Selecting
 pub mod SilentLines

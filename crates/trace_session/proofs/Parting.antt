@@ -30,7 +30,7 @@ same_made said s (suc k) =
     ]
 
 -- ---- numbers of steps
-counted : CountLaw → (said : Answers) (s : State) (k : ℕ) → s.steps ≡ 0 → ((j : ℕ) → j < k → IsSome (machine_step (said j) (after said s j))) → (j : ℕ) → j ≤ k → (after said s j).steps ≡ j
+pub counted : CountLaw → (said : Answers) (s : State) (k : ℕ) → s.steps ≡ 0 → ((j : ℕ) → j < k → IsSome (machine_step (said j) (after said s j))) → (j : ℕ) → j ≤ k → (after said s j).steps ≡ j
 counted law said s k start made zero up = start
 counted law said s k start made (suc j) up =
     let u = after said s j in
@@ -40,7 +40,7 @@ counted law said s k start made (suc j) up =
       | Some t ↦ λ e some. let one : t.steps ≡ u.steps + 1 = law (said j) u t e in omega arith
     ] refl (made j (omega arith))
 
-up_to_less : (o : Option ℕ) (i k : ℕ) → i ≤ k → is_up_to o k ≡ true → is_up_to o i ≡ true
+pub up_to_less : (o : Option ℕ) (i k : ℕ) → i ≤ k → is_up_to o k ≡ true → is_up_to o i ≡ true
 up_to_less None i k less up = refl
 up_to_less (Some last) i k less up = let high : k ≤ last = leb-true k last up in le-leb i last (omega arith)
 

@@ -4,7 +4,6 @@ use Rattle.std.specs.Prelude.{cond, is_none, is_some}
 use Rattle.std.specs.List.{filter, flat_map}
 use Rattle.std.specs.Option.{option_map, unwrap_or}
 use Rattle.std.proofs.lemmas.List.{append-nil}
-use Rattle.serde_json.specs.Data.{Data}
 use Rattle.board_trace.specs.Subjects.{subject_actor, subject_of}
 use Rattle.std.proofs.lemmas.Bool.{eq-eqb}
 use Rattle.kernel_world.specs.Actors.{is_shell}
@@ -31,13 +30,16 @@ use Rattle.board_trace.specs.declared.moment.BeforeStep.{BeforeStep}
 use Rattle.trace_text.specs.Joining.{JoiningLaw}
 use Rattle.wind_session.proofs.Continuing.{burst_counted}
 use Rattle.trace_session.specs.Choice.{AreAlike, ChoiceState, chosen, chosen_in, chosen_lines, is_chosen, is_of, is_among, is_step, kind_of, with_if}
-use Rattle.trace_session.specs.Chrome.{chart_after, charted, flows_after, going_on, level_after, level_by, flows_by, level_objects, line_objects, number_by, numbered, objects_after, span_objects, step_flows, step_number, step_objects, waiter_objects, waiter_of}
+use Rattle.trace_session.specs.Chrome.{chart_after, charted, flows_after, going_on, level_after, level_by, flows_by, level_objects, line_objects, number_by, numbered, objects_after, span_objects, step_flows, step_number, step_objects, wait_objects, wait_of}
+use Rattle.trace_json.specs.Chrome.{TraceObject}
+use Rattle.trace_json.specs.declared.members.EndedWait.{EndedWait}
+use Rattle.trace_session.specs.Counters.{counter_objects, counts_in, no_counts, step_counters}
 use Rattle.trace_session.specs.Bursts.{SilentLinesLaw, instructions_line, with_instructions}
 use Rattle.board_changes.specs.Spans.{SpanState, closed}
 use Rattle.trace_session.specs.Spans.{looked_at, looked_by, observed_in, opening_spans, part_after}
 
 -- ---- one silent step
-abbrev the_none : List Data
+abbrev the_none : List TraceObject
 the_none = []
 
 -- no other task runs
@@ -108,17 +110,17 @@ no_level c None time = refl
 no_level c (Some from) time = refl
 
 -- a line that ends no wait has no flow
-none_told : (b : Bool) (waiter : Option ℕ) → waiter ≡ None → (if b then waiter else None) ≡ None
+none_told : (b : Bool) (waiter : Option EndedWait) → waiter ≡ None → (if b then waiter else None) ≡ None
 none_told true waiter none = none
 none_told false waiter none = refl
 
-no_flow : (c : ChoiceState) (who : Option Actor) (b : BeforeStep) (to : ℕ) (h : Happening) (n : ℕ) → waiter_of h ≡ None → flows_by c who b to (h ∷ []) n ≡ the_none
+no_flow : (c : ChoiceState) (who : Option Actor) (b : BeforeStep) (to : ℕ) (h : Happening) (n : ℕ) → wait_of h ≡ None → flows_by c who b to (h ∷ []) n ≡ the_none
 no_flow c None b to h n none = refl
-no_flow c (Some giver) b to h n none = ap (λ w. waiter_objects (subject_actor giver) w n b.time to ++ the_none) (none_told (chosen c b.step h) (waiter_of h) none)
+no_flow c (Some giver) b to h n none = ap (λ w. wait_objects (subject_actor giver) w n b.time to ++ the_none) (none_told (chosen c b.step h) (wait_of h) none)
 
-no_number : (c : ChoiceState) (who : Option Actor) (b : BeforeStep) (h : Happening) (n : ℕ) → waiter_of h ≡ None → number_by c who b (h ∷ []) n ≡ n
+no_number : (c : ChoiceState) (who : Option Actor) (b : BeforeStep) (h : Happening) (n : ℕ) → wait_of h ≡ None → number_by c who b (h ∷ []) n ≡ n
 no_number c None b h n none = refl
-no_number c (Some giver) b h n none = ap (λ w. numbered w n) (none_told (chosen c b.step h) (waiter_of h) none)
+no_number c (Some giver) b h n none = ap (λ w. numbered w n) (none_told (chosen c b.step h) (wait_of h) none)
 
 -- ---- many silent steps
 -- the same task or routine makes all of them
@@ -272,6 +274,22 @@ module _ (law : SilentLaw) (said : Answers) (s u : State) (i : ℕ) (here : u �
         ∙ ap (charted (part_after c said s i) (level_after c said s i)) (flows_on k t steps)
 
     -- and they have no objects
+    quiet : (b : Bool) (xs ys : List TraceObject) → (if b then (if true then [] else xs) else (if b then ys else [])) ≡ the_none
+    quiet true xs ys = refl
+    quiet false xs ys = refl
+
+    -- no counter changes
+    no_counter : (k : ℕ) (v t : State) → SilentSteps k u v → IsSilentStep v t → suc k ≤ m - 1 → step_counters c (before_step v) (counts_in v) t ≡ the_none
+    no_counter k v t steps step few =
+        let now : v.steps + 1 ≡ u.steps + k + 1 = omega (arith, burst_counted law u v k steps) in
+        let next : v.steps + 1 + 1 ≡ u.steps + suc k + 1 = omega (arith, burst_counted law u v k steps) in
+        let some = counter_objects c t.time (counts_in v) (counts_in t) in
+        let all = counter_objects c t.time no_counts (counts_in t) in
+        ap₂ (λ x y. if x then (if is_instruction (before_step v) t.world.output then [] else some) else (if y then all else []))
+        (ap (is_step c) now ∙ alike k (omega (arith, few))) (ap (is_step c) next ∙ alike (suc k) (omega (arith, few)))
+        ∙ ap (λ i. if is_step c (u.steps + 1) then (if i then [] else some) else (if is_step c (u.steps + 1) then all else [])) (is_one_instruction v t step)
+        ∙ quiet (is_step c (u.steps + 1)) some all
+
     no_object : (b : Bool) → ([] ++ (if b then [] else [])) ++ [] ≡ the_none
     no_object true = refl
     no_object false = refl
@@ -282,10 +300,11 @@ module _ (law : SilentLaw) (said : Answers) (s u : State) (i : ℕ) (here : u �
         let x = chart_after c said s (i + k) in
         let l = instructions_line v steps.2.who 1 in
         let h = told.Instructions steps.2.who 1 in
-        ap₂ (λ ls hs. flat_map (line_objects c) ls ++ (step_flows c (before_step v) t.time hs x.flows ++ (flat_map (span_objects c) (looked_by c (before_step v) (going_on x.spans) t).done ++ level_objects c x.level (level_by c x.level t) t.time))) (one_line v t steps.2 said_then) (one_happening v t steps.2 said_then)
-        ∙ ap₂ (λ (a : SpanState) b. flat_map (line_objects c) (l ∷ []) ++ (step_flows c (before_step v) t.time (h ∷ []) x.flows ++ (flat_map (span_objects c) a.done ++ level_objects c x.level b t.time))) (looked_same k v t (going_on x.spans) steps.1 steps.2 few) (level_same k t steps few)
-        ∙ ap₂ (λ a b. a ++ (step_flows c (before_step v) t.time (h ∷ []) x.flows ++ ([] ++ b))) (no_object (is_chosen c l)) (no_level c x.level t.time)
-        ∙ ap (λ a. [] ++ (a ++ ([] ++ []))) (no_flow c (before_step v).actor (before_step v) t.time h x.flows refl)
+        let counters = step_counters c (before_step v) (counts_in v) t in
+        ap₂ (λ ls hs. flat_map (line_objects c) ls ++ (step_flows c (before_step v) t.time hs x.flows ++ ((flat_map (span_objects c) (looked_by c (before_step v) (going_on x.spans) t).done ++ level_objects c x.level (level_by c x.level t) t.time) ++ counters))) (one_line v t steps.2 said_then) (one_happening v t steps.2 said_then)
+        ∙ ap₂ (λ (a : SpanState) b. flat_map (line_objects c) (l ∷ []) ++ (step_flows c (before_step v) t.time (h ∷ []) x.flows ++ ((flat_map (span_objects c) a.done ++ level_objects c x.level b t.time) ++ counters))) (looked_same k v t (going_on x.spans) steps.1 steps.2 few) (level_same k t steps few)
+        ∙ ap₂ (λ a b. a ++ (step_flows c (before_step v) t.time (h ∷ []) x.flows ++ (([] ++ b) ++ counters))) (no_object (is_chosen c l)) (no_level c x.level t.time)
+        ∙ ap₂ (λ a b. [] ++ (a ++ (([] ++ []) ++ b))) (no_flow c (before_step v).actor (before_step v) t.time h x.flows refl) (no_counter k v t steps.1 steps.2 few)
 
     pub objects_on : (k : ℕ) (t : State) → SilentSteps k u t → k ≤ m - 1 → objects_after c said s (i + k) ≡ objects_after c said s i
     objects_on zero t steps few = let end : i + 0 ≡ i = omega arith in ap (objects_after c said s) end

@@ -1,6 +1,8 @@
 pub mod Bursts
+pub mod ChartLaws
 pub mod Choice
 pub mod Chrome
+pub mod Counters
 pub mod Covering
 pub mod Forms
 pub mod Kinds

@@ -1,8 +1,7 @@
 //! The objects of the trace-event format that a trace makes of steps.
 
-ghost use Rattle.std.specs.Prelude.{◌≡◌, ◌+◌, ◌<◌, ◌++◌, ◌^◌, ℕ, List, None, OnOk, IfOk};
+ghost use Rattle.std.specs.Prelude.{◌≡◌, ◌+◌, ◌<◌, ◌++◌, ◌^◌, ℕ, List, None, Some, OnOk, IfOk};
 ghost use Rattle.std.specs.List.{flat_map};
-ghost use Rattle.serde_json.specs.Data.{Data};
 ghost use Rattle.wind_machine.specs.LiveLoadingSaid.{FileSaid};
 ghost use Rattle.wind_machine.specs.{State.State, Replies.step_reply};
 ghost use Rattle.wind_session.specs.BoardPlayerSeen.{last_reply, seen};
@@ -11,24 +10,26 @@ ghost use Rattle.board_trace.specs.Snapshots.{snapshot_of};
 ghost use Rattle.board_trace.specs.Subjects.{subject_actor};
 ghost use Rattle.board_trace.specs.Views.{snapshot_state};
 ghost use Rattle.trace_text.specs.Forms.{Gained};
-ghost use Rattle.trace_json.specs.Chrome.{AreMembers, opening_objects};
+ghost use Rattle.trace_json.specs.Chrome.{AreMembers, TraceObject, opening_objects};
 ghost use Rattle.trace_session.specs.Choice.{choice_state};
-ghost use Rattle.trace_session.specs.Chrome.{BeginsList, IsList, chart_by, charted, chosen_waiter as chosen_waiter_lem, going_on, last_object, left_objects, level_by as level_by_lem, level_objects, line_objects, numbered, routine_objects, span_objects, step_flows, step_number, step_objects, tells_level as tells_level_lem, tells_span as tells_span_lem, waiter_in as waiter_in_lem, waiter_objects, waiter_of as waiter_of_lem};
+ghost use Rattle.trace_session.specs.Chrome.{BeginsList, IsList, IsReadyToChart, chart_by, charted, chosen_wait as chosen_wait_lem, first_objects, going_on, last_object, left_objects, level_by as level_by_lem, level_objects, line_objects, numbered, routine_objects, span_objects, step_flows, step_number, step_objects, tells_level as tells_level_lem, tells_span as tells_span_lem, wait_in as wait_in_lem, wait_objects, wait_of as wait_of_lem};
+ghost use Rattle.trace_session.specs.Counters.{counts_in, first_counters, queue_counts, ready_in as ready_in_lem, step_counters};
 ghost use Rattle.trace_session.specs.Spans.{first_spans, looked_by};
 ghost use Rattle.trace_session.specs.Steps.{line_of};
 
 use crate::choice::{Choice, Kind};
+use crate::counters::{add_first_counters, add_step_counters};
+use crate::counts::{Counts, QueueCount, QueueReader, ready_in};
 use crate::part_spans::{look, opening};
 use crate::reader::StepReader;
 use crate::shown::kind_of_standing;
 use crate::tracer::how;
-use board_changes::{Change, Span, Spans};
+use board_changes::{Change, Span, Spans, TaskView};
 use board_trace::{BeforeStep, Happening, Snapshot, Subject, subject_name, subject_of};
-use id_table::Ident;
 use kernel_world::Actor;
 use std::alloc::Global;
 use trace_json::{
-    Flow, add_flow, add_instant, add_opening, add_routine, add_span, add_spawned, close_list,
+    EndedWait, Flow, add_flow, add_instant, add_opening, add_routine, add_span, add_spawned, close_list,
     open_list,
 };
 use trace_text::Moment;
@@ -44,6 +45,8 @@ pub(crate) struct Charter<'a> {
     pub(crate) choice: &'a Choice,
     /// What reads the next step.
     pub(crate) reader: StepReader,
+    /// What counts the messages of queues.
+    pub(crate) queues: QueueReader,
     /// The spans of the tasks.
     pub(crate) spans: Spans,
     /// Since when an interrupt routine is active, in board time.
@@ -193,59 +196,62 @@ fn add_level(
     }
 }
 
-// The task whose wait a change ends.
-fn waiter_in(change: &Change) -> Option<Ident>
-    ensures { result ≡ waiter_in_lem change.now }
+// The wait that a change ends.
+fn wait_in(change: &Change) -> Option<EndedWait>
+    ensures { result ≡ wait_in_lem change.now }
 {
     match *change {
-        Change::Served { who, .. } | Change::Failed { who, .. } | Change::GoesOn { who, .. } => {
-            Some(who)
-        }
+        Change::Served { who, object, .. }
+        | Change::Failed { who, object, .. }
+        | Change::GoesOn { who, object } => Some(EndedWait {
+            waiter: who,
+            object,
+        }),
         _ => None,
     }
 }
 
-// The task whose wait ends.
-fn waiter_of(happening: &Happening) -> Option<Ident>
-    ensures { result ≡ waiter_of_lem happening.now }
+// The wait that ends.
+fn wait_of(happening: &Happening) -> Option<EndedWait>
+    ensures { result ≡ wait_of_lem happening.now }
 {
     match happening {
-        Happening::Changed(change) => waiter_in(change),
+        Happening::Changed(change) => wait_in(change),
         _ => None,
     }
 }
 
 // The same, if it is told in the step with this number.
-fn chosen_waiter(choice: &Choice, step: u64, happening: &Happening) -> Option<Ident>
-    ensures { result ≡ chosen_waiter_lem (choice_state choice.now) step happening.now }
+fn chosen_wait(choice: &Choice, step: u64, happening: &Happening) -> Option<EndedWait>
+    ensures { result ≡ chosen_wait_lem (choice_state choice.now) step happening.now }
 {
     if choice.has(step, happening) {
-        return waiter_of(happening);
+        return wait_of(happening);
     }
     None
 }
 
-// Adds the flow to a task whose wait ends. Returns the number of the last flow.
-fn add_waiter(
+// Adds the flow of a wait that ends. Returns the number of the last flow.
+fn add_wait(
     alloc: Global,
     text: &mut Vec<u8>,
     giver: Subject,
-    waiter: Option<Ident>,
+    wait: Option<EndedWait>,
     last: u64,
     from: u128,
     to: u128,
 ) -> Result<u64, NoMemory>
-    ensures number { IfOk result (λ n. n ≡ numbered waiter last) }
-    ensures text { OnOk result (Gained (AreMembers (waiter_objects giver waiter last from to))
+    ensures number { IfOk result (λ n. n ≡ numbered wait last) }
+    ensures text { OnOk result (Gained (AreMembers (wait_objects giver wait last from to))
         text.old.items text.new.items) }
 {
-    let Some(waiter) = waiter else {
+    let Some(wait) = wait else {
         return Ok(last);
     };
     let number = last.saturating_add(1);
     let flow = Flow {
         giver,
-        waiter,
+        wait,
         from,
         to,
     };
@@ -280,10 +286,35 @@ fn add_flows(
     let giver = giver_of(who);
     let mut number = last;
     for happening in list {
-        let waiter = chosen_waiter(choice, before_step.step, happening);
-        number = add_waiter(alloc, text, giver, waiter, number, before_step.time, to)?;
+        let wait = chosen_wait(choice, before_step.step, happening);
+        number = add_wait(alloc, text, giver, wait, number, before_step.time, to)?;
     }
     Ok(number)
+}
+
+// The text before the first step of a board, with these tasks and the messages of its queues.
+fn opening_text(
+    alloc: Global,
+    choice: &Choice,
+    board: &Board,
+    tasks: &[TaskView],
+    queues: &[QueueCount],
+) -> Result<Vec<u8>, NoMemory>
+    requires few { (seen ⟦<dyn Device as Device>⟧ board.now).steps + 1 < 2 ^ 64 }
+    requires tasks { tasks.now ≡ (snapshot_of (seen ⟦<dyn Device as Device>⟧ board.now).world).tasks }
+    requires queues { queues.now ≡ queue_counts (seen ⟦<dyn Device as Device>⟧ board.now).world }
+    ensures { IfOk result (λ text. BeginsList (first_objects (choice_state choice.now)
+        (seen ⟦<dyn Device as Device>⟧ board.now)) text.items) }
+{
+    let mut text = Vec::new(alloc);
+    open_list(&mut text)?;
+    add_opening(alloc, &mut text, tasks)?;
+    let counts = Counts {
+        ready: Some(ready_in(tasks)),
+        queues,
+    };
+    add_first_counters(alloc, &mut text, choice, board, &counts)?;
+    Ok(text)
 }
 
 impl<'a> Charter<'a> {
@@ -298,21 +329,23 @@ impl<'a> Charter<'a> {
         ensures chart { IfOk result (λ c. charted c.spans c.level c.flows ≡ charted
             (first_spans (choice_state choice.now) (seen ⟦<dyn Device as Device>⟧ board.now))
             (level_by_lem (choice_state choice.now) None (seen ⟦<dyn Device as Device>⟧ board.now)) 0) }
-        ensures text { IfOk result (λ c. BeginsList
-            (opening_objects (snapshot_of (seen ⟦<dyn Device as Device>⟧ board.now).world).tasks) c.text.items) }
+        ensures text { IfOk result (λ c. BeginsList (first_objects (choice_state choice.now)
+            (seen ⟦<dyn Device as Device>⟧ board.now)) c.text.items) }
         ensures before { IfOk result (λ c. snapshot_state c.reader.before
             ≡ snapshot_of (seen ⟦<dyn Device as Device>⟧ board.now).world) }
+        ensures counts { IfOk result (λ c. c.queues.before.items
+            ≡ queue_counts (seen ⟦<dyn Device as Device>⟧ board.now).world) }
     {
         let reader = StepReader::new(alloc, board)?;
         let spans = opening(alloc, choice, board, &reader.before.tasks)?;
         let level = level_by(choice, None, board);
-        let mut text = Vec::new(alloc);
-        open_list(&mut text)?;
-        add_opening(alloc, &mut text, &reader.before.tasks)?;
+        let queues = QueueReader::new(alloc, board)?;
+        let text = opening_text(alloc, choice, board, &reader.before.tasks, &queues.before)?;
         Ok(Charter {
             alloc,
             choice,
             reader,
+            queues,
             spans,
             level,
             flows: 0,
@@ -337,7 +370,8 @@ impl<'a> Charter<'a> {
             self.old.level (seen ⟦<dyn Device as Device>⟧ board.now)) }
         ensures flows { OnOk result (self.new.flows ≡ self.old.flows) }
         ensures choice { OnOk result (self.new.choice ≡ self.old.choice) }
-        ensures after { OnOk result (self.new.reader.after ≡ self.old.reader.after) }
+        ensures reader { OnOk result (self.new.reader ≡ self.old.reader) }
+        ensures queues { OnOk result (self.new.queues ≡ self.old.queues) }
     {
         let (alloc, choice) = (self.alloc, self.choice);
         self.spans.forget_done();
@@ -349,6 +383,34 @@ impl<'a> Charter<'a> {
         add_level(alloc, &mut self.text, choice, since, self.level, time)
     }
 
+    // Adds the counters after a step.
+    fn add_counters(&mut self, board: &Board, before_step: &BeforeStep) -> Result<(), NoMemory>
+        requires step { before_step.now.step + 1 < 2 ^ 64 }
+        requires after { snapshot_state self.old.reader.after ≡ snapshot_of (seen ⟦<dyn Device as Device>⟧ board.now).world }
+        ensures text { OnOk result (Gained (AreMembers (step_counters (choice_state self.old.choice.now) before_step.now
+            (record { ready = Some (ready_in_lem (snapshot_state self.old.reader.before).tasks);
+            queues = self.old.queues.before.items }) (seen ⟦<dyn Device as Device>⟧ board.now)))
+            self.old.text.items self.new.text.items) }
+        ensures counts { OnOk result (self.new.queues.after.items
+            ≡ queue_counts (seen ⟦<dyn Device as Device>⟧ board.now).world) }
+        ensures chart { OnOk result (charted self.new.spans self.new.level self.new.flows
+            ≡ charted self.old.spans self.old.level self.old.flows) }
+        ensures choice { OnOk result (self.new.choice ≡ self.old.choice) }
+        ensures reader { OnOk result (self.new.reader ≡ self.old.reader) }
+    {
+        let (alloc, choice) = (self.alloc, self.choice);
+        self.queues.read(board)?;
+        let before = Counts {
+            ready: Some(ready_in(&self.reader.before.tasks)),
+            queues: &self.queues.before,
+        };
+        let after = Counts {
+            ready: Some(ready_in(&self.reader.after.tasks)),
+            queues: &self.queues.after,
+        };
+        add_step_counters(alloc, &mut self.text, choice, board, before_step, &before, &after)
+    }
+
     /// A step was made: adds its objects.
     pub(crate) fn add_step(
         &mut self,
@@ -358,7 +420,8 @@ impl<'a> Charter<'a> {
         requires step { before_step.now.step + 1 < 2 ^ 64 }
         requires few { (seen ⟦<dyn Device as Device>⟧ board.now).steps + 1 < 2 ^ 64 }
         ensures text { OnOk result ((said : FileSaid) (s : State) → before_step.now ≡ before_step_lem s
-            → snapshot_state self.old.reader.before ≡ snapshot_of s.world → last_reply board.now ≡ step_reply said s
+            → IsReadyToChart (snapshot_state self.old.reader.before) self.old.queues.before.items s
+            → last_reply board.now ≡ step_reply said s
             → Gained (AreMembers (step_objects (choice_state self.old.choice.now) said
             (charted self.old.spans self.old.level self.old.flows) s
             (seen ⟦<dyn Device as Device>⟧ board.now))) self.old.text.items self.new.text.items) }
@@ -370,6 +433,8 @@ impl<'a> Charter<'a> {
         ensures choice { OnOk result (self.new.choice ≡ self.old.choice) }
         ensures before { OnOk result (snapshot_state self.new.reader.before
             ≡ snapshot_of (seen ⟦<dyn Device as Device>⟧ board.now).world) }
+        ensures counts { OnOk result (self.new.queues.before.items
+            ≡ queue_counts (seen ⟦<dyn Device as Device>⟧ board.now).world) }
     {
         let (alloc, choice) = (self.alloc, self.choice);
         self.reader.read(board, before_step)?;
@@ -393,13 +458,15 @@ impl<'a> Charter<'a> {
             self.flows,
         )?;
         self.add_ended(board, before_step)?;
+        self.add_counters(board, before_step)?;
         self.reader.go_on();
+        self.queues.go_on();
         Ok(())
     }
 
     /// The run has ended: adds the spans that went on, and how it ended.
     pub(crate) fn add_end(&mut self, board: &Board, end: RunEnd) -> Result<(), NoMemory>
-        ensures { OnOk result ((given : List ℕ) (objects : List Data) → BeginsList objects (given ++ self.old.text.items)
+        ensures { OnOk result ((given : List ℕ) (objects : List TraceObject) → BeginsList objects (given ++ self.old.text.items)
             → IsList (objects ++ left_objects (choice_state self.old.choice.now)
             (charted self.old.spans self.old.level self.old.flows) (seen ⟦<dyn Device as Device>⟧ board.now).time)
             (last_object end (seen ⟦<dyn Device as Device>⟧ board.now)) (given ++ self.new.text.items)) }

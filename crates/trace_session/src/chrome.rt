@@ -1,7 +1,6 @@
 //! A run, told as a list of objects of the trace-event format.
 
 ghost use Rattle.std.specs.Prelude.{◌≡◌, ◌≢◌, ◌⊎◌, ◌≤◌, ◌+◌, ◌++◌, ℕ, List, [], Option, IfOk, OnErr};
-ghost use Rattle.serde_json.specs.Data.{Data};
 ghost use Rattle.wind_base.specs.Limits.{most_steps};
 ghost use Rattle.wind_outside.specs.{Appending.{Appended, AppendedPrefix}, Counts.Rose};
 ghost use Rattle.wind_outside.specs.declared.sink.Put.TheVariants as puts;
@@ -10,7 +9,9 @@ ghost use Rattle.wind_session.specs.{Keeping.KeepsFiles, Telling.Told};
 ghost use Rattle.wind_session.specs.BoardPlayerSeen.{seen};
 ghost use Rattle.wind_session.specs.declared.run.RunEnd.TheVariants as ends;
 ghost use Rattle.board_trace.specs.{Snapshots.snapshot_of, Views.snapshot_state};
+ghost use Rattle.trace_json.specs.Chrome.{TraceObject};
 ghost use Rattle.trace_session.specs.Choice.{choice_state};
+ghost use Rattle.trace_session.specs.Counters.{queue_counts};
 ghost use Rattle.trace_session.specs.Chrome.{HoldsFirst, HoldsObjects, IsList, TellsFirst, TellsObjects, chart_after, charted, last_object, left_objects, objects_after};
 ghost use Rattle.trace_session.specs.Traced.{Alone, IsPutOf};
 
@@ -43,10 +44,10 @@ fn put_objects<O: Sink>(text: &mut Vec<u8>, out: &mut O) -> Put
 
 // Puts the text of objects if it is full.
 fn put_full<O: Sink>(text: &mut Vec<u8>, out: &mut O) -> Put
-    ensures done { result ≡ puts.Done → (first : Option (List ℕ)) (objects : List Data)
+    ensures done { result ≡ puts.Done → (first : Option (List ℕ)) (objects : List TraceObject)
         → HoldsObjects first (O.bytes out.old) text.old.items objects
         → HoldsObjects first (O.bytes out.new) text.new.items objects }
-    ensures part { result ≡ puts.Failed → (first : Option (List ℕ)) (objects : List Data)
+    ensures part { result ≡ puts.Failed → (first : Option (List ℕ)) (objects : List TraceObject)
         → HoldsObjects first (O.bytes out.old) text.old.items objects → HoldsFirst first (O.bytes out.new) objects }
     ensures failed { result ≡ puts.Failed → Rose (O.faults out.old) (O.faults out.new) }
     ensures faults { O.faults out.old ≤ O.faults out.new }
@@ -62,6 +63,8 @@ fn burst(board: &mut Board, charter: &mut Charter, most: u64) -> u64
     requires few { (seen ⟦<dyn Device as Device>⟧ board.old).steps + most ≤ most_steps }
     requires before { snapshot_state charter.old.reader.before
         ≡ snapshot_of (seen ⟦<dyn Device as Device>⟧ board.old).world }
+    requires counts { charter.old.queues.before.items
+        ≡ queue_counts (seen ⟦<dyn Device as Device>⟧ board.old).world }
     ensures made { SilentSteps result (seen ⟦<dyn Device as Device>⟧ board.old)
         (seen ⟦<dyn Device as Device>⟧ board.new) }
     ensures within { result ≤ most }
@@ -77,6 +80,8 @@ fn burst(board: &mut Board, charter: &mut Charter, most: u64) -> u64
     ensures text { charter.new.text.items ≡ charter.old.text.items }
     ensures before { snapshot_state charter.new.reader.before
         ≡ snapshot_of (seen ⟦<dyn Device as Device>⟧ board.new).world }
+    ensures counts { charter.new.queues.before.items
+        ≡ queue_counts (seen ⟦<dyn Device as Device>⟧ board.new).world }
 {
     board.facts();
     let who = last_actor(board.world());
@@ -94,9 +99,9 @@ fn burst(board: &mut Board, charter: &mut Charter, most: u64) -> u64
 
 impl<'a> Teller for Charter<'a> {
     ghost use Rattle.std.specs.Prelude.{◌≡◌};
-    ghost use Rattle.board_trace.specs.{Before.before_step, Snapshots.snapshot_of, Views.snapshot_state};
+    ghost use Rattle.board_trace.specs.{Before.before_step, Views.snapshot_state};
     ghost use Rattle.trace_session.specs.Choice.{choice_state};
-    ghost use Rattle.trace_session.specs.Chrome.{ChartsPart, ChartsSteps, charted};
+    ghost use Rattle.trace_session.specs.Chrome.{ChartsPart, ChartsSteps, IsReadyToChart, charted};
 
     type Before = BeforeStep;
 
@@ -114,7 +119,7 @@ impl<'a> Teller for Charter<'a> {
 
     ghost part = { λ scope first now. ChartsPart (choice_state scope.now) first.bytes now.bytes };
 
-    ghost ready = { λ t s. snapshot_state t.reader.before ≡ snapshot_of s.world };
+    ghost ready = { λ t s. IsReadyToChart (snapshot_state t.reader.before) t.queues.before.items s };
 
     fn part_law(&self) {}
 
@@ -144,7 +149,7 @@ fn tell_end<O: Sink>(
     end: RunEnd,
     charter: &mut Charter,
 ) -> Result<RunEnd, NoMemory>
-    ensures told { IfOk result (λ e. (first : Option (List ℕ)) (objects : List Data)
+    ensures told { IfOk result (λ e. (first : Option (List ℕ)) (objects : List TraceObject)
         → HoldsObjects first (O.bytes out.old) charter.old.text.items objects
         → (text : List ℕ) × IsList (objects ++ left_objects (choice_state charter.old.choice.now)
         (charted charter.old.spans charter.old.level charter.old.flows)

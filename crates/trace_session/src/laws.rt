@@ -1,6 +1,7 @@
 //! Laws of the lines of a run, each as the clause of a function.
 
 ghost use Rattle.trace_session.specs.Bursts.{SilentLinesLaw};
+ghost use Rattle.trace_session.specs.ChartLaws.{ChartLaw};
 ghost use Rattle.trace_session.specs.Laws.{EverythingLaw, LinesLaw, SummarySpansLaw, SummaryTasksLaw, PartLaw};
 
 use trace_summary::tasks_law;
@@ -43,6 +44,14 @@ pub fn summary_tasks_law()
 /// steps. So they tile that part, by `board_trace::run_spans_law`.
 pub fn part_law()
     ensures { PartLaw }
+{
+    step_law();
+}
+
+/// The law of a run's objects of the trace-event format: the spans of tasks among them are those of the
+/// choice's steps, each once, and each flow begins with whoever ended the wait.
+pub fn chart_law()
+    ensures { ChartLaw }
 {
     step_law();
 }

@@ -8,6 +8,8 @@ mod choosing;
 mod chrome;
 mod command;
 mod counter;
+mod counters;
+mod counts;
 mod coverage;
 mod ending;
 mod events;
@@ -34,7 +36,9 @@ pub use choice::{Choice, Kind};
 pub use command::{TraceCommand, trace_command_of};
 pub use ending::TraceEnding;
 pub use forms::{Form, trace_board};
-pub use laws::{everything_law, lines_law, part_law, summary_spans_law, summary_tasks_law};
+pub use laws::{
+    chart_law, everything_law, lines_law, part_law, summary_spans_law, summary_tasks_law,
+};
 pub use playing::trace;
 pub use program::trace_program;
 pub use traced::{Product, TracedRun};

@@ -1,8 +1,5 @@
-use Rattle.std.proofs.Common.{[], ◌∷◌, subst}
 use Rattle.std.proofs.lemmas.Result.{on_ok_weaker}
-use Rattle.serde_json.specs.Data.{Data}
-use Rattle.trace_text.specs.Forms.{Gained}
-use Rattle.trace_json.specs.Chrome.{AreMembers}
+use Rattle.trace_json.specs.Chrome.{ThreadName}
 use Rattle.trace_json.proofs.ChromeDepth.{thread_shallow}
 use Rattle.trace_json.proofs.members.add_name.Goals as goal
 
@@ -10,6 +7,4 @@ pub add_member-requires : goal.add_member-requires
 add_member-requires c = thread_shallow _ _ _ c.in_ok-value.ensures
 
 pub returns : goal.returns
-returns c =
-    let P : Data → Type 0 = λ d. Gained (AreMembers (d ∷ [])) c.args.text.now.items c.add_member.new.text.items in
-    on_ok_weaker c.add_member.result (subst P c.in_ok-value.ensures) c.add_member.ensures
+returns c = on_ok_weaker c.add_member.result (λ gained. gained (ThreadName c.args.thread c.args.name.now) c.in_ok-value.ensures) c.add_member.ensures

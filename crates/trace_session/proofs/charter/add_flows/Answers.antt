@@ -1,10 +1,11 @@
-use Rattle.std.proofs.Common.{Option, ℕ, refl, subst, sym, ap, ◌∙◌}
+use Rattle.std.proofs.Common.{Option, refl, subst, sym, ap, ◌∙◌}
 use Rattle.kernel_world.specs.declared.actor.Actor.{Actor}
 use Rattle.trace_text.specs.Forms.{Gained}
 use Rattle.trace_json.specs.Chrome.{AreMembers}
+use Rattle.trace_json.specs.declared.members.EndedWait.{EndedWait}
 use Rattle.trace_json.proofs.Gaining.{gained_none}
 use Rattle.trace_session.specs.Choice.{choice_state}
-use Rattle.trace_session.specs.Chrome.{flows_by, numbered, number_by, waiter_objects}
+use Rattle.trace_session.specs.Chrome.{flows_by, numbered, number_by, wait_objects}
 use Rattle.trace_session.proofs.Charting.{flows_on, numbers_on}
 use Rattle.trace_session.proofs.charter.add_flows.Goals as goal
 
@@ -25,9 +26,9 @@ loop-happening-preserved c =
     let b = c.args.before_step.now in
     let h = c.happening-item.result in
     let choice = choice_state c.args.choice.now in
-    let next = c.in_ok-number.ensures.number ∙ ap (λ w. numbered w c.loop-happening.number) c.chosen_waiter-waiter.ensures in
-    let P : Option ℕ → Type 0 = λ w. Gained (AreMembers (waiter_objects c.giver_of-giver.result w c.loop-happening.number b.time c.args.to)) c.loop-happening.text.items c.add_waiter.new.text.items in
+    let next = c.in_ok-number.ensures.number ∙ ap (λ w. numbered w c.loop-happening.number) c.chosen_wait-wait.ensures in
+    let P : Option EndedWait → Type 0 = λ w. Gained (AreMembers (wait_objects c.giver_of-giver.result w c.loop-happening.number b.time c.args.to)) c.loop-happening.text.items c.add_wait.new.text.items in
     record {
       number = numbers_on choice b c.args.list.now c.loop-happening.happening-index h c.loop-happening-test.true c.happening-item.is c.args.last c.loop-happening.number _ c.loop-happening.invariant.number next;
-      text = flows_on choice b c.args.list.now c.loop-happening.happening-index h c.loop-happening-test.true c.happening-item.is _ c.args.to c.args.last c.loop-happening.number _ _ _ c.loop-happening.invariant.number c.loop-happening.invariant.text (subst P c.chosen_waiter-waiter.ensures c.in_ok-number.ensures.text);
+      text = flows_on choice b c.args.list.now c.loop-happening.happening-index h c.loop-happening-test.true c.happening-item.is _ c.args.to c.args.last c.loop-happening.number _ _ _ c.loop-happening.invariant.number c.loop-happening.invariant.text (subst P c.chosen_wait-wait.ensures c.in_ok-number.ensures.text);
     }

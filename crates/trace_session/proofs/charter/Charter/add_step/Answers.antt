@@ -1,19 +1,22 @@
-use Rattle.std.proofs.Common.{◌++◌, List, ℕ, ap, subst, sym, ◌∙◌}
+use Rattle.std.proofs.Common.{◌≡◌, ◌++◌, List, ℕ, Some, ap, ap₂, subst, sym, ◌∙◌}
 use Rattle.std.specs.List.{flat_map}
 use Rattle.std.proofs.lemmas.List.Folds.{flat_map-map}
-use Rattle.serde_json.specs.Data.{Data}
 use Rattle.wind_session.specs.BoardPlayerSeen.{board_by}
 use Rattle.board_trace.specs.Before.{before_step}
 use Rattle.board_trace.specs.Steps.{happenings}
-use Rattle.board_trace.specs.Views.{snapshot_state}
+use Rattle.board_trace.specs.Views.{SnapshotState, snapshot_state}
 use Rattle.board_trace.specs.declared.happening.Happening.{Happening}
 use Rattle.board_trace.specs.declared.moment.BeforeStep.{BeforeStep}
 use Rattle.trace_text.specs.Forms.{Gained}
-use Rattle.trace_json.specs.Chrome.{AreMembers}
+use Rattle.trace_json.specs.Chrome.{AreMembers, TraceObject}
 use Rattle.trace_json.proofs.Gaining.{gained_both}
 use Rattle.trace_session.specs.Choice.{choice_state}
 use Rattle.trace_session.specs.Chrome.{charted, going_on, level_by, level_objects, line_objects, span_objects, step_flows, step_number}
+use Rattle.trace_session.specs.Counters.{CountsState, counts_in, ready_in, step_counters}
 use Rattle.trace_session.specs.Spans.{looked_by}
+use Rattle.trace_session.specs.declared.counts.QueueCount.{QueueCount}
+use Rattle.trace_session.specs.declared.counts.QueueReader.{QueueReader}
+use Rattle.trace_session.specs.declared.reader.StepReader.{StepReader}
 use Rattle.trace_session.specs.Steps.{line_of}
 use Rattle.trace_session.proofs.Lines.{happenings_are, lines_read}
 use Rattle.trace_session.proofs.charter.Charter.add_step.Goals as goal
@@ -26,11 +29,17 @@ returns-clause-text g c =
     let old = c.args.self.now in
     let choice = choice_state old.choice.now in
     let b = c.args.before_step.now in
-    λ said s is from replied.
+    λ said s is ready replied.
+    let from = ready.snapshot in
     let line = line_of b (snapshot_state c.read.new.self.before) (snapshot_state c.read.new.self.after) in
-    let P : List Data → Type 0 = λ ds. Gained (AreMembers ds) old.text.items c.add_lines.new.text.items in
+    let P : List TraceObject → Type 0 = λ ds. Gained (AreMembers ds) old.text.items c.add_lines.new.text.items in
     let F : BeforeStep → ℕ → List Happening → Type 0 = λ step time hs. Gained (AreMembers (step_flows choice step time hs old.flows)) c.add_lines.new.text.items c.add_flows.new.text.items in
     let E : BeforeStep → Type 0 = λ step. Gained (AreMembers (flat_map (span_objects choice) (looked_by choice step (going_on old.spans) new).done ++ level_objects choice old.level (level_by choice old.level new) new.time)) c.add_flows.new.text.items c.add_ended.new.self.text.items in
+    let C : BeforeStep → CountsState → Type 0 = λ step counts. Gained (AreMembers (step_counters choice step counts new)) c.add_ended.new.self.text.items c.add_counters.new.self.text.items in
+    let counts : record { ready = Some (ready_in (snapshot_state c.add_ended.new.self.reader.before).tasks); queues = c.add_ended.new.self.queues.before.items } ≡ counts_in s =
+    ap₂ (λ (v : SnapshotState) (queues : List QueueCount). record { ready = Some (ready_in v.tasks); queues = queues })
+    (ap (λ (r : StepReader). snapshot_state r.before) c.in_ok-add_ended.ensures.reader ∙ ap snapshot_state c.in_ok-read.ensures.before ∙ from)
+    (ap (λ (r : QueueReader). r.before.items) c.in_ok-add_ended.ensures.queues ∙ ready.counts_are) in
     let list_is = c.deref.ensures.value ∙ c.in_ok-read.ensures.list in
     gained_both _ _ _ _ _
     (subst P
@@ -41,7 +50,7 @@ returns-clause-text g c =
     (subst (λ step. F step new.time (happenings said s new)) is
     (subst (F b new.time) (happenings_are said s new _ _ _ _ (c.deref-2.ensures.value ∙ c.in_ok-read.ensures.list) is from replied)
     (subst (λ time. F b time c.deref-2.result.now) c.time.ensures c.in_ok-self.ensures.text)))
-    (subst E is c.in_ok-add_ended.ensures.text))
+    (gained_both _ _ _ _ _ (subst E is c.in_ok-add_ended.ensures.text) (subst (λ step. C step (counts_in s)) is (subst (C b) counts c.in_ok-add_counters.ensures.text))))
 
 pub returns-clause-chart : goal.returns-clause-chart
 returns-clause-chart g c =
@@ -51,7 +60,8 @@ returns-clause-chart g c =
     let choice = choice_state old.choice.now in
     let later = c.add_ended.new.self in
     λ said s is from replied.
-    ap (λ x. charted x later.level later.flows) (c.in_ok-add_ended.ensures.spans ∙ ap (λ (b : BeforeStep). looked_by choice b (going_on old.spans) new) is)
+    c.in_ok-add_counters.ensures.chart
+    ∙ ap (λ x. charted x later.level later.flows) (c.in_ok-add_ended.ensures.spans ∙ ap (λ (b : BeforeStep). looked_by choice b (going_on old.spans) new) is)
     ∙ ap (λ x. charted (looked_by choice (before_step s) (going_on old.spans) new) x later.flows) c.in_ok-add_ended.ensures.level
     ∙ ap (charted (looked_by choice (before_step s) (going_on old.spans) new) (level_by choice old.level new))
     (c.in_ok-add_ended.ensures.flows
