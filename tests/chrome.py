@@ -2,8 +2,9 @@
 
 COUNT random sessions of replay.py are played, each whole and in parts. The text has to be JSON, also if it is cut after
 a line and closed. Its objects have to follow the rules of the trace-event format. Its spans have to be those of the
-timeline, its instants the objects of `--as json-lines` without those of instructions, and its flows the waits that end
-in a step with a call.
+timeline, its instants the objects of `--as json-lines` without those of instructions, its flows the waits that end in a
+step with a call, its counters of messages the sums over the lines, and its last number of ready tasks at each time the
+spans of ready and running tasks there.
 """
 
 import argparse
@@ -41,7 +42,7 @@ def broken_rules(events):
     """The rules of the format that objects break: which keys each phase has, with their types."""
     for it in events:
         phase = it.get("ph")
-        if phase not in ("M", "X", "i", "s", "f"):
+        if phase not in ("M", "X", "i", "s", "f", "C"):
             yield f"{it}: its phase"
         if not isinstance(it.get("name"), str) or not is_count(it.get("pid")) or not is_count(it.get("tid")):
             yield f"{it}: its name, process or thread"
@@ -55,6 +56,8 @@ def broken_rules(events):
             yield f"{it}: its flow"
         if phase == "f" and it.get("bp") != "e":
             yield f"{it}: where it ends"
+        if phase == "C" and not (len(it["args"]) == 1 and all(is_count(number) for number in it["args"].values())):
+            yield f"{it}: its number"
         if phase == "M" and not (it["name"] == "thread_name" and isinstance(it["args"]["name"], str)):
             yield f"{it}: the name that it gives"
 
@@ -96,9 +99,77 @@ def flows_of_lines(text, told):
             yield callers[line["step"]], line["task"], line["time"]
 
 
+def messages_of_objects(events):
+    """The queues and their numbers of messages, in order."""
+    return [(int(it["name"].split()[1]), it["args"]["messages"]) for it in events
+            if it["ph"] == "C" and it["name"].startswith("queue ")]
+
+
+def queues_by_step(text):
+    """After each step with a line, how many messages each queue has; and the number of the last step."""
+    queues = {}
+    for line in map(json.loads, text.splitlines()):
+        if line["event"] == "adds_message":
+            queues[line["queue"]] += 1
+        elif line["event"] == "takes_message":
+            queues[line["queue"]] -= 1
+        elif line["event"] == "call" and line["reply"] == "answer" and line["call"] == "msgQCreate":
+            queues[line["result"]] = 0
+        elif line["event"] == "call" and line["reply"] == "answer" and line["call"] == "msgQDelete":
+            queues.pop(line["words"][0], None)
+        yield line["step"], dict(queues)
+
+
+def messages_of_lines(text, first, last):
+    """The numbers of messages that lines of JSON give: all of them before the first chosen step, and then each change."""
+    after = dict(queues_by_step(text))
+    end = max(after)
+    before = next((after[step] for step in sorted(after, reverse=True) if step < first), {})
+    if end + 1 >= first:
+        yield from sorted(before.items())
+    for step in sorted(after):
+        if first <= step <= last:
+            now = after[step]
+            yield from ((queue, now[queue]) for queue in sorted(now) if before.get(queue) != now[queue])
+            yield from ((queue, 0) for queue in sorted(before) if queue not in now and before[queue])
+            before = now
+
+
+def broken_ready(events, end):
+    """The times before the end at which the last number of ready tasks isn't the number of their spans."""
+    changes = collections.Counter()
+    for it in events:
+        if it["ph"] == "X" and it["name"] in ("running", "ready"):
+            changes[it["ts"]] += 1
+            changes[it["ts"] + it["dur"]] -= 1
+    told = {it["ts"]: it["args"]["tasks"] for it in events if it["ph"] == "C" and it["name"] == "ready"}
+    there = told_now = 0
+    for time in sorted({*changes, *told}):
+        there += changes[time]
+        told_now = told.get(time, told_now)
+        if time < end and there != told_now:
+            yield f"{time}: {told_now} ready tasks in place of {there}"
+
+
+def counter_faults(events, words, whole):
+    """What is wrong with the counters; the lines of the whole run say how many messages there are."""
+    tracks = [it for it in events if it["ph"] == "C"]
+    if "--tasks" in words:
+        return ["counters are told"] if tracks else []
+    chosen = dict(zip(words[::2], words[1::2]))
+    kinds = chosen.get("--kinds", "runs,messages").split(",")
+    first, last = int(chosen.get("--from", 1)), int(chosen.get("--to", 2**64))
+    expected = list(messages_of_lines(whole, first, last)) if "messages" in kinds else []
+    found = [] if messages_of_objects(events) == expected else ["its counters of messages are not the sums of lines"]
+    if "runs" in kinds:
+        closing = max((it["ts"] + it["dur"] for it in events if it["ph"] == "X"), default=0)
+        found += broken_ready(events, closing)
+    return found
+
+
 def spans_of_objects(events):
-    return sorted((it["name"], it["tid"], it["ts"], it["ts"] + it["dur"])
-                  for it in events if it["ph"] == "X" and it["name"] in STANDINGS)
+    return sorted((it["name"].split()[0], it["tid"], it["ts"], it["ts"] + it["dur"])
+                  for it in events if it["ph"] == "X" and it["name"].split()[0] in STANDINGS)
 
 
 def routines_of_objects(events):
@@ -164,8 +235,10 @@ def faults(windtrace, folder, words=(), whole=()):
     told = run(windtrace, folder, "json-lines", words)
     if instants_of_objects(events) != list(instants_of_lines(told)):
         found.append("its instants are not the objects of the lines")
-    if flows_of_objects(events) != list(flows_of_lines(run(windtrace, folder, "json-lines", whole), told)):
+    all_told = run(windtrace, folder, "json-lines", whole)
+    if flows_of_objects(events) != list(flows_of_lines(all_told, told)):
         found.append("its flows are not the waits that calls end")
+    found += counter_faults(events, words, all_told)
     lines = text.splitlines()
     for cut in (2, len(lines) // 2):
         try:

@@ -426,7 +426,8 @@ impl<'a> Charter<'a> {
             (charted self.old.spans self.old.level self.old.flows) s
             (seen ⟦<dyn Device as Device>⟧ board.now))) self.old.text.items self.new.text.items) }
         ensures chart { OnOk result ((said : FileSaid) (s : State) → before_step.now ≡ before_step_lem s
-            → snapshot_state self.old.reader.before ≡ snapshot_of s.world → last_reply board.now ≡ step_reply said s
+            → IsReadyToChart (snapshot_state self.old.reader.before) self.old.queues.before.items s
+            → last_reply board.now ≡ step_reply said s
             → charted self.new.spans self.new.level self.new.flows ≡ chart_by (choice_state self.old.choice.now) said
             (charted (going_on self.old.spans) self.old.level self.old.flows) s
             (seen ⟦<dyn Device as Device>⟧ board.now)) }

@@ -11,13 +11,13 @@ ghost use Rattle.trace_session.specs.Traced.{TellsAreas, TellsNothing};
 
 use crate::choice::Choice;
 use crate::observer::Observer;
+use crate::part_spans::burst_within;
 use crate::put::put_text;
 use crate::traced::{Product, TracedRun};
 use board_trace::BeforeStep;
 use std::alloc::Global;
 use trace_state::look_before;
 use wind_base::NoMemory;
-use wind_machine::silent_law;
 use wind_outside::{Device, Folder, Put, Sink};
 use wind_session::{Board, Teller, tell_run};
 
@@ -48,10 +48,7 @@ impl<'a> Teller for Observer<'a> {
     fn part_law(&self) {}
 
     fn burst(&mut self, board: &mut Board, most: u64) -> Result<u64, NoMemory> {
-        silent_law();
-        // the step after them is like them, so the first and the last step that is shown is none of them
-        let alike = self.choice.most_alike(board.steps(), most);
-        Ok(board.burst(alike.saturating_sub(1)))
+        Ok(burst_within(board, self.choice, most))
     }
 
     fn look_before(&self, board: &Board) -> Result<BeforeStep, NoMemory> {

@@ -59,7 +59,8 @@ returns-clause-chart g c =
     let old = c.args.self.now in
     let choice = choice_state old.choice.now in
     let later = c.add_ended.new.self in
-    λ said s is from replied.
+    λ said s is ready replied.
+    let from = ready.snapshot in
     c.in_ok-add_counters.ensures.chart
     ∙ ap (λ x. charted x later.level later.flows) (c.in_ok-add_ended.ensures.spans ∙ ap (λ (b : BeforeStep). looked_by choice b (going_on old.spans) new) is)
     ∙ ap (λ x. charted (looked_by choice (before_step s) (going_on old.spans) new) x later.flows) c.in_ok-add_ended.ensures.level
