@@ -1,5 +1,5 @@
 -- The spans among the objects of a run, and who ends its waits.
-use Rattle.std.proofs.Common.{◌≡◌, ℕ, zero, suc, ◌+◌, ◌<◌, ◌≤◌, ◌==◌, Bool, true, false, ◌||◌, cond, leb, List, [], ◌∷◌, ◌++◌, Option, None, Some, refl, sym, ap, ap₂, ◌∙◌, append_assoc, arith}
+use Rattle.std.proofs.Common.{◌≡◌, ℕ, zero, suc, ◌+◌, ◌<◌, ◌≤◌, Bool, true, false, cond, leb, List, [], ◌∷◌, ◌++◌, Option, None, Some, refl, sym, ap, ap₂, ◌∙◌, append_assoc, arith}
 use Rattle.std.specs.Prelude.{◌&&◌, IsSome, codes, if◌then◌else◌, nat_lt}
 use Rattle.std.specs.List.{All, Contains, filter, flat_map, list_any}
 use Rattle.std.proofs.lemmas.Bool.{leb-false, lt-leb}
@@ -28,7 +28,7 @@ use Rattle.trace_json.specs.declared.members.EndedWait.{EndedWait}
 use Rattle.trace_session.specs.ChartLaws.{ChartLaw, EndsWait, IsGiven, span_in, spans_in}
 use Rattle.trace_session.specs.Choice.{ChoiceState, chosen, is_chosen, is_step, is_up_to}
 use Rattle.trace_session.specs.Chrome.{chart_after, chosen_objects, chosen_wait, ended_in, first_objects, flows_after, flows_by, flows_in, going_on, left_objects, left_spans, level_after, level_by, level_objects, line_objects, next_number, numbered, objects_after, objects_of, span_objects, step_flows, step_objects, tells_level, tells_span, wait_objects, wait_of}
-use Rattle.trace_session.specs.Counters.{CountsState, changed_objects, counter_objects, counters_in, counters_outside, counts_in, deleted_objects, first_counters, is_same_count, no_counts, queue_objects, ready_objects, step_counters, tells_counter}
+use Rattle.trace_session.specs.Counters.{CountsState, changed_objects, counter_objects, counters_in, counters_outside, counts_in, deleted_objects, first_counters, is_same_count, no_counts, queue_objects, ready_objects, stays_or_is_empty, step_counters, tells_counter, was_number}
 use Rattle.trace_session.specs.Spans.{looked_at, no_spans, observed_in, opening_spans, part_after, part_of}
 use Rattle.trace_session.specs.declared.choice.Kind.TheVariants as kinds
 use Rattle.trace_session.specs.declared.counts.QueueCount.{QueueCount}
@@ -80,10 +80,8 @@ module _ (P : TraceObject → Type 0) where
   -- and of counters
   module _ (ready : (time n : ℕ) → P (ReadyTasks time n)) (messages : (time queue n : ℕ) → P (QueueMessages time queue n)) where
     ready_all : (time : ℕ) (before after : Option ℕ) → All P (ready_objects time before after)
-    ready_all time None None = All-nil P
-    ready_all time (Some m) None = All-nil P
-    ready_all time None (Some n) = one_all (ReadyTasks time n) (ready time n)
-    ready_all time (Some m) (Some n) = if_all (m == n) [] (ReadyTasks time n ∷ []) (All-nil P) (one_all (ReadyTasks time n) (ready time n))
+    ready_all time before None = All-nil P
+    ready_all time before (Some n) = if_all (was_number before n) [] (ReadyTasks time n ∷ []) (All-nil P) (one_all (ReadyTasks time n) (ready time n))
 
     changed_all : (time : ℕ) (before : List QueueCount) (q : QueueCount) → All P (changed_objects time before q)
     changed_all time before q =
@@ -91,7 +89,7 @@ module _ (P : TraceObject → Type 0) where
 
     deleted_all : (time : ℕ) (after : List QueueCount) (p : QueueCount) → All P (deleted_objects time after p)
     deleted_all time after p =
-        if_all (list_any (λ q. q.queue == p.queue) after || p.messages == 0) [] (QueueMessages time p.queue 0 ∷ []) (All-nil P) (one_all (QueueMessages time p.queue 0) (messages time p.queue 0))
+        if_all (stays_or_is_empty after p) [] (QueueMessages time p.queue 0 ∷ []) (All-nil P) (one_all (QueueMessages time p.queue 0) (messages time p.queue 0))
 
     counters_all : (c : ChoiceState) (time : ℕ) (before after : CountsState) → All P (counter_objects c time before after)
     counters_all c time before after =

@@ -1,5 +1,5 @@
 -- The counters of a trace: how many tasks are ready, and how many messages each queue has.
-use Rattle.std.specs.Prelude.{ℕ, Bool, not, ◌==◌, ◌+◌, ◌&&◌, ◌||◌, if◌then◌else◌, List, [], ◌∷◌, ◌++◌, map, length, Option, None, Some, is_some}
+use Rattle.std.specs.Prelude.{ℕ, Bool, false, not, ◌==◌, ◌+◌, ◌&&◌, ◌||◌, if◌then◌else◌, List, [], ◌∷◌, ◌++◌, map, length, Option, None, Some, is_some}
 use Rattle.std.specs.List.{count_by, flat_map, list_any}
 use Rattle.kernel_world.specs.State.{WorldState}
 use Rattle.wind_machine.specs.State.{State}
@@ -33,23 +33,30 @@ pub record CountsState : Type 0 where
   pub ready : Option ℕ
   pub queues : List QueueCount
 
+abbrev pub counted : Option ℕ → List QueueCount → CountsState
+counted ready queues = record { ready = ready; queues = queues }
+
 abbrev pub counts_state : Counts → CountsState
-counts_state c = record { ready = c.ready; queues = c.queues.now }
+counts_state c = counted c.ready c.queues.now
 
 -- those of a state
 abbrev pub counts_in : State → CountsState
-counts_in s = record { ready = Some (ready_in (snapshot_of s.world).tasks); queues = queue_counts s.world }
+counts_in s = counted (Some (ready_in (snapshot_of s.world).tasks)) (queue_counts s.world)
 
 -- nothing was counted
 abbrev pub no_counts : CountsState
-no_counts = record { ready = None; queues = [] }
+no_counts = counted None []
 
 -- ---- objects
+-- this number was there before
+abbrev pub was_number : Option ℕ → ℕ → Bool
+was_number None n = false
+was_number (Some m) n = m == n
+
 -- the counter of ready tasks, if their number isn't the one before
 abbrev pub ready_objects : ℕ → Option ℕ → Option ℕ → List TraceObject
 ready_objects time before None = []
-ready_objects time None (Some n) = ReadyTasks time n ∷ []
-ready_objects time (Some m) (Some n) = if m == n then [] else ReadyTasks time n ∷ []
+ready_objects time before (Some n) = if was_number before n then [] else ReadyTasks time n ∷ []
 
 -- two counts are of the same queue and have the same number
 abbrev pub is_same_count : QueueCount → QueueCount → Bool
@@ -59,9 +66,13 @@ is_same_count p q = p.queue == q.queue && p.messages == q.messages
 abbrev pub changed_objects : ℕ → List QueueCount → QueueCount → List TraceObject
 changed_objects time before q = if list_any (λ p. is_same_count p q) before then [] else QueueMessages time q.queue q.messages ∷ []
 
+-- a queue is among these, or it had no messages
+abbrev pub stays_or_is_empty : List QueueCount → QueueCount → Bool
+stays_or_is_empty after p = list_any (λ q. q.queue == p.queue) after || p.messages == 0
+
 -- a queue that is deleted has no messages any more
 abbrev pub deleted_objects : ℕ → List QueueCount → QueueCount → List TraceObject
-deleted_objects time after p = if list_any (λ q. q.queue == p.queue) after || p.messages == 0 then [] else QueueMessages time p.queue 0 ∷ []
+deleted_objects time after p = if stays_or_is_empty after p then [] else QueueMessages time p.queue 0 ∷ []
 
 -- the counters of queues whose number changes
 abbrev pub queue_objects : ℕ → List QueueCount → List QueueCount → List TraceObject

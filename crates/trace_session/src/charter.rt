@@ -10,10 +10,10 @@ ghost use Rattle.board_trace.specs.Snapshots.{snapshot_of};
 ghost use Rattle.board_trace.specs.Subjects.{subject_actor};
 ghost use Rattle.board_trace.specs.Views.{snapshot_state};
 ghost use Rattle.trace_text.specs.Forms.{Gained};
-ghost use Rattle.trace_json.specs.Chrome.{AreMembers, TraceObject, opening_objects};
+ghost use Rattle.trace_json.specs.Chrome.{AreMembers, TraceObject};
 ghost use Rattle.trace_session.specs.Choice.{choice_state};
 ghost use Rattle.trace_session.specs.Chrome.{BeginsList, IsList, IsReadyToChart, chart_by, charted, chosen_wait as chosen_wait_lem, first_objects, going_on, last_object, left_objects, level_by as level_by_lem, level_objects, line_objects, numbered, routine_objects, span_objects, step_flows, step_number, step_objects, tells_level as tells_level_lem, tells_span as tells_span_lem, wait_in as wait_in_lem, wait_objects, wait_of as wait_of_lem};
-ghost use Rattle.trace_session.specs.Counters.{counts_in, first_counters, queue_counts, ready_in as ready_in_lem, step_counters};
+ghost use Rattle.trace_session.specs.Counters.{counted, queue_counts, ready_in as ready_in_lem, step_counters};
 ghost use Rattle.trace_session.specs.Spans.{first_spans, looked_by};
 ghost use Rattle.trace_session.specs.Steps.{line_of};
 
@@ -388,8 +388,8 @@ impl<'a> Charter<'a> {
         requires step { before_step.now.step + 1 < 2 ^ 64 }
         requires after { snapshot_state self.old.reader.after ≡ snapshot_of (seen ⟦<dyn Device as Device>⟧ board.now).world }
         ensures text { OnOk result (Gained (AreMembers (step_counters (choice_state self.old.choice.now) before_step.now
-            (record { ready = Some (ready_in_lem (snapshot_state self.old.reader.before).tasks);
-            queues = self.old.queues.before.items }) (seen ⟦<dyn Device as Device>⟧ board.now)))
+            (counted (Some (ready_in_lem (snapshot_state self.old.reader.before).tasks))
+            self.old.queues.before.items) (seen ⟦<dyn Device as Device>⟧ board.now)))
             self.old.text.items self.new.text.items) }
         ensures counts { OnOk result (self.new.queues.after.items
             ≡ queue_counts (seen ⟦<dyn Device as Device>⟧ board.now).world) }

@@ -6,7 +6,7 @@ ghost use Rattle.wind_session.specs.BoardPlayerSeen.{seen};
 ghost use Rattle.trace_text.specs.Forms.{Gained};
 ghost use Rattle.trace_json.specs.Chrome.{AreMembers};
 ghost use Rattle.trace_session.specs.Choice.{choice_state};
-ghost use Rattle.trace_session.specs.Counters.{changed_objects, counter_objects, counters_in, counters_outside, counts_in, counts_state, deleted_objects, first_counters, is_same_count, no_counts, queue_objects, ready_objects, step_counters, tells_counter as tells_counter_lem};
+ghost use Rattle.trace_session.specs.Counters.{changed_objects, counter_objects, counters_in, counters_outside, counts_in, counts_state, deleted_objects, first_counters, is_same_count, no_counts, queue_objects, ready_objects, stays_or_is_empty as stays_or_is_empty_lem, step_counters, tells_counter as tells_counter_lem, was_number as was_number_lem};
 ghost use Rattle.trace_session.specs.declared.choice.Kind.TheVariants as kinds;
 
 use crate::choice::{Choice, Kind};
@@ -25,6 +25,16 @@ fn tells_counter(choice: &Choice, kind: Kind) -> bool
     choice.has_subject(Subject::Board) && choice.has_kind(kind)
 }
 
+// This number was there before.
+fn was_number(before: Option<u64>, number: u64) -> bool
+    ensures { result ≡ was_number_lem before number }
+{
+    match before {
+        Some(old) => old == number,
+        None => false,
+    }
+}
+
 // Adds the counter of ready tasks, if their number isn't the one before.
 fn add_ready_changed(
     alloc: Global,
@@ -35,16 +45,13 @@ fn add_ready_changed(
 ) -> Result<(), NoMemory>
     ensures { OnOk result (Gained (AreMembers (ready_objects time before after)) text.old.items text.new.items) }
 {
-    match (before, after) {
-        (_, None) => Ok(()),
-        (None, Some(number)) => add_ready(alloc, text, time, number),
-        (Some(old), Some(number)) => {
-            if old == number {
-                return Ok(());
-            }
-            add_ready(alloc, text, time, number)
-        }
+    let Some(number) = after else {
+        return Ok(());
+    };
+    if was_number(before, number) {
+        return Ok(());
     }
+    add_ready(alloc, text, time, number)
 }
 
 // These counts have this one.
@@ -97,6 +104,13 @@ fn add_changed(
     Ok(())
 }
 
+// A queue is among these, or it had no messages.
+fn stays_or_is_empty(after: &[QueueCount], count: &QueueCount) -> bool
+    ensures { result ≡ stays_or_is_empty_lem after.now count.now }
+{
+    has_queue(after, count.queue) || count.messages == 0
+}
+
 // Adds that a queue has no messages any more, if it was deleted.
 fn add_queue_deleted(
     alloc: Global,
@@ -108,7 +122,7 @@ fn add_queue_deleted(
     ensures { OnOk result (Gained (AreMembers (deleted_objects time after.now count.now))
         text.old.items text.new.items) }
 {
-    if has_queue(after, count.queue) || count.messages == 0 {
+    if stays_or_is_empty(after, count) {
         return Ok(());
     }
     add_messages(alloc, text, time, count.queue, 0)

@@ -6,13 +6,12 @@ use Rattle.trace_text.specs.Forms.{Gained}
 use Rattle.trace_json.specs.Chrome.{AreMembers, list_opening, opening_objects}
 use Rattle.trace_json.proofs.Gaining.{gained_both}
 use Rattle.trace_session.specs.Choice.{choice_state}
-use Rattle.trace_session.specs.Counters.{first_counters, ready_in}
-use Rattle.trace_session.specs.declared.counts.QueueCount.{QueueCount}
+use Rattle.trace_session.specs.Counters.{counted, first_counters, ready_in}
 use Rattle.trace_session.proofs.charter.opening_text.Goals as goal
 
 pub add_first_counters-requires-clause-counts : goal.add_first_counters-requires-clause-counts
 add_first_counters-requires-clause-counts g c =
-    ap₂ (λ n (queues : List QueueCount). record { ready = Some n; queues = queues }) (c.ready_in.ensures ∙ ap ready_in c.requires.tasks) c.requires.queues
+    ap₂ (λ n queues. counted (Some n) queues) (c.ready_in.ensures ∙ ap ready_in c.requires.tasks) c.requires.queues
 
 -- the list begins with the names of the tasks, and then the counters
 pub returns : goal.returns

@@ -12,9 +12,8 @@ use Rattle.trace_json.specs.Chrome.{AreMembers, TraceObject}
 use Rattle.trace_json.proofs.Gaining.{gained_both}
 use Rattle.trace_session.specs.Choice.{choice_state}
 use Rattle.trace_session.specs.Chrome.{charted, going_on, level_by, level_objects, line_objects, span_objects, step_flows, step_number}
-use Rattle.trace_session.specs.Counters.{CountsState, counts_in, ready_in, step_counters}
+use Rattle.trace_session.specs.Counters.{CountsState, counted, counts_in, ready_in, step_counters}
 use Rattle.trace_session.specs.Spans.{looked_by}
-use Rattle.trace_session.specs.declared.counts.QueueCount.{QueueCount}
 use Rattle.trace_session.specs.declared.counts.QueueReader.{QueueReader}
 use Rattle.trace_session.specs.declared.reader.StepReader.{StepReader}
 use Rattle.trace_session.specs.Steps.{line_of}
@@ -36,8 +35,8 @@ returns-clause-text g c =
     let F : BeforeStep → ℕ → List Happening → Type 0 = λ step time hs. Gained (AreMembers (step_flows choice step time hs old.flows)) c.add_lines.new.text.items c.add_flows.new.text.items in
     let E : BeforeStep → Type 0 = λ step. Gained (AreMembers (flat_map (span_objects choice) (looked_by choice step (going_on old.spans) new).done ++ level_objects choice old.level (level_by choice old.level new) new.time)) c.add_flows.new.text.items c.add_ended.new.self.text.items in
     let C : BeforeStep → CountsState → Type 0 = λ step counts. Gained (AreMembers (step_counters choice step counts new)) c.add_ended.new.self.text.items c.add_counters.new.self.text.items in
-    let counts : record { ready = Some (ready_in (snapshot_state c.add_ended.new.self.reader.before).tasks); queues = c.add_ended.new.self.queues.before.items } ≡ counts_in s =
-    ap₂ (λ (v : SnapshotState) (queues : List QueueCount). record { ready = Some (ready_in v.tasks); queues = queues })
+    let counts : counted (Some (ready_in (snapshot_state c.add_ended.new.self.reader.before).tasks)) c.add_ended.new.self.queues.before.items ≡ counts_in s =
+    ap₂ (λ (v : SnapshotState) queues. counted (Some (ready_in v.tasks)) queues)
     (ap (λ (r : StepReader). snapshot_state r.before) c.in_ok-add_ended.ensures.reader ∙ ap snapshot_state c.in_ok-read.ensures.before ∙ from)
     (ap (λ (r : QueueReader). r.before.items) c.in_ok-add_ended.ensures.queues ∙ ready.counts_are) in
     let list_is = c.deref.ensures.value ∙ c.in_ok-read.ensures.list in
