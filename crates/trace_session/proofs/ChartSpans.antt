@@ -289,7 +289,7 @@ module _ (said : Answers) (s : State) (k : ℕ) (who : Actor) (makes : (before_s
         wait = wait;
         waits_for = refl;
         happening = h;
-        ends = is tt;
+        ends = is refl;
         happens = in_step;
       } in
       All-cons Given (FlowStart (next_number n) from wait.object (subject_actor who)) (FlowFinish (next_number n) to wait.object wait.waiter ∷ []) ends
@@ -297,7 +297,7 @@ module _ (said : Answers) (s : State) (k : ℕ) (who : Actor) (makes : (before_s
 
   told_or : (b : Bool) (wait : Option EndedWait) → IsSome (if b then wait else None) → wait ≡ (if b then wait else None)
   told_or true wait some = refl
-  told_or false wait some = absurd some
+  told_or false wait some = absurd (cc)
 
   flows_given : (c : ChoiceState) (to : ℕ) (hs : List Happening) (n : ℕ) → All (Contains happened) hs → All Given (flows_in c (subject_actor who) (before_step (after said s k)) to hs n)
   flows_given c to [] n inside = All-nil Given

@@ -1,4 +1,4 @@
-use Rattle.std.proofs.Common.{◌<◌, ◌≤◌, ◌++◌, ◌∷◌, [], length, ap, ap₂, arith, sym, ◌∙◌}
+use Rattle.std.proofs.Common.{◌<◌, ◌≤◌, ◌++◌, ◌∷◌, [], length, map, ap, ap₂, arith, ◌∙◌}
 use Rattle.kernel_world.specs.State.{WorldState}
 use Rattle.trace_session.specs.Counters.{queue_counts}
 use Rattle.trace_session.proofs.QueueRows.{all_of, one_more, row_at}
@@ -19,4 +19,6 @@ pub returns : goal.returns
 returns g c =
     let rows = c.table-queues.result.now.rows in
     let end : length rows ≤ c.loop-place.place = omega (arith, c.len-place-end.ensures, c.loop-place-test.false) in
-    all_of _ c.loop-place.counts.items rows c.loop-place.place end c.loop-place.invariant ∙ ?
+    all_of _ c.loop-place.counts.items rows c.loop-place.place end c.loop-place.invariant
+    ∙ ap (map _) c.table-queues.ensures
+    ∙ ap (λ (w : WorldState). queue_counts w) c.world.ensures
