@@ -2,6 +2,7 @@ pub mod Figures
 pub mod Stretches
 pub mod Times
 pub mod Progress
+pub mod Keeping
 pub mod LongestLaws
 pub mod Usage
 pub mod Summaries

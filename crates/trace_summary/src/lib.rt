@@ -2,6 +2,7 @@
 //! stretches of its spans, as JSON and as a table.
 #![tactic(auto)]
 
+mod by_id;
 mod counts;
 mod json;
 mod laws;
@@ -21,5 +22,5 @@ pub use stretch::Stretch;
 pub use summary::{Summary, TaskSummary, share};
 pub use table::table_text;
 pub use tally::Tally;
-pub use times::{RunSpans, TaskTimes};
+pub use times::{LongestTimes, TaskTimes};
 pub use usage::{Object, ObjectKind, Usage};
