@@ -4,6 +4,7 @@
 
 mod by_id;
 mod counts;
+mod hold;
 mod json;
 mod laws;
 mod list;
@@ -16,6 +17,7 @@ mod times;
 mod usage;
 
 pub use counts::TaskCounts;
+pub use hold::{Hold, Holding};
 pub use json::summary_text;
 pub use laws::{longest_law, tasks_law};
 pub use stretch::Stretch;

@@ -17,7 +17,7 @@ use crate::counts::{TaskCounts, counts_in, none};
 use crate::list::push;
 use crate::summary::{Summary, TaskSummary};
 use crate::times::LongestTimes;
-use crate::usage::{Usage, add_usage, copied};
+use crate::usage::{Usage, add_usage, closed_uses};
 use board_changes::TaskView;
 use board_trace::{Happening, Subject, subject_of};
 use std::alloc::Global;
@@ -220,7 +220,7 @@ impl Tally {
         self.ticks = self.ticks.saturating_add(ticks_in(happening));
         self.calls = self.calls.saturating_add(calls_in(happening));
         self.idle = self.idle.saturating_add(idle_in(time, happening));
-        add_usage(&mut self.uses, happening)?;
+        add_usage(&mut self.uses, time, happening)?;
         add_told(
             &mut self.tasks,
             subject_of(happening),
@@ -259,7 +259,7 @@ impl Tally {
             → summary_state r ≡ summary_of views lines spans time steps) }
     {
         let tasks = summaries(alloc, &self.tasks, times)?;
-        let uses = copied(alloc, &self.uses)?;
+        let uses = closed_uses(alloc, &self.uses, time)?;
         Ok(Summary {
             time,
             steps,
