@@ -119,7 +119,8 @@ impl Counter {
         if is_instruction(before_step, board.output()) {
             return Ok(());
         }
-        self.watch.look(board, &self.reader.after.tasks)
+        self.watch.look(board, &self.reader.after.tasks)?;
+        Ok(())
     }
 
     /// A step was made: adds the lines of what happened in it, and looks at the tasks.

@@ -91,7 +91,8 @@ impl Watch {
             → KeepsWatch self.new (watched w (seen ⟦<dyn Device as Device>⟧ board.now))) }
     {
         self.observe(board, views)?;
-        self.keep_ended()
+        self.keep_ended()?;
+        Ok(())
     }
 
     // All spans end at this time.
@@ -110,6 +111,7 @@ impl Watch {
             → KeepsTimes self.new.times (lists_at w time)) }
     {
         self.end(time)?;
-        self.keep_ended()
+        self.keep_ended()?;
+        Ok(())
     }
 }

@@ -18,6 +18,6 @@ returns-clause-tells g c =
       holds.0,
       c.in_ok-add_step.ensures.tally (next i) u (snapshot_of s.world).tasks (lines_of said s i) is ready on.replied holds.1
           ∙ ap (tally_of (snapshot_of s.world).tasks) (all_now said next s u _ _ i on),
-      subst (KeepsWatch c.tell.new.self.watch) (ap (λ (b : BeforeStep). watched_by b (watched_after said s i) new) is ∙ watched_now said next s u new _ i on)
+      subst (KeepsWatch c.add_step.new.self.watch) (ap (λ (b : BeforeStep). watched_by b (watched_after said s i) new) is ∙ watched_now said next s u new _ i on)
           (c.in_ok-add_step.ensures.watch (watched_after said s i) holds.2),
     )
