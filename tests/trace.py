@@ -93,11 +93,11 @@ TIMES = {
         5: (None, None, None, 0, None),
     },
 }
-# How its objects were used, worked out by hand: what came, what left, and the most at one time.
+# How its objects were used, worked out by hand: what came, what left, the most at one time, the longest hold and by which task.
 USES = {
-    "inheritance": [("mutex", 2, 2, 1, 1)],
-    "server": [("queue", 2, 2, 2, 1)],
-    "inversion": [("mutex", 2, 2, 1, 1)],
+    "inheritance": [("mutex", 2, 2, 1, 1, {"from": 18, "time": 22}, 1)],
+    "server": [("queue", 2, 2, 2, 1, None, None)],
+    "inversion": [("mutex", 2, 2, 1, 1, {"from": 15, "time": 29}, 1)],
 }
 TIMES_OF_TASK = ("longest_wait", "waited_for", "longest_ready", "longest_response", "longest_inherited")
 # The kinds of lines that are counted, and how a line reads.

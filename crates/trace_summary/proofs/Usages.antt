@@ -194,8 +194,8 @@ usage_line : (o : Object) (l : Line) (made : List Line) → usage_of (with_line 
 usage_line o l made =
     ap (λ (hs : HoldState). usage o (entries o (with_line l made)) (exits o (with_line l made)) (most o (with_line l made)) hs.holding (longest_hold hs.holds)) (holds_line o l made)
     ∙ ap (with_holds (held_by o (move_in l) (holds_of o made)))
-      (same_usage o None None _ _ _ _ _ _ (entries_line o l made) (exits_line o l made)
-      (most_line o l made ∙ ap₂ (λ a b. max (a - b) (most o made)) (entries_line o l made) (exits_line o l made)))
+    (same_usage o None None _ _ _ _ _ _ (entries_line o l made) (exits_line o l made)
+    (most_line o l made ∙ ap₂ (λ a b. max (a - b) (most o made)) (entries_line o l made) (exits_line o l made)))
     ∙ usage_by o (holds_of o made) (entries o made) (exits o made) (most o made) (within (λ l. entry_in o (move_in l)) made) (within (λ l. exit_in o (move_in l)) made) (covers o made) (move_in l)
 
 -- ---- objects

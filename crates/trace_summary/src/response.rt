@@ -79,10 +79,7 @@ fn is_noted(standing: Standing, responses: &Responses) -> bool
 }
 
 /// Adds a span to the responses of its task.
-pub(crate) fn add_response(
-    tasks: &mut HashMap<u32, Responses>,
-    span: &Span,
-) -> Result<(), NoMemory>
+pub(crate) fn add_response(tasks: &mut HashMap<u32, Responses>, span: &Span) -> Result<(), NoMemory>
     ensures { OnOk result ((spans : List Span) → KeepsResponses spans (get nat_eq tasks.old)
         → KeepsResponses (spans ++ span.now ∷ []) (get nat_eq tasks.new)) }
 {

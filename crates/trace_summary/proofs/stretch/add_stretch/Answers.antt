@@ -20,6 +20,6 @@ returns c =
     let before : c.value_at.result ≡ unwrap_or (old span.who) (progress_of []) = c.value_at.ensures ∙ ap₂ (λ w n. unwrap_or (old w) n) c.get-who.ensures.same c.none.ensures in
     on_ok_weaker c.put_at.result
     (λ put spans kept. stretch_added c.args.kind span spans old kept new c.with_stretch-progress.result (sym c.has_kind.ensures ∙ c.if-not-has_kind.false)
-        (subst (λ w. (q : ℕ) → new q ≡ (if w == q then Some c.with_stretch-progress.result else old q)) c.get-who.ensures.same put)
-        (λ made is. c.with_stretch-progress.ensures made (before ∙ is) ∙ ap (λ s. progress_of (with_stretch s made)) c.stretch_of.ensures))
+    (subst (λ w. (q : ℕ) → new q ≡ (if w == q then Some c.with_stretch-progress.result else old q)) c.get-who.ensures.same put)
+    (λ made is. c.with_stretch-progress.ensures made (before ∙ is) ∙ ap (λ s. progress_of (with_stretch s made)) c.stretch_of.ensures))
     c.put_at.ensures
