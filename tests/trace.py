@@ -93,11 +93,11 @@ TIMES = {
         5: (None, None, None, 0, None),
     },
 }
-# How its objects were used, worked out by hand: what came, what left, and the most at one time.
+# How its objects were used, worked out by hand: what came, what left, the most at one time, the longest hold and by which task.
 USES = {
-    "inheritance": [("mutex", 2, 2, 1, 1)],
-    "server": [("queue", 2, 2, 2, 1)],
-    "inversion": [("mutex", 2, 2, 1, 1)],
+    "inheritance": [("mutex", 2, 2, 1, 1, {"from": 18, "time": 22}, 1)],
+    "server": [("queue", 2, 2, 2, 1, None, None)],
+    "inversion": [("mutex", 2, 2, 1, 1, {"from": 15, "time": 29}, 1)],
 }
 TIMES_OF_TASK = ("longest_wait", "waited_for", "longest_ready", "longest_response", "longest_inherited")
 # The kinds of lines that are counted, and how a line reads.
@@ -238,18 +238,36 @@ def counted(lines, kind):
     return sum(int(it[1]) if kind in ("instructions", "idle") else 1 for it in found if it)
 
 
-def uses(texts):
-    """How objects were used, by some lines."""
+def uses(lines, end):
+    """How objects were used in a run that ends at a time, by some lines."""
     rows = {}
-    for _, what in texts:
+    for time, _, what in lines:
         for kind, side, form in MOVES:
             it = form.match(what)
             if it:
                 row = rows.setdefault((kind, int(it[1])), [0, 0, 0])
                 row[side] += 1
                 row[2] = max(row[2], row[0] - row[1])
-    return [{"object": kind, "id": id_, "in": come, "out": gone, "most": most}
+    held = holds(lines, end)
+    return [{"object": kind, "id": id_, "in": come, "out": gone, "most": most, **(held[id_] if kind == "mutex" else {})}
             for (kind, id_), (come, gone, most) in rows.items()]
+
+
+def holds(lines, end):
+    """The longest hold of each mutex in a run that ends at a time, by some lines."""
+    done, going = {}, {}
+    for time, who, what in lines:
+        it = re.match(rb"(no longer )?owns mutex (\d+)$", what)
+        if it and it[1]:
+            done.setdefault(int(it[2]), []).append((*going.pop(int(it[2])), time))
+        elif it:
+            going[int(it[2])] = (int(who.split()[0]), time)
+            done.setdefault(int(it[2]), [])
+    for mutex, hold in going.items():
+        done[mutex].append((*hold, end))
+    best = {mutex: max(found, key=lambda it: it[2] - it[1]) for mutex, found in done.items()}
+    return {mutex: {"longest_hold": {"from": since, "time": until - since}, "held_by": owner}
+            for mutex, (owner, since, until) in best.items()}
 
 
 def figures(session, windtrace, summary):
@@ -264,7 +282,7 @@ def figures(session, windtrace, summary):
     for name, number in run_figures.items():
         if summary[name] != number:
             yield f"{name} is {summary[name]}, and {number} by the events"
-    if summary["objects"] != uses(texts):
+    if summary["objects"] != uses(lines, summary["time"]):
         yield "objects were used in another way by the events"
     if {task["id"] for task in summary["tasks"]} != ids:
         yield "the summary has other tasks than the events"
@@ -318,7 +336,8 @@ def summaries(session, windtrace):
         if times != TIMES[session.name]:
             yield "the longest times are others than by hand"
     if session.name in USES:
-        found = [tuple(it[name] for name in ("object", "id", "in", "out", "most")) for it in summary["objects"]]
+        found = [(*(it[name] for name in ("object", "id", "in", "out", "most")), it.get("longest_hold"), it.get("held_by"))
+                 for it in summary["objects"]]
         if found != USES[session.name]:
             yield "objects were used in another way than by hand"
     if session.name in FIGURES:
@@ -340,7 +359,10 @@ def summaries(session, windtrace):
     if rows != wanted:
         yield "the table has other times than the summary"
     rows = [row.split() for row in table[4 + 2 * len(summary["tasks"]):-1]]
-    if rows != [[str(it[name]).encode() for name in ("in", "out", "most", "object", "id")] for it in summary["objects"]]:
+    wanted = [" ".join([*(str(it[name]) for name in ("in", "out", "most")), str((it.get("longest_hold") or {"time": 0})["time"]),
+                        f"{it['object']} {it['id']}" + (f", held by {it['held_by']}" if it.get("held_by") else "")])
+              for it in summary["objects"]]
+    if rows != [row.encode().split() for row in wanted]:
         yield "the table has other objects than the summary"
     head = ", ".join(f"{name} {summary[name]}" for name in ("time", "steps", "ticks", "calls", "idle"))
     if table[0] != head.encode():

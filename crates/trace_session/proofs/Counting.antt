@@ -24,15 +24,19 @@ use Rattle.board_trace.specs.declared.happening.Happening.TheVariants as told
 use Rattle.board_trace.specs.declared.moment.BeforeStep.{BeforeStep}
 use Rattle.trace_state.specs.Board.{IsTextOf}
 use Rattle.trace_summary.specs.Data.{summary_data}
+use Rattle.trace_summary.specs.Keeping.{KeepsTimes}
 use Rattle.trace_summary.specs.Summaries.{SummaryState, TallyState, summary_of, tally_of}
 use Rattle.trace_summary.specs.Times.{SpanLists}
+use Rattle.trace_summary.specs.declared.times.LongestTimes.{LongestTimes}
 use Rattle.trace_session.specs.Bursts.{SilentLinesLaw, instructions_line, with_instructions}
 use Rattle.trace_session.specs.Choice.{chosen_lines, everything, is_step}
 use Rattle.trace_session.specs.Steps.{line_of}
 use Rattle.trace_session.specs.Summing.{CountsLines, IsSummedUp, TellsSummary, TellsTable, HasSummary}
 use Rattle.trace_session.specs.Traced.{IsPutOf}
+use Rattle.trace_session.specs.Watches.{KeepsWatch}
 use Rattle.trace_session.specs.Watching.{WatchState, lists_at, watched_after}
 use Rattle.trace_session.specs.declared.traced.Product.{Product}
+use Rattle.trace_session.specs.declared.watch.Watch.{Watch}
 use Rattle.trace_session.proofs.Lines.{all_in, all_lines}
 use Rattle.trace_session.proofs.Telling.{lines_now, lost_if, tells_unless}
 use Rattle.trace_session.proofs.Watched.{watched_on}
@@ -91,7 +95,7 @@ counted_burst law k u t who time before old new some last steps time_is before_i
     ∙ ap₂ (λ a v. tally_of views (with_line (line_with a (u.steps + 1) v who k) (lines_of said s i))) time_is before_is
     ∙ ap (tally_of views) (sym (all_burst law said s u t who i k some here last steps))
 
-pub counts_on : {E : Type 0} → SilentLaw → (r : Result ℕ E) (u t : State) (old new : TallyState) (watch later : WatchState)
+pub counts_on : {E : Type 0} → SilentLaw → (r : Result ℕ E) (u t : State) (old new : TallyState) (watch later : Watch)
     → IfOk r (λ k. (views : List TaskView) (said : Answers) (s : State) (i : ℕ) → u ≡ after said s i → old ≡ tally_of views (lines_of said s i) → new ≡ tally_of views (lines_of said s (i + k)))
     → IfOk r (λ k. SilentSteps k u t) → OnOk r (later ≡ watch)
     → IfOk r (λ k. (first now : SinkLog) (said : Answers) (s : State) (i : ℕ) → u ≡ after said s i → CountsLines old watch first now said s i → CountsLines new later first now said s (i + k))
@@ -99,11 +103,12 @@ counts_on law (Err e) u t old new watch later adds steps same = tt
 counts_on law (Ok k) u t old new watch later adds steps same = λ first now said s i here holds. (
   holds.0,
   adds (snapshot_of s.world).tasks said s i here holds.1,
-  same ∙ holds.2 ∙ sym (watched_on law said s u i here k t steps),
+  subst (λ (w : Watch). KeepsWatch w (watched_after said s (i + k))) (sym same)
+      (subst (KeepsWatch watch) (sym (watched_on law said s u i here k t steps)) holds.2),
 )
 
 -- ---- the end of a run
-module _ (shelf : Shelf) (s t : State) (n : ℕ) (old new : Option (List Request)) (tally : TallyState) (watch : WatchState) (first now : SinkLog) (end : RunEnd)
+module _ (shelf : Shelf) (s t : State) (n : ℕ) (old new : Option (List Request)) (tally : TallyState) (watch : Watch) (first now : SinkLog) (end : RunEnd)
     (ran : Told (IsTold (CountsLines tally watch first now) (λ said u k. ⊥) end s) shelf s n t old new) where
   none_lost : ran.end ≢ ends.WriteFault
   none_lost e = lost_if (CountsLines tally watch first now) (λ said u k. ⊥) ran.said s ran.k ran.end e ran.tells.1
@@ -118,10 +123,11 @@ module _ (shelf : Shelf) (s t : State) (n : ℕ) (old new : Option (List Request
   none_put = counted.0
 
   -- and its figures
-  pub summed_up : (summary : SummaryState) (spans : SpanLists) (time steps : ℕ) → time ≡ t.time → steps ≡ t.steps → spans ≡ lists_at watch time
-      → ((views : List TaskView) (lines : List Line) → tally ≡ tally_of views lines → summary ≡ summary_of views lines spans time steps)
+  pub summed_up : (summary : SummaryState) (times : LongestTimes) (time steps : ℕ) → time ≡ t.time → steps ≡ t.steps
+      → ((w : WatchState) → KeepsWatch watch w → KeepsTimes times (lists_at w time))
+      → ((views : List TaskView) (lines : List Line) (spans : SpanLists) → tally ≡ tally_of views lines → KeepsTimes times spans → summary ≡ summary_of views lines spans time steps)
       → Told (IsSummedUp end summary s) shelf s n t old new
-  summed_up summary spans time steps time_is steps_are spans_are sums =
+  summed_up summary times time steps time_is steps_are closes sums =
       let views = (snapshot_of s.world).tasks in
       let lines = lines_of ran.said s ran.k in
       let made = watched_after ran.said s ran.k in
@@ -132,8 +138,7 @@ module _ (shelf : Shelf) (s t : State) (n : ℕ) (old new : Option (List Request
         made = ran.made;
         tells = (
           ran.tells.0,
-          sums views lines counted.1
-              ∙ ap (λ x. summary_of views lines x time steps) (spans_are ∙ ap (λ w. lists_at w time) counted.2)
+          sums views lines (lists_at made time) counted.1 (closes made counted.2)
               ∙ ap₂ (λ a b. summary_of views lines (lists_at made a) a b) time_is steps_are
               ∙ ap (λ (v : State). summary_of views lines (lists_at made v.time) v.time v.steps) ran.made.state,
         );

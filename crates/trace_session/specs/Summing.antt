@@ -10,17 +10,19 @@ use Rattle.trace_state.specs.Board.{IsTextOf}
 use Rattle.trace_summary.specs.Data.{summary_data}
 use Rattle.trace_summary.specs.Summaries.{SummaryState, TallyState, summary_of, summary_state, tally_of}
 use Rattle.trace_session.specs.Traced.{IsPutAfter, IsPutOf}
-use Rattle.trace_session.specs.Watching.{WatchState, span_lists_of, watched_after}
+use Rattle.trace_session.specs.Watches.{KeepsWatch}
+use Rattle.trace_session.specs.Watching.{span_lists_of, watched_after}
 use Rattle.trace_session.specs.declared.traced.Product.{Product}
 use Rattle.trace_session.specs.declared.traced.Product.TheVariants as products
+use Rattle.trace_session.specs.declared.watch.Watch.{Watch}
 
 -- the summary of the first k steps from s: of the tasks that live in s, and of the lines and spans of these steps
 abbrev pub run_summary : Answers → State → ℕ → SummaryState
 run_summary said s k = summary_of (snapshot_of s.world).tasks (lines_of said s k) (span_lists_of said s k) (after said s k).time (after said s k).steps
 
--- nothing was put, what was counted is that of the lines of the first k steps, and the spans are those of these steps
-abbrev pub CountsLines : TallyState → WatchState → SinkLog → SinkLog → Answers → State → ℕ → Type 0
-CountsLines tally watch first now said s k = (now ≡ first) × (tally ≡ tally_of (snapshot_of s.world).tasks (lines_of said s k)) × (watch ≡ watched_after said s k)
+-- nothing was put, and the lines of the first k steps were counted, and their spans
+abbrev pub CountsLines : TallyState → Watch → SinkLog → SinkLog → Answers → State → ℕ → Type 0
+CountsLines tally watch first now said s k = (now ≡ first) × (tally ≡ tally_of (snapshot_of s.world).tasks (lines_of said s k)) × KeepsWatch watch (watched_after said s k)
 
 -- the run ended like this, and this is its summary
 abbrev pub IsSummedUp : RunEnd → SummaryState → State → Answers → ℕ → RunEnd → Type 0

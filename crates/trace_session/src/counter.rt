@@ -13,8 +13,8 @@ ghost use Rattle.board_trace.specs.Subjects.{name_of, subject_actor};
 ghost use Rattle.board_trace.specs.Views.{snapshot_state};
 ghost use Rattle.trace_summary.specs.Summaries.{tally_of, tally_state};
 ghost use Rattle.trace_session.specs.Steps.{line_of};
-ghost use Rattle.trace_session.specs.Watches.{watch_state};
-ghost use Rattle.trace_session.specs.Watching.{no_watch, watched, watched_by};
+ghost use Rattle.trace_session.specs.Watches.{KeepsWatch};
+ghost use Rattle.trace_session.specs.Watching.{WatchState, no_watch, watched, watched_by};
 
 use crate::reader::StepReader;
 use crate::watch::Watch;
@@ -62,8 +62,8 @@ impl Counter {
     pub(crate) fn new(alloc: Global, board: &Board) -> Result<Counter, NoMemory>
         ensures tally { IfOk result (λ c. tally_state c.tally
             ≡ tally_of (snapshot_of (seen ⟦<dyn Device as Device>⟧ board.now).world).tasks []) }
-        ensures watch { IfOk result (λ c. watch_state c.watch
-            ≡ watched no_watch (seen ⟦<dyn Device as Device>⟧ board.now)) }
+        ensures watch { IfOk result (λ c. KeepsWatch c.watch
+            (watched no_watch (seen ⟦<dyn Device as Device>⟧ board.now))) }
         ensures before { IfOk result (λ c. snapshot_state c.reader.before
             ≡ snapshot_of (seen ⟦<dyn Device as Device>⟧ board.now).world) }
     {
@@ -94,7 +94,7 @@ impl Counter {
               name = name_of (snapshot_state self.old.reader.before) (subject_actor who.now);
               what = Happening.Instructions who.now count;
             }) made)) }
-        ensures watch { OnOk result (watch_state self.new.watch ≡ watch_state self.old.watch) }
+        ensures watch { OnOk result (self.new.watch ≡ self.old.watch) }
         ensures before { OnOk result ((s : State) → Good s
             → MovesOnly who.now s.world (seen ⟦<dyn Device as Device>⟧ board.now).world
             → snapshot_state self.old.reader.before ≡ snapshot_of s.world
@@ -110,15 +110,17 @@ impl Counter {
     // Looks at the tasks after a step. An instruction leaves their spans as they are.
     fn look(&mut self, board: &Board, before_step: &BeforeStep) -> Result<(), NoMemory>
         requires { snapshot_state self.old.reader.after ≡ snapshot_of (seen ⟦<dyn Device as Device>⟧ board.now).world }
-        ensures watch { OnOk result (watch_state self.new.watch
-            ≡ watched_by before_step.now (watch_state self.old.watch) (seen ⟦<dyn Device as Device>⟧ board.now)) }
+        ensures watch { OnOk result ((w : WatchState) → KeepsWatch self.old.watch w
+            → KeepsWatch self.new.watch
+            (watched_by before_step.now w (seen ⟦<dyn Device as Device>⟧ board.now))) }
         ensures tally { OnOk result (self.new.tally ≡ self.old.tally) }
         ensures reader { OnOk result (self.new.reader ≡ self.old.reader) }
     {
         if is_instruction(before_step, board.output()) {
             return Ok(());
         }
-        self.watch.look(board, &self.reader.after.tasks)
+        self.watch.look(board, &self.reader.after.tasks)?;
+        Ok(())
     }
 
     /// A step was made: adds the lines of what happened in it, and looks at the tasks.
@@ -133,8 +135,9 @@ impl Counter {
             → tally_state self.old.tally ≡ tally_of views made
             → tally_state self.new.tally ≡ tally_of views
             (with_lines (step_lines said s (seen ⟦<dyn Device as Device>⟧ board.now)) made)) }
-        ensures watch { OnOk result (watch_state self.new.watch
-            ≡ watched_by before_step.now (watch_state self.old.watch) (seen ⟦<dyn Device as Device>⟧ board.now)) }
+        ensures watch { OnOk result ((w : WatchState) → KeepsWatch self.old.watch w
+            → KeepsWatch self.new.watch
+            (watched_by before_step.now w (seen ⟦<dyn Device as Device>⟧ board.now))) }
         ensures before { OnOk result (snapshot_state self.new.reader.before
             ≡ snapshot_of (seen ⟦<dyn Device as Device>⟧ board.now).world) }
     {

@@ -12,7 +12,6 @@ ghost use Rattle.board_trace.specs.{Runs.lines_of, Snapshots.snapshot_of, Views.
 ghost use Rattle.trace_summary.specs.Summaries.{summary_state, tally_of, tally_state};
 ghost use Rattle.trace_session.specs.Summing.{IsSummedUp, TellsSummary, TellsTable};
 ghost use Rattle.trace_session.specs.Traced.{Alone, TellsNothing};
-ghost use Rattle.trace_session.specs.Watches.{watch_state};
 
 use crate::counter::Counter;
 use crate::laws::silent_lines_law;
@@ -41,7 +40,7 @@ fn burst(board: &mut Board, counter: &mut Counter, most: u64) -> Result<u64, NoM
         → seen ⟦<dyn Device as Device>⟧ board.old ≡ after said s i
         → tally_state counter.old.tally ≡ tally_of views (lines_of said s i)
         → tally_state counter.new.tally ≡ tally_of views (lines_of said s (i + k))) }
-    ensures watch { OnOk result (watch_state counter.new.watch ≡ watch_state counter.old.watch) }
+    ensures watch { OnOk result (counter.new.watch ≡ counter.old.watch) }
     ensures before { OnOk result (snapshot_state counter.new.reader.before
         ≡ snapshot_of (seen ⟦<dyn Device as Device>⟧ board.new).world) }
 {
@@ -66,7 +65,6 @@ impl Teller for Counter {
     ghost use Rattle.board_trace.specs.{Before.before_step, Snapshots.snapshot_of, Views.snapshot_state};
     ghost use Rattle.trace_summary.specs.Summaries.{tally_state};
     ghost use Rattle.trace_session.specs.Summing.{CountsLines};
-    ghost use Rattle.trace_session.specs.Watches.{watch_state};
 
     type Before = BeforeStep;
 
@@ -78,7 +76,7 @@ impl Teller for Counter {
 
     ghost reads = { λ before s. before ≡ before_step s };
 
-    ghost tells = { λ c. CountsLines (tally_state c.tally) (watch_state c.watch) };
+    ghost tells = { λ c. CountsLines (tally_state c.tally) c.watch };
 
     ghost lost = { λ scope first now said s k. ⊥ };
 
@@ -146,8 +144,8 @@ fn sum_up<F: Folder, O: Sink>(
     let end = tell_run(alloc, board, folder, modules, out, limit, &mut counter)?;
     let time = board.time();
     counter.watch.close(time)?;
-    let spans = counter.watch.done();
-    let summary = counter.tally.finish(alloc, &spans, time, board.steps())?;
+    let times = &counter.watch.times;
+    let summary = counter.tally.finish(alloc, times, time, board.steps())?;
     Ok(SummedRun { end, summary })
 }
 

@@ -7,3 +7,5 @@ pub mod Usages
 mod Mapping
 mod Depth
 mod Longest
+mod Keeping
+mod Extending

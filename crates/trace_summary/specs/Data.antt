@@ -3,12 +3,14 @@ use Rattle.std.specs.Prelude.{ℕ, List, [], ◌∷◌, ◌++◌, Option, None, 
 use Rattle.serde_json.specs.Data.{Data, null, string}
 use Rattle.board_changes.specs.declared.awaited.Awaited.{Awaited}
 use Rattle.trace_state.specs.Board.{time_shown}
-use Rattle.trace_state.specs.Json.{list_of, number_of, object_of, text_of}
+use Rattle.trace_state.specs.Json.{list_of, number_of, number_or_null, object_of, text_of}
 use Rattle.trace_state.specs.Tasks.{wait_data}
 use Rattle.trace_summary.specs.Figures.{share}
+use Rattle.trace_summary.specs.Holds.{hold_length}
 use Rattle.trace_summary.specs.Stretches.{length_of}
 use Rattle.trace_summary.specs.Summaries.{SummaryState}
 use Rattle.trace_summary.specs.declared.counts.TaskCounts.{TaskCounts}
+use Rattle.trace_summary.specs.declared.hold.Hold.{Hold}
 use Rattle.trace_summary.specs.declared.summary.TaskSummary.{TaskSummary}
 use Rattle.trace_summary.specs.declared.stretch.Stretch.{Stretch}
 use Rattle.trace_summary.specs.declared.times.TaskTimes.{TaskTimes}
@@ -76,17 +78,35 @@ kind_word kinds.Mutex = codes "mutex"
 kind_word kinds.Queue = codes "queue"
 kind_word kinds.Slot = codes "slot"
 
--- how an object was used
-abbrev pub usage_data : Usage → Data
-usage_data u =
-    object_of (
+-- a hold of a mutex: when it begins and how long it is; null if there is none
+abbrev pub hold_data : Option Hold → Data
+hold_data None = null
+hold_data (Some h) = object_of ((codes "from", number_of (time_shown h.from)) ∷ (codes "time", number_of (time_shown (hold_length h))) ∷ [])
+
+-- the task that holds it
+abbrev pub holder : Option Hold → Option ℕ
+holder None = None
+holder (Some h) = Some h.owner
+
+-- the longest hold of a mutex, and by which task; other objects have none
+abbrev pub hold_members : ObjectKind → Option Hold → List (List ℕ × Data)
+hold_members kinds.Mutex longest = (codes "longest_hold", hold_data longest) ∷ (codes "held_by", number_or_null (holder longest)) ∷ []
+hold_members kinds.Queue longest = []
+hold_members kinds.Slot longest = []
+
+-- what came to an object and left it
+abbrev pub move_members : Usage → List (List ℕ × Data)
+move_members u =
     (codes "object", string (kind_word u.object.kind))
     ∷ (codes "id", number_of u.object.id)
     ∷ (codes "in", number_of u.entries)
     ∷ (codes "out", number_of u.exits)
     ∷ (codes "most", number_of u.most)
     ∷ []
-    )
+
+-- how an object was used
+abbrev pub usage_data : Usage → Data
+usage_data u = object_of (move_members u ++ hold_members u.object.kind u.longest)
 
 -- ---- the summary
 -- the run, its tasks and its objects

@@ -1,8 +1,11 @@
 pub mod Figures
+pub mod Longest
 pub mod Stretches
 pub mod Times
 pub mod Progress
+pub mod Keeping
 pub mod LongestLaws
+pub mod Holds
 pub mod Usage
 pub mod Summaries
 pub mod TasksLaws

@@ -15,5 +15,5 @@ noted time name h t = record {
   calls = sum_of t.calls (calls_in h);
   idle = sum_of t.idle (idle_in time h);
   tasks = with_counts (subject_of h) name (counts_in h) t.tasks;
-  uses = with_move (move_of h) t.uses;
+  uses = with_move (move_of time h) t.uses;
 }

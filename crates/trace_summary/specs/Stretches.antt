@@ -1,9 +1,10 @@
 -- The longest stretches of time of a task, from its spans.
-use Rattle.std.specs.Prelude.{ℕ, ◌-◌, ◌==◌, ◌&&◌, max, nat_le, Bool, true, false, if◌then◌else◌, List, [], ◌∷◌, Option, None, Some}
+use Rattle.std.specs.Prelude.{ℕ, ◌-◌, ◌==◌, ◌&&◌, max, Bool, true, false, if◌then◌else◌, List, [], ◌∷◌, Option, None, Some}
 use Rattle.board_changes.specs.declared.look.Look.{Look}
 use Rattle.board_changes.specs.declared.look.Standing.{Standing}
 use Rattle.board_changes.specs.declared.look.Standing.TheVariants as standings
 use Rattle.board_changes.specs.declared.spans.Span.{Span}
+use Rattle.trace_summary.specs.Longest.{longer_by, longest_by}
 use Rattle.trace_summary.specs.declared.stretch.Kind.{Kind}
 use Rattle.trace_summary.specs.declared.stretch.Kind.TheVariants as kinds
 use Rattle.trace_summary.specs.declared.stretch.Stretch.{Stretch}
@@ -51,13 +52,11 @@ length_of s = s.to - s.from
 
 -- a stretch, or the longest of those before it, if none is longer
 abbrev pub longer : Stretch → Option Stretch → Option Stretch
-longer s None = Some s
-longer s (Some best) = if nat_le (length_of s) (length_of best) then Some best else Some s
+longer s best = longer_by length_of s best
 
 -- the longest stretch; of several, the earliest
 abbrev pub longest : List Stretch → Option Stretch
-longest [] = None
-longest (newest ∷ older) = longer newest (longest older)
+longest made = longest_by length_of made
 
 -- ---- responses
 -- since when a task has waited for nothing and hasn't run, if it waited; and how long that took each time, the newest first

@@ -8,7 +8,7 @@ use Rattle.board_trace.specs.declared.who.Subject.{Subject}
 use Rattle.board_trace.specs.declared.who.Subject.TheVariants as subjects
 use Rattle.trace_summary.specs.Figures.{calls_in, counts_of, idle_in, ticks_in, total}
 use Rattle.trace_summary.specs.Times.{SpanLists, times_of}
-use Rattle.trace_summary.specs.Usage.{usages}
+use Rattle.trace_summary.specs.Usage.{closed, usages}
 use Rattle.trace_summary.specs.declared.summary.Summary.{Summary}
 use Rattle.trace_summary.specs.declared.summary.TaskSummary.{TaskSummary}
 use Rattle.trace_summary.specs.declared.tally.Tally.{Tally}
@@ -69,7 +69,7 @@ summary_of views lines spans time steps = record {
   calls = total (λ l. calls_in l.what) lines;
   idle = total (λ l. idle_in l.time l.what) lines;
   tasks = map (summary_of_task lines spans) (tasks_in views lines);
-  uses = usages lines;
+  uses = map (closed time) (usages lines);
 }
 
 -- ---- a run under way

@@ -3,16 +3,12 @@ use Rattle.std.specs.Prelude.{ℕ, List}
 use Rattle.board_changes.specs.declared.spans.Span.{Span}
 use Rattle.trace_summary.specs.Stretches.{greatest, longest, responses, stretches}
 use Rattle.trace_summary.specs.declared.stretch.Kind.TheVariants as kinds
-use Rattle.trace_summary.specs.declared.times.RunSpans.{RunSpans}
 use Rattle.trace_summary.specs.declared.times.TaskTimes.{TaskTimes}
 
 -- the spans of a run; and the same if an interrupt routine leaves the running task running
 pub record SpanLists : Type 0 where
   pub all : List Span
   pub uninterrupted : List Span
-
-abbrev pub span_lists : RunSpans → SpanLists
-span_lists s = record { all = s.all.now; uninterrupted = s.uninterrupted.now }
 
 -- the longest wait, time ready and not running, time with an inherited priority, and time from the end of a wait until it runs
 abbrev pub times_of : SpanLists → ℕ → TaskTimes

@@ -5,6 +5,7 @@ use Rattle.board_trace.specs.Runs.{Line}
 use Rattle.board_trace.specs.declared.happening.Happening.{Happening}
 use Rattle.board_trace.specs.declared.happening.Happening.TheVariants as told
 use Rattle.trace_summary.specs.Figures.{total}
+use Rattle.trace_summary.specs.Holds.{HoldState, ended, held_after, longer_of, longest_hold, unheld}
 use Rattle.trace_summary.specs.Stretches.{greatest}
 use Rattle.trace_summary.specs.declared.usage.Move.{Move}
 use Rattle.trace_summary.specs.declared.usage.Object.{Object}
@@ -28,22 +29,25 @@ abbrev pub same_object : Object → Object → Bool
 same_object one other = same_kind one.kind other.kind && one.id == other.id
 
 -- ---- what comes and goes
-abbrev pub coming : ObjectKind → ℕ → Option Move
-coming kind id = Some (record { object = record { kind = kind; id = id }; enters = true })
+abbrev pub coming : ObjectKind → ℕ → Option ℕ → ℕ → Option Move
+coming kind id owner time = Some (record { object = record { kind = kind; id = id }; enters = true; owner = owner; time = time })
 
-abbrev pub leaving : ObjectKind → ℕ → Option Move
-leaving kind id = Some (record { object = record { kind = kind; id = id }; enters = false })
+abbrev pub leaving : ObjectKind → ℕ → Option ℕ → ℕ → Option Move
+leaving kind id owner time = Some (record { object = record { kind = kind; id = id }; enters = false; owner = owner; time = time })
 
--- an owner comes to a mutex and leaves it, a message comes to a queue and leaves it, and an interrupt of a slot comes when it
--- is raised and leaves when it is delivered
-abbrev pub move_of : Happening → Option Move
-move_of (told.Owned mutex owner) = coming kinds.Mutex mutex
-move_of (told.Freed mutex owner) = leaving kinds.Mutex mutex
-move_of (told.Queued queue sender) = coming kinds.Queue queue
-move_of (told.Taken queue receiver) = leaving kinds.Queue queue
-move_of (told.Interrupt slot) = coming kinds.Slot slot
-move_of (told.Delivery slot) = leaving kinds.Slot slot
-move_of h = None
+-- in a step that begins at this time: an owner comes to a mutex and leaves it, a message comes to a queue and leaves it, and an
+-- interrupt of a slot comes when it is raised and leaves when it is delivered
+abbrev pub move_of : ℕ → Happening → Option Move
+move_of time (told.Owned mutex owner) = coming kinds.Mutex mutex (Some owner) time
+move_of time (told.Freed mutex owner) = leaving kinds.Mutex mutex (Some owner) time
+move_of time (told.Queued queue sender) = coming kinds.Queue queue None time
+move_of time (told.Taken queue receiver) = leaving kinds.Queue queue None time
+move_of time (told.Interrupt slot) = coming kinds.Slot slot None time
+move_of time (told.Delivery slot) = leaving kinds.Slot slot None time
+move_of time h = None
+
+abbrev pub move_in : Line → Option Move
+move_in l = move_of l.time l.what
 
 -- one if something comes to this object, or leaves it
 abbrev pub entry_in : Object → Option Move → ℕ
@@ -57,10 +61,10 @@ exit_in o (Some m) = if same_object o m.object && not m.enters then 1 else 0
 -- ---- figures
 -- how much came and how much left
 abbrev pub entries : Object → List Line → ℕ
-entries o lines = total (λ l. entry_in o (move_of l.what)) lines
+entries o lines = total (λ l. entry_in o (move_in l)) lines
 
 abbrev pub exits : Object → List Line → ℕ
-exits o lines = total (λ l. exit_in o (move_of l.what)) lines
+exits o lines = total (λ l. exit_in o (move_in l)) lines
 
 -- how much came and hasn't left
 abbrev pub present : Object → List Line → ℕ
@@ -75,9 +79,27 @@ moments (l ∷ older) = (l ∷ older) ∷ moments older
 abbrev pub most : Object → List Line → ℕ
 most o lines = greatest (map (present o) (moments lines))
 
+-- ---- holds
+-- after a move, if it is one of this object
+abbrev pub held_by : Object → Option Move → HoldState → HoldState
+held_by o None h = h
+held_by o (Some m) h = if same_object o m.object then held_after m h else h
+
+-- the holds of a mutex; other objects have none
+abbrev pub holds_of : Object → List Line → HoldState
+holds_of o [] = unheld
+holds_of o (l ∷ older) = held_by o (move_in l) (holds_of o older)
+
 -- how an object was used
 abbrev pub usage_of : List Line → Object → Usage
-usage_of lines o = record { object = o; entries = entries o lines; exits = exits o lines; most = most o lines }
+usage_of lines o = record {
+  object = o;
+  entries = entries o lines;
+  exits = exits o lines;
+  most = most o lines;
+  holding = (holds_of o lines).holding;
+  longest = longest_hold (holds_of o lines).holds;
+}
 
 -- ---- the objects of a run
 -- adds an object, unless it is among these
@@ -92,8 +114,12 @@ with_mover (Some m) os = with_object m.object os
 -- the objects to which something comes or which it leaves, in the order in which they appear
 abbrev pub objects_in : List Line → List Object
 objects_in [] = []
-objects_in (l ∷ older) = with_mover (move_of l.what) (objects_in older)
+objects_in (l ∷ older) = with_mover (move_in l) (objects_in older)
 
 -- how each was used
 abbrev pub usages : List Line → List Usage
 usages lines = map (usage_of lines) (objects_in lines)
+
+-- at the end of the run the hold that goes on ends
+abbrev pub closed : ℕ → Usage → Usage
+closed time u = record u { longest = longer_of (ended u.holding time) u.longest }

@@ -5,11 +5,13 @@ ghost use Rattle.serde_json.specs.View.{view};
 ghost use Rattle.trace_state.specs.Board.{IsTextOf};
 ghost use Rattle.trace_state.specs.Held.{members_in};
 ghost use Rattle.trace_state.specs.Json.{list_of, with_all, with_member};
-ghost use Rattle.trace_summary.specs.Data.{call_members, count_members, longest_members, kind_word as kind_word_lem, object_in as object_in_lem, run_members, step_members, stretch_data, summary_data, task_data, time_members, usage_data, wait_members};
+ghost use Rattle.trace_summary.specs.Data.{call_members, count_members, hold_data, hold_members, holder as holder_lem, longest_members, kind_word as kind_word_lem, move_members, object_in as object_in_lem, run_members, step_members, stretch_data, summary_data, task_data, time_members, usage_data, wait_members};
 ghost use Rattle.trace_state.specs.Tasks.{wait_data};
 ghost use Rattle.trace_summary.specs.Summaries.{summary_state};
+ghost use Rattle.trace_summary.specs.declared.usage.ObjectKind.TheVariants as kinds;
 
 use crate::counts::TaskCounts;
+use crate::hold::Hold;
 use crate::stretch::Stretch;
 use crate::summary::{Summary, TaskSummary, share};
 use crate::times::TaskTimes;
@@ -17,7 +19,7 @@ use crate::usage::{ObjectKind, Usage};
 use board_changes::Awaited;
 use serde_json::Value;
 use std::alloc::{AllocError, Global};
-use trace_state::{Items, Members, time_shown, wait_value};
+use trace_state::{Items, Members, number_or_null, time_shown, wait_value};
 
 // Adds the steps of a task, and its share in all steps.
 fn add_steps(members: &mut Members, all: u64, counts: &TaskCounts) -> Result<(), AllocError>
@@ -155,16 +157,68 @@ fn kind_word(kind: ObjectKind) -> &'static str
     }
 }
 
+// A hold of a mutex, or null.
+fn hold_value(alloc: Global, hold: &Option<Hold>) -> Result<Value, AllocError>
+    ensures { IfOk result (λ v. view v ≡ hold_data hold.now) }
+{
+    let Some(hold) = hold else {
+        return Ok(Value::Null);
+    };
+    let mut members = Members::new(alloc);
+    members.put_number("from", time_shown(hold.from))?;
+    members.put_number("time", time_shown(hold.length()))?;
+    Ok(members.finish())
+}
+
+// The task of a hold.
+fn holder(hold: &Option<Hold>) -> Option<u64>
+    ensures { result ≡ holder_lem hold.now }
+{
+    match hold {
+        Some(hold) => Some(u64::from(hold.owner)),
+        None => None,
+    }
+}
+
+// Adds the longest hold of a mutex, and by which task.
+fn add_hold(members: &mut Members, alloc: Global, longest: &Option<Hold>) -> Result<(), AllocError>
+    ensures { OnOk result (members_in members.new
+        ≡ with_all (hold_members kinds.Mutex longest.now) (members_in members.old)) }
+{
+    let value = hold_value(alloc, longest)?;
+    members.put("longest_hold", value)?;
+    members.put("held_by", number_or_null(holder(longest)))
+}
+
+// Adds the longest hold of an object, if it is a mutex.
+fn add_hold_of(members: &mut Members, alloc: Global, usage: &Usage) -> Result<(), AllocError>
+    ensures { OnOk result (members_in members.new
+        ≡ with_all (hold_members usage.now.object.kind usage.now.longest) (members_in members.old)) }
+{
+    match usage.object.kind {
+        ObjectKind::Mutex => add_hold(members, alloc, &usage.longest),
+        ObjectKind::Queue | ObjectKind::Slot => Ok(()),
+    }
+}
+
+// Adds what came to an object and left it.
+fn add_moves(members: &mut Members, usage: &Usage) -> Result<(), AllocError>
+    ensures { OnOk result (members_in members.new ≡ with_all (move_members usage.now) (members_in members.old)) }
+{
+    members.put_word("object", kind_word(usage.object.kind))?;
+    members.put_number("id", u64::from(usage.object.id))?;
+    members.put_number("in", usage.entries)?;
+    members.put_number("out", usage.exits)?;
+    members.put_number("most", usage.most)
+}
+
 // How an object was used.
 fn usage_value(alloc: Global, usage: &Usage) -> Result<Value, AllocError>
     ensures { IfOk result (λ v. view v ≡ usage_data usage.now) }
 {
     let mut members = Members::new(alloc);
-    members.put_word("object", kind_word(usage.object.kind))?;
-    members.put_number("id", u64::from(usage.object.id))?;
-    members.put_number("in", usage.entries)?;
-    members.put_number("out", usage.exits)?;
-    members.put_number("most", usage.most)?;
+    add_moves(&mut members, usage)?;
+    add_hold_of(&mut members, alloc, usage)?;
     Ok(members.finish())
 }
 

@@ -2,7 +2,9 @@
 //! stretches of its spans, as JSON and as a table.
 #![tactic(auto)]
 
+mod by_id;
 mod counts;
+mod hold;
 mod json;
 mod laws;
 mod list;
@@ -15,11 +17,12 @@ mod times;
 mod usage;
 
 pub use counts::TaskCounts;
+pub use hold::{Hold, Holding};
 pub use json::summary_text;
 pub use laws::{longest_law, tasks_law};
 pub use stretch::Stretch;
 pub use summary::{Summary, TaskSummary, share};
 pub use table::table_text;
 pub use tally::Tally;
-pub use times::{RunSpans, TaskTimes};
+pub use times::{LongestTimes, TaskTimes};
 pub use usage::{Object, ObjectKind, Usage};

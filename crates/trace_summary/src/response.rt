@@ -1,14 +1,20 @@
 //! Responses: how long a task takes from the end of a wait until it runs.
 
-ghost use Rattle.std.specs.Prelude.{◌≡◌, None};
+ghost use Rattle.std.specs.Prelude.{◌≡◌, ◌++◌, ◌∷◌, [], nat_eq, None, List, OnOk};
+ghost use Rattle.std.specs.HashMap.{get};
+ghost use Rattle.board_changes.specs.declared.spans.Span.{Span};
+ghost use Rattle.trace_summary.specs.Keeping.{KeepsResponses, is_noted as is_noted_lem};
 ghost use Rattle.trace_summary.specs.Progress.{kept_of};
-ghost use Rattle.trace_summary.specs.Stretches.{ResponseState, greatest, response_after, response_by, responses, with_response};
+ghost use Rattle.trace_summary.specs.Stretches.{ResponseState, greatest, response_by, responses, with_response};
 
+use crate::by_id::{put_at, value_at};
 use board_changes::{Span, Standing};
+use std::collections::HashMap;
+use wind_base::NoMemory;
 
-// What is kept of the responses of a task.
+/// What is kept of the responses of a task.
 #[derive(Clone, Copy)]
-struct Responses {
+pub(crate) struct Responses {
     // since when it has waited for nothing and hasn't run, if it waited
     since: Option<u128>,
     // the longest response
@@ -16,6 +22,16 @@ struct Responses {
 }
 
 impl Responses {
+    // It has none.
+    fn none() -> Responses
+        ensures { result ≡ kept_of (record { since = None; times = [] }) }
+    {
+        Responses {
+            since: None,
+            longest: 0,
+        }
+    }
+
     // The task runs at this time.
     fn run(self, time: u128) -> Responses
         ensures { (r : ResponseState) → self ≡ kept_of r
@@ -48,28 +64,37 @@ impl Responses {
             Standing::Ready | Standing::Sleeping | Standing::Suspended => self,
         }
     }
+}
 
-    // Adds a span if it is of this task.
-    fn with_span(self, who: u32, span: &Span) -> Responses
-        ensures { (r : ResponseState) → self ≡ kept_of r → result ≡ kept_of (response_after who span.now r) }
-    {
-        if span.who.get() == who {
-            return self.with_own(span);
-        }
-        self
+// A span with this standing leaves the responses as they are, unless the task waits in it, or has
+// waited and runs.
+fn is_noted(standing: Standing, responses: &Responses) -> bool
+    ensures { result ≡ is_noted_lem standing responses.now }
+{
+    match standing {
+        Standing::Waiting => true,
+        Standing::Running => responses.since.is_some(),
+        Standing::Ready | Standing::Sleeping | Standing::Suspended => false,
     }
 }
 
-/// The longest response of a task, in board time; 0 if it has none.
-pub(crate) fn longest_response(who: u32, spans: &[Span]) -> u128
-    ensures { result ≡ greatest (responses who spans.now) }
+/// Adds a span to the responses of its task.
+pub(crate) fn add_response(tasks: &mut HashMap<u32, Responses>, span: &Span) -> Result<(), NoMemory>
+    ensures { OnOk result ((spans : List Span) → KeepsResponses spans (get nat_eq tasks.old)
+        → KeepsResponses (spans ++ span.now ∷ []) (get nat_eq tasks.new)) }
 {
-    let mut responses = Responses {
-        since: None,
-        longest: 0,
-    };
-    for span in spans {
-        responses = responses.with_span(who, span);
+    let who = span.who.get();
+    let responses = value_at(tasks, who, Responses::none());
+    if !is_noted(span.look.standing, &responses) {
+        return Ok(());
     }
-    responses.longest
+    put_at(tasks, who, responses.with_own(span))
+}
+
+/// The longest response of a task, in board time; 0 if it has none.
+pub(crate) fn longest_response(tasks: &HashMap<u32, Responses>, who: u32) -> u128
+    ensures { (spans : List Span) → KeepsResponses spans (get nat_eq tasks.now)
+        → result ≡ greatest (responses who spans) }
+{
+    value_at(tasks, who, Responses::none()).longest
 }

@@ -1,11 +1,17 @@
 //! Stretches of time: the longest in which a task does something.
 
-ghost use Rattle.std.specs.Prelude.{◌≡◌, List};
+ghost use Rattle.std.specs.Prelude.{◌≡◌, ◌++◌, ◌∷◌, [], nat_eq, List, OnOk};
+ghost use Rattle.std.specs.HashMap.{get};
 ghost use Rattle.board_changes.specs.declared.spans.Span.{Span};
-ghost use Rattle.trace_summary.specs.Stretches.{has_kind as has_kind_lem, is_ready as is_ready_lem, is_waiting as is_waiting_lem, length_of, longer as longer_lem, longest, stretch_of as stretch_of_lem, stretches, with_span, with_stretch};
+ghost use Rattle.trace_summary.specs.Stretches.{has_kind as has_kind_lem, is_ready as is_ready_lem, is_waiting as is_waiting_lem, length_of, longer as longer_lem, longest, stretch_of as stretch_of_lem, stretches, with_stretch};
+ghost use Rattle.trace_summary.specs.declared.stretch.Kind.{Kind};
+ghost use Rattle.trace_summary.specs.Keeping.{KeepsStretches};
 ghost use Rattle.trace_summary.specs.Progress.{progress_of};
 
+use crate::by_id::{put_at, value_at};
 use board_changes::{Awaited, Look, Span, Standing};
+use std::collections::HashMap;
+use wind_base::NoMemory;
 
 /// What a task does in a stretch.
 #[derive(Clone, Copy)]
@@ -93,14 +99,24 @@ fn longer(stretch: Stretch, longest: Option<Stretch>) -> Option<Stretch>
     Some(stretch)
 }
 
-// What is kept of stretches: the newest, and the longest of those before it.
+/// What is kept of stretches: the newest, and the longest of those before it.
 #[derive(Clone, Copy)]
-struct Progress {
+pub(crate) struct Progress {
     newest: Option<Stretch>,
     longest: Option<Stretch>,
 }
 
 impl Progress {
+    // There is no stretch.
+    fn none() -> Progress
+        ensures { result ≡ progress_of [] }
+    {
+        Progress {
+            newest: None,
+            longest: None,
+        }
+    }
+
     // Adds a stretch.
     fn with_stretch(self, stretch: Stretch) -> Progress
         ensures { (made : List Stretch) → self ≡ progress_of made → result ≡ progress_of (with_stretch stretch made) }
@@ -125,17 +141,6 @@ impl Progress {
         }
     }
 
-    // Adds a span if it is of this task and kind.
-    fn with_span(self, kind: Kind, who: u32, span: &Span) -> Progress
-        ensures { (made : List Stretch) → self ≡ progress_of made
-            → result ≡ progress_of (with_span kind who span.now made) }
-    {
-        if span.who.get() == who && has_kind(kind, &span.look) {
-            return self.with_stretch(stretch_of(span));
-        }
-        self
-    }
-
     // The longest of all stretches.
     fn longest(self) -> Option<Stretch>
         ensures { (made : List Stretch) → self ≡ progress_of made → result ≡ longest made }
@@ -148,16 +153,27 @@ impl Progress {
     }
 }
 
-/// The longest stretch of a task in which it does this; of several, the first.
-pub(crate) fn longest_stretch(kind: Kind, who: u32, spans: &[Span]) -> Option<Stretch>
-    ensures { result ≡ longest (stretches kind who spans.now) }
+/// Adds a span to the stretches of its task, if it is of this kind.
+pub(crate) fn add_stretch(
+    tasks: &mut HashMap<u32, Progress>,
+    kind: Kind,
+    span: &Span,
+) -> Result<(), NoMemory>
+    ensures { OnOk result ((spans : List Span) → KeepsStretches kind spans (get nat_eq tasks.old)
+        → KeepsStretches kind (spans ++ span.now ∷ []) (get nat_eq tasks.new)) }
 {
-    let mut progress = Progress {
-        newest: None,
-        longest: None,
-    };
-    for span in spans {
-        progress = progress.with_span(kind, who, span);
+    if !has_kind(kind, &span.look) {
+        return Ok(());
     }
-    progress.longest()
+    let who = span.who.get();
+    let progress = value_at(tasks, who, Progress::none()).with_stretch(stretch_of(span));
+    put_at(tasks, who, progress)
+}
+
+/// The longest stretch of a task; of several, the first.
+pub(crate) fn longest_stretch(tasks: &HashMap<u32, Progress>, who: u32) -> Option<Stretch>
+    ensures { (kind : Kind) (spans : List Span) → KeepsStretches kind spans (get nat_eq tasks.now)
+        → result ≡ longest (stretches kind who spans) }
+{
+    value_at(tasks, who, Progress::none()).longest()
 }

@@ -1,5 +1,6 @@
 //! The figures of a run as tables.
 
+use crate::hold::Hold;
 use crate::stretch::Stretch;
 use crate::summary::{Summary, TaskSummary, share};
 use crate::usage::{Object, ObjectKind, Usage};
@@ -24,7 +25,7 @@ const HEADS: [&str; 6] = [
 const TIME_HEADS: [&str; 4] = ["wait", "ready", "response", "inherited"];
 
 // Those of the third table, after which the object comes.
-const USE_HEADS: [&str; 3] = ["in", "out", "most"];
+const USE_HEADS: [&str; 4] = ["in", "out", "most", "hold"];
 
 // Adds spaces, so that what begins at `start` fills its column.
 fn fill(text: &mut Vec<u8>, start: usize) -> Result<(), NoMemory> {
@@ -167,12 +168,31 @@ fn add_object_name(text: &mut Vec<u8>, object: Object) -> Result<(), NoMemory> {
     add_decimal(text, u64::from(object.id))
 }
 
+// Adds the length of a hold in its column, or 0.
+fn add_hold(text: &mut Vec<u8>, hold: &Option<Hold>) -> Result<(), NoMemory> {
+    match hold {
+        Some(hold) => add_time(text, hold.length()),
+        None => add_time(text, 0),
+    }
+}
+
+// Adds the task of a hold, if there is one.
+fn add_holder(text: &mut Vec<u8>, hold: &Option<Hold>) -> Result<(), NoMemory> {
+    let Some(hold) = hold else {
+        return Ok(());
+    };
+    add(text, b", held by ")?;
+    add_decimal(text, u64::from(hold.owner))
+}
+
 // Adds the row of an object.
 fn add_usage(text: &mut Vec<u8>, usage: &Usage) -> Result<(), NoMemory> {
     add_number(text, usage.entries)?;
     add_number(text, usage.exits)?;
     add_number(text, usage.most)?;
+    add_hold(text, &usage.longest)?;
     add_object_name(text, usage.object)?;
+    add_holder(text, &usage.longest)?;
     add(text, b"\n")
 }
 

@@ -8,15 +8,16 @@ ghost use Rattle.board_changes.specs.declared.view.TaskView.{TaskView};
 ghost use Rattle.board_trace.specs.Runs.{Line, with_line};
 ghost use Rattle.trace_summary.specs.Adding.{added, are_distinct, tally_id, timed, with_counts, with_task};
 ghost use Rattle.trace_summary.specs.Noting.{noted};
-ghost use Rattle.trace_summary.specs.Times.{span_lists};
+ghost use Rattle.trace_summary.specs.Keeping.{KeepsTimes};
+ghost use Rattle.trace_summary.specs.Times.{SpanLists};
 ghost use Rattle.trace_summary.specs.Figures.{calls_in as calls_in_lem, idle_in as idle_in_lem, ticks_in as ticks_in_lem};
 ghost use Rattle.trace_summary.specs.Summaries.{summary_of, summary_state, tally_of, tally_state};
 
 use crate::counts::{TaskCounts, counts_in, none};
 use crate::list::push;
 use crate::summary::{Summary, TaskSummary};
-use crate::times::{RunSpans, times_of};
-use crate::usage::{Usage, add_usage, copied};
+use crate::times::LongestTimes;
+use crate::usage::{Usage, add_usage, closed_uses};
 use board_changes::TaskView;
 use board_trace::{Happening, Subject, subject_of};
 use std::alloc::Global;
@@ -165,14 +166,14 @@ fn add_told(
 }
 
 // A task with its longest times.
-fn with_times(task: &TaskTally, spans: &RunSpans) -> TaskSummary
-    ensures { result ≡ timed (span_lists spans.now) task.now }
+fn with_times(task: &TaskTally, times: &LongestTimes) -> TaskSummary
+    ensures { (spans : SpanLists) → KeepsTimes times.now spans → result ≡ timed spans task.now }
 {
     TaskSummary {
         id: task.id,
         name: task.name.copied(),
         counts: task.counts,
-        times: times_of(spans, task.id),
+        times: times.of(task.id),
     }
 }
 
@@ -180,13 +181,14 @@ fn with_times(task: &TaskTally, spans: &RunSpans) -> TaskSummary
 fn summaries(
     alloc: Global,
     tasks: &[TaskTally],
-    spans: &RunSpans,
+    times: &LongestTimes,
 ) -> Result<Vec<TaskSummary>, NoMemory>
-    ensures { IfOk result (λ v. v.items ≡ map (timed (span_lists spans.now)) tasks.now) }
+    ensures { IfOk result (λ v. (spans : SpanLists) → KeepsTimes times.now spans
+        → v.items ≡ map (timed spans) tasks.now) }
 {
     let mut list = Vec::new(alloc);
     for task in tasks {
-        push(&mut list, with_times(task, spans))?;
+        push(&mut list, with_times(task, times))?;
     }
     Ok(list)
 }
@@ -218,7 +220,7 @@ impl Tally {
         self.ticks = self.ticks.saturating_add(ticks_in(happening));
         self.calls = self.calls.saturating_add(calls_in(happening));
         self.idle = self.idle.saturating_add(idle_in(time, happening));
-        add_usage(&mut self.uses, happening)?;
+        add_usage(&mut self.uses, time, happening)?;
         add_told(
             &mut self.tasks,
             subject_of(happening),
@@ -243,20 +245,21 @@ impl Tally {
         self.note(time, name, happening)
     }
 
-    /// The figures of a run with these spans that ends at this board time after this many steps.
+    /// The figures of a run with these longest times that ends at this board time after this many
+    /// steps.
     pub fn finish(
         &self,
         alloc: Global,
-        spans: &RunSpans,
+        times: &LongestTimes,
         time: u128,
         steps: u64,
     ) -> Result<Summary, NoMemory>
-        ensures { IfOk result (λ r. (views : List TaskView) (lines : List Line)
-            → tally_state self.now ≡ tally_of views lines
-            → summary_state r ≡ summary_of views lines (span_lists spans.now) time steps) }
+        ensures { IfOk result (λ r. (views : List TaskView) (lines : List Line) (spans : SpanLists)
+            → tally_state self.now ≡ tally_of views lines → KeepsTimes times.now spans
+            → summary_state r ≡ summary_of views lines spans time steps) }
     {
-        let tasks = summaries(alloc, &self.tasks, spans)?;
-        let uses = copied(alloc, &self.uses)?;
+        let tasks = summaries(alloc, &self.tasks, times)?;
+        let uses = closed_uses(alloc, &self.uses, time)?;
         Ok(Summary {
             time,
             steps,

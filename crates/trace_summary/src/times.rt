@@ -1,20 +1,15 @@
-//! The longest times of a task.
+//! The longest times of each task.
 
-ghost use Rattle.std.specs.Prelude.{◌≡◌};
-ghost use Rattle.trace_summary.specs.Times.{span_lists, times_of as times_of_lem};
+ghost use Rattle.std.specs.Prelude.{◌≡◌, ◌++◌, ◌∷◌, [], OnOk};
+ghost use Rattle.trace_summary.specs.Keeping.{KeepsTimes};
+ghost use Rattle.trace_summary.specs.Times.{SpanLists, times_of};
 
-use crate::response::longest_response;
-use crate::stretch::{Kind, Stretch, longest_stretch};
+use crate::response::{Responses, add_response, longest_response};
+use crate::stretch::{Kind, Progress, Stretch, add_stretch, longest_stretch};
 use board_changes::Span;
-
-/// The spans of a run.
-#[derive(Clone, Copy)]
-pub struct RunSpans<'a> {
-    /// The spans that have ended, in the order in which they ended.
-    pub all: &'a [Span],
-    /// The same if an interrupt routine leaves the running task running.
-    pub uninterrupted: &'a [Span],
-}
+use std::alloc::Global;
+use std::collections::HashMap;
+use wind_base::NoMemory;
 
 /// The longest times of a task.
 #[derive(Clone, Copy, Debug)]
@@ -29,14 +24,69 @@ pub struct TaskTimes {
     pub response: u128,
 }
 
-/// The longest times of a task.
-pub(crate) fn times_of(spans: &RunSpans, who: u32) -> TaskTimes
-    ensures { result ≡ times_of_lem (span_lists spans.now) who }
-{
-    TaskTimes {
-        wait: longest_stretch(Kind::Wait, who, spans.all),
-        ready: longest_stretch(Kind::Ready, who, spans.uninterrupted),
-        inherited: longest_stretch(Kind::Inherited, who, spans.all),
-        response: longest_response(who, spans.all),
+/// The longest times of each task in the spans that have ended.
+#[derive(Drop)]
+pub struct LongestTimes {
+    waits: HashMap<u32, Progress>,
+    ready: HashMap<u32, Progress>,
+    inherited: HashMap<u32, Progress>,
+    responses: HashMap<u32, Responses>,
+}
+
+impl LongestTimes {
+    /// No span has ended.
+    pub fn new(alloc: Global) -> LongestTimes
+        ensures { KeepsTimes result (record { all = []; uninterrupted = [] }) }
+    {
+        LongestTimes {
+            waits: HashMap::new(alloc),
+            ready: HashMap::new(alloc),
+            inherited: HashMap::new(alloc),
+            responses: HashMap::new(alloc),
+        }
+    }
+
+    // A span has ended.
+    fn add_span(&mut self, span: &Span) -> Result<(), NoMemory>
+        ensures { OnOk result ((before : SpanLists) → KeepsTimes self.old before
+            → KeepsTimes self.new (record before { all = before.all ++ span.now ∷ [] })) }
+    {
+        add_stretch(&mut self.waits, Kind::Wait, span)?;
+        add_stretch(&mut self.inherited, Kind::Inherited, span)?;
+        add_response(&mut self.responses, span)
+    }
+
+    /// Spans have ended, in this order.
+    pub fn add(&mut self, spans: &[Span]) -> Result<(), NoMemory>
+        ensures { OnOk result ((before : SpanLists) → KeepsTimes self.old before
+            → KeepsTimes self.new (record before { all = before.all ++ spans.now })) }
+    {
+        for span in spans {
+            self.add_span(span)?;
+        }
+        Ok(())
+    }
+
+    /// Spans have ended, in this order, if an interrupt routine leaves the running task running.
+    pub fn add_uninterrupted(&mut self, spans: &[Span]) -> Result<(), NoMemory>
+        ensures { OnOk result ((before : SpanLists) → KeepsTimes self.old before
+            → KeepsTimes self.new (record before { uninterrupted = before.uninterrupted ++ spans.now })) }
+    {
+        for span in spans {
+            add_stretch(&mut self.ready, Kind::Ready, span)?;
+        }
+        Ok(())
+    }
+
+    /// The longest times of a task.
+    pub(crate) fn of(&self, who: u32) -> TaskTimes
+        ensures { (spans : SpanLists) → KeepsTimes self.now spans → result ≡ times_of spans who }
+    {
+        TaskTimes {
+            wait: longest_stretch(&self.waits, who),
+            ready: longest_stretch(&self.ready, who),
+            inherited: longest_stretch(&self.inherited, who),
+            response: longest_response(&self.responses, who),
+        }
     }
 }

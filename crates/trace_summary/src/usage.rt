@@ -2,9 +2,11 @@
 
 ghost use Rattle.std.specs.Prelude.{◌≡◌, if◌then◌else◌, map, IfOk, OnOk};
 ghost use Rattle.std.specs.List.{list_any};
-ghost use Rattle.trace_summary.specs.Usage.{coming as coming_lem, leaving as leaving_lem, move_of as move_of_lem, same_kind as same_kind_lem, same_object as same_object_lem};
-ghost use Rattle.trace_summary.specs.Using.{entered, left, moved, unused as unused_lem, with_move, with_usage};
+ghost use Rattle.trace_summary.specs.Holds.{holder_after};
+ghost use Rattle.trace_summary.specs.Usage.{closed as closed_lem, coming as coming_lem, leaving as leaving_lem, move_of as move_of_lem, same_kind as same_kind_lem, same_object as same_object_lem};
+ghost use Rattle.trace_summary.specs.Using.{entered, held, left, moved, unused as unused_lem, with_move, with_usage};
 
+use crate::hold::{Hold, Holding, begun, ended, longer_of};
 use crate::list::push;
 use board_trace::Happening;
 use std::alloc::Global;
@@ -43,6 +45,10 @@ pub struct Usage {
     pub exits: u64,
     /// The most entries without an exit at one time: owners, messages or interrupts.
     pub most: u64,
+    /// The task that holds the mutex at the end, if one does.
+    pub holding: Option<Holding>,
+    /// The longest time in which one task held the mutex; of several, the first.
+    pub longest: Option<Hold>,
 }
 
 // Something comes to an object, or leaves it.
@@ -50,6 +56,10 @@ pub struct Usage {
 struct Move {
     object: Object,
     enters: bool,
+    // of a mutex the owner that comes or leaves
+    owner: Option<u32>,
+    // when the step begins, in board time
+    time: u128,
 }
 
 // Whether two kinds are the same.
@@ -71,37 +81,53 @@ fn same_object(one: Object, other: Object) -> bool
 }
 
 // Something comes to an object.
-fn coming(kind: ObjectKind, id: u32) -> Option<Move>
-    ensures { result ≡ coming_lem kind id }
+fn coming(kind: ObjectKind, id: u32, owner: Option<u32>, time: u128) -> Option<Move>
+    ensures { result ≡ coming_lem kind id owner time }
 {
     Some(Move {
         object: Object { kind, id },
         enters: true,
+        owner,
+        time,
     })
 }
 
 // Something leaves an object.
-fn leaving(kind: ObjectKind, id: u32) -> Option<Move>
-    ensures { result ≡ leaving_lem kind id }
+fn leaving(kind: ObjectKind, id: u32, owner: Option<u32>, time: u128) -> Option<Move>
+    ensures { result ≡ leaving_lem kind id owner time }
 {
     Some(Move {
         object: Object { kind, id },
         enters: false,
+        owner,
+        time,
     })
 }
 
-// What comes to an object in a happening, or leaves it.
-fn move_of(happening: &Happening) -> Option<Move>
-    ensures { result ≡ move_of_lem happening.now }
+// What comes to an object or leaves it in a step that begins at this board time.
+fn move_of(time: u128, happening: &Happening) -> Option<Move>
+    ensures { result ≡ move_of_lem time happening.now }
 {
-    match happening {
-        Happening::Owned { mutex, .. } => coming(ObjectKind::Mutex, *mutex),
-        Happening::Freed { mutex, .. } => leaving(ObjectKind::Mutex, *mutex),
-        Happening::Queued { queue, .. } => coming(ObjectKind::Queue, *queue),
-        Happening::Taken { queue, .. } => leaving(ObjectKind::Queue, *queue),
-        Happening::Interrupt { slot } => coming(ObjectKind::Slot, *slot),
-        Happening::Delivery { slot } => leaving(ObjectKind::Slot, *slot),
+    match *happening {
+        Happening::Owned { mutex, owner } => coming(ObjectKind::Mutex, mutex, Some(owner), time),
+        Happening::Freed { mutex, owner } => leaving(ObjectKind::Mutex, mutex, Some(owner), time),
+        Happening::Queued { queue, .. } => coming(ObjectKind::Queue, queue, None, time),
+        Happening::Taken { queue, .. } => leaving(ObjectKind::Queue, queue, None, time),
+        Happening::Interrupt { slot } => coming(ObjectKind::Slot, slot, None, time),
+        Happening::Delivery { slot } => leaving(ObjectKind::Slot, slot, None, time),
         _ => None,
+    }
+}
+
+impl Move {
+    // Who holds the mutex after it.
+    fn holder(&self) -> Option<Holding>
+        ensures { result ≡ holder_after self.now }
+    {
+        if self.enters {
+            return begun(self.owner, self.time);
+        }
+        None
     }
 }
 
@@ -114,6 +140,8 @@ fn unused(object: Object) -> Usage
         entries: 0,
         exits: 0,
         most: 0,
+        holding: None,
+        longest: None,
     }
 }
 
@@ -144,12 +172,31 @@ impl Usage {
         }
     }
 
+    // The hold that went on ends, and another begins if an owner comes.
+    fn hold(&mut self, step: Move)
+        ensures { self.new ≡ held step self.old }
+    {
+        self.longest = longer_of(ended(self.holding, step.time), self.longest);
+        self.holding = step.holder();
+    }
+
     // Something comes or leaves, if it is a move of this object.
     fn follow(&mut self, step: Move)
         ensures { self.new ≡ moved step self.old }
     {
         if same_object(self.object, step.object) {
             self.change(step.enters);
+            self.hold(step);
+        }
+    }
+
+    // The run ends at this board time, and so does the hold that goes on.
+    fn closed(self, time: u128) -> Usage
+        ensures { result ≡ closed_lem time self }
+    {
+        Usage {
+            longest: longer_of(ended(self.holding, time), self.longest),
+            ..self
         }
     }
 }
@@ -199,20 +246,24 @@ fn add_if(uses: &mut Vec<Usage>, step: Option<Move>) -> Result<(), NoMemory>
     }
 }
 
-/// Adds what happens to how objects were used.
-pub(crate) fn add_usage(uses: &mut Vec<Usage>, happening: &Happening) -> Result<(), NoMemory>
-    ensures { OnOk result (uses.new.items ≡ with_move (move_of_lem happening.now) uses.old.items) }
+/// Adds what happens in a step that begins at this board time to how objects were used.
+pub(crate) fn add_usage(
+    uses: &mut Vec<Usage>,
+    time: u128,
+    happening: &Happening,
+) -> Result<(), NoMemory>
+    ensures { OnOk result (uses.new.items ≡ with_move (move_of_lem time happening.now) uses.old.items) }
 {
-    add_if(uses, move_of(happening))
+    add_if(uses, move_of(time, happening))
 }
 
-/// A copy of how objects were used.
-pub(crate) fn copied(alloc: Global, uses: &[Usage]) -> Result<Vec<Usage>, NoMemory>
-    ensures { IfOk result (λ v. v.items ≡ uses.now) }
+/// How objects were used in a run that ends at this board time.
+pub(crate) fn closed_uses(alloc: Global, uses: &[Usage], time: u128) -> Result<Vec<Usage>, NoMemory>
+    ensures { IfOk result (λ v. v.items ≡ map (closed_lem time) uses.now) }
 {
     let mut list = Vec::new(alloc);
     for usage in uses {
-        push(&mut list, *usage)?;
+        push(&mut list, usage.closed(time))?;
     }
     Ok(list)
 }

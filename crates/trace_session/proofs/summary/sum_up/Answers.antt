@@ -1,7 +1,6 @@
-use Rattle.std.proofs.Common.{ap, ap₂, refl, ◌∙◌}
+use Rattle.std.proofs.Common.{ap, refl}
 use Rattle.std.proofs.lemmas.Result.{err_from_is_err_and}
 use Rattle.wind_session.proofs.RunLemmas.{begun}
-use Rattle.board_changes.specs.Spans.{SpanState}
 use Rattle.generated_session.specs.Puts.{SinkLog}
 use Rattle.trace_session.proofs.Counting.{none_put, not_lost, summed_up}
 use Rattle.trace_session.proofs.Seeing.{untold}
@@ -19,9 +18,7 @@ tell_run-requires-clause-tells g c = λ said. (refl, c.in_ok-counter.ensures.tal
 
 pub returns-clause-told : goal.returns-clause-told
 returns-clause-told g c =
-    summed_up _ _ _ _ _ _ _ _ _ _ _ c.in_ok-end.ensures.told _ _ _ _ c.time-time.ensures c.steps.ensures
-    (c.done-spans.ensures ∙ ap₂ (λ (a b : SpanState). record { all = a.done; uninterrupted = b.done }) c.in_ok-close.ensures.spans c.in_ok-close.ensures.uninterrupted)
-    c.in_ok-summary.ensures
+    summed_up _ _ _ _ _ _ _ _ _ _ _ c.in_ok-end.ensures.told _ _ _ _ c.time-time.ensures c.steps.ensures c.in_ok-close.ensures c.in_ok-summary.ensures
 
 pub returns-clause-bytes : goal.returns-clause-bytes
 returns-clause-bytes g c = ap (λ (x : SinkLog). x.bytes) (none_put _ _ _ _ _ _ _ _ _ _ _ c.in_ok-end.ensures.told)

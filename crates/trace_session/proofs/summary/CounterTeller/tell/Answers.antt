@@ -1,12 +1,11 @@
-use Rattle.std.proofs.Common.{ap, ◌∙◌}
+use Rattle.std.proofs.Common.{ap, subst, ◌∙◌}
 use Rattle.wind_session.specs.BoardPlayerSeen.{board_by}
-use Rattle.board_trace.specs.Before.{before_step}
 use Rattle.board_trace.specs.Runs.{lines_of}
 use Rattle.board_trace.specs.Snapshots.{snapshot_of}
 use Rattle.board_trace.specs.declared.moment.BeforeStep.{BeforeStep}
 use Rattle.trace_summary.specs.Summaries.{tally_of}
-use Rattle.trace_session.specs.Watches.{watch_state}
-use Rattle.trace_session.specs.Watching.{WatchState, watched_by}
+use Rattle.trace_session.specs.Watches.{KeepsWatch}
+use Rattle.trace_session.specs.Watching.{watched_after, watched_by}
 use Rattle.trace_session.proofs.Counting.{all_now}
 use Rattle.trace_session.proofs.Watched.{watched_now}
 use Rattle.trace_session.proofs.summary.CounterTeller.tell.Goals as goal
@@ -19,8 +18,6 @@ returns-clause-tells g c =
       holds.0,
       c.in_ok-add_step.ensures.tally (next i) u (snapshot_of s.world).tasks (lines_of said s i) is ready on.replied holds.1
           ∙ ap (tally_of (snapshot_of s.world).tasks) (all_now said next s u _ _ i on),
-      c.in_ok-add_step.ensures.watch
-          ∙ ap (λ (b : BeforeStep). watched_by b (watch_state c.args.self.now.watch) new) is
-          ∙ ap (λ (w : WatchState). watched_by (before_step u) w new) holds.2
-          ∙ watched_now said next s u new _ i on,
+      subst (KeepsWatch c.add_step.new.self.watch) (ap (λ (b : BeforeStep). watched_by b (watched_after said s i) new) is ∙ watched_now said next s u new _ i on)
+          (c.in_ok-add_step.ensures.watch (watched_after said s i) holds.2),
     )
