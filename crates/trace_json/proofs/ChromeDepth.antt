@@ -57,23 +57,7 @@ unfolding span_data
 span_within s = long_within 2 (codes "X") (span_name s.look.standing s.look.object) s.who (times_members s.from s.to) (look_data s.look) (times_within 2 s.from s.to) (look_within s.look)
 
 -- an object of a place and these members
-flnumber_within : (what : List ℕ) (number : ℕ) → depth (object_of ((what, number_of number) ∷ [])) ≤ 1
-number_within what number = let ms : List (List ℕ × Data) = (what, number_of number) ∷ [] in made_within 0 ms (omega arith, tt)
-
-counter_within : (name : List ℕ) (time : ℕ) (what : List ℕ) (number : ℕ) → depth (counter_data name time what number) ≤ 2
-counter_within name time what number =
-    let more : List (List ℕ × Data) = (codes "ts", number_of (time_shown time)) ∷ args_members (object_of ((what, number_of number) ∷ [])) in
-    flat_within 1 (codes "C") name 0 more (omega arith, (number_within what number, tt))
-
-ready_within : (time number : ℕ) → depth (ready_data time number) ≤ 2
-unfolding ready_data
-ready_within time number = counter_within (codes "ready") time (codes "tasks") number
-
-messages_within : (time queue number : ℕ) → depth (messages_data time queue number) ≤ 2
-unfolding messages_data
-messages_within time queue number = counter_within (codes "queue " ++ decimal queue) time (codes "messages") number
-
-at_within : (n : ℕ) (phase name : List ℕ) (thread : ℕ) (more : List (List ℕ × Data)) → Within n more → depth (object_of (place_members phase name thread ++ more)) ≤ suc n
+flat_within : (n : ℕ) (phase name : List ℕ) (thread : ℕ) (more : List (List ℕ × Data)) → Within n more → depth (object_of (place_members phase name thread ++ more)) ≤ suc n
 flat_within n phase name thread more few =
     made_within n (place_members phase name thread ++ more) (both n (place_members phase name thread) more (place_within n phase name thread) few)
 

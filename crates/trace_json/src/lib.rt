@@ -13,6 +13,6 @@ mod members;
 
 pub use form::JsonLines;
 pub use members::{
-    EndedWait, Flow, add_flow, add_instant, add_messages, add_opening, add_ready, add_routine, add_span,
-    add_spawned, close_list, open_list,
+    EndedWait, Flow, add_flow, add_instant, add_messages, add_opening, add_ready, add_routine,
+    add_span, add_spawned, close_list, open_list,
 };

@@ -181,12 +181,7 @@ pub fn add_flow(alloc: Global, text: &mut Vec<u8>, number: u64, flow: &Flow) -> 
 }
 
 /// Adds how many tasks are ready at this time.
-pub fn add_ready(
-    alloc: Global,
-    text: &mut Vec<u8>,
-    time: u128,
-    number: u64,
-) -> Result<(), NoMemory>
+pub fn add_ready(alloc: Global, text: &mut Vec<u8>, time: u128, number: u64) -> Result<(), NoMemory>
     ensures { OnOk result (Gained (AreMembers (ReadyTasks time number ∷ [])) text.old.items text.new.items) }
 {
     let value = ready_value(alloc, time, number)?;

@@ -31,7 +31,7 @@ use Rattle.trace_session.specs.Chrome.{chart_after, chosen_objects, chosen_wait,
 use Rattle.trace_session.specs.Counters.{CountsState, changed_objects, counter_objects, counters_in, counters_outside, counts_in, deleted_objects, first_counters, is_same_count, no_counts, queue_objects, ready_objects, stays_or_is_empty, step_counters, tells_counter, was_number}
 use Rattle.trace_session.specs.Spans.{looked_at, no_spans, observed_in, opening_spans, part_after, part_of}
 use Rattle.trace_session.specs.declared.choice.Kind.TheVariants as kinds
-use Rattle.trace_session.specs.declared.counts.QueueCount.{QueueCount}
+use Rattle.trace_session.specs.declared.numbers.QueueCount.{QueueCount}
 use Rattle.trace_session.proofs.Parting.{counted, up_to_less}
 
 -- ---- objects of which something holds

@@ -34,7 +34,7 @@ use Rattle.trace_session.specs.Counters.{counts_in, first_counters, queue_counts
 use Rattle.trace_session.specs.Shown.{kind_of_standing}
 use Rattle.trace_session.specs.Spans.{looked_by, part_after}
 use Rattle.trace_session.specs.declared.choice.Kind.TheVariants as kinds
-use Rattle.trace_session.specs.declared.counts.QueueCount.{QueueCount}
+use Rattle.trace_session.specs.declared.numbers.QueueCount.{QueueCount}
 use Rattle.trace_session.specs.Traced.{IsPutOf, how_text}
 
 -- ---- objects

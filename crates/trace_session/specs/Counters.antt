@@ -12,8 +12,8 @@ use Rattle.trace_json.specs.Chrome.{TraceObject, QueueMessages, ReadyTasks}
 use Rattle.trace_session.specs.Choice.{ChoiceState, is_among, is_of, is_step}
 use Rattle.trace_session.specs.declared.choice.Kind.{Kind}
 use Rattle.trace_session.specs.declared.choice.Kind.TheVariants as kinds
-use Rattle.trace_session.specs.declared.counts.Counts.{Counts}
-use Rattle.trace_session.specs.declared.counts.QueueCount.{QueueCount}
+use Rattle.trace_session.specs.declared.numbers.Counts.{Counts}
+use Rattle.trace_session.specs.declared.numbers.QueueCount.{QueueCount}
 
 -- ---- numbers
 -- a task is ready: it isn't suspended, waits for nothing and doesn't sleep

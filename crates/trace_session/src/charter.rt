@@ -19,7 +19,7 @@ ghost use Rattle.trace_session.specs.Steps.{line_of};
 
 use crate::choice::{Choice, Kind};
 use crate::counters::{add_first_counters, add_step_counters};
-use crate::counts::{Counts, QueueCount, QueueReader, ready_in};
+use crate::numbers::{Counts, QueueCount, QueueReader, ready_in};
 use crate::part_spans::{look, opening};
 use crate::reader::StepReader;
 use crate::shown::kind_of_standing;

@@ -10,7 +10,7 @@ ghost use Rattle.trace_session.specs.Counters.{changed_objects, counter_objects,
 ghost use Rattle.trace_session.specs.declared.choice.Kind.TheVariants as kinds;
 
 use crate::choice::{Choice, Kind};
-use crate::counts::{Counts, QueueCount};
+use crate::numbers::{Counts, QueueCount};
 use board_trace::{BeforeStep, Subject, is_instruction};
 use std::alloc::Global;
 use trace_json::{add_messages, add_ready};

@@ -14,7 +14,7 @@ use Rattle.trace_session.specs.Choice.{choice_state}
 use Rattle.trace_session.specs.Chrome.{charted, going_on, level_by, level_objects, line_objects, span_objects, step_flows, step_number}
 use Rattle.trace_session.specs.Counters.{CountsState, counted, counts_in, ready_in, step_counters}
 use Rattle.trace_session.specs.Spans.{looked_by}
-use Rattle.trace_session.specs.declared.counts.QueueReader.{QueueReader}
+use Rattle.trace_session.specs.declared.numbers.QueueReader.{QueueReader}
 use Rattle.trace_session.specs.declared.reader.StepReader.{StepReader}
 use Rattle.trace_session.specs.Steps.{line_of}
 use Rattle.trace_session.proofs.Lines.{happenings_are, lines_read}

@@ -1,5 +1,5 @@
 use Rattle.std.proofs.Common.{◌≡◌, length, map, take}
-use Rattle.trace_session.proofs.counts.take_counts.Given as goal
+use Rattle.trace_session.proofs.numbers.take_counts.Given as goal
 
 -- the first queues are counted
 abbrev pub invariant-loop-place : goal.invariant-loop-place

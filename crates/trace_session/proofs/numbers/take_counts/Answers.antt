@@ -2,7 +2,7 @@ use Rattle.std.proofs.Common.{◌<◌, ◌≤◌, ◌++◌, ◌∷◌, [], lengt
 use Rattle.kernel_world.specs.State.{WorldState}
 use Rattle.trace_session.specs.Counters.{queue_counts}
 use Rattle.trace_session.proofs.QueueRows.{all_of, one_more, row_at}
-use Rattle.trace_session.proofs.counts.take_counts.Goals as goal
+use Rattle.trace_session.proofs.numbers.take_counts.Goals as goal
 
 -- one more queue is counted
 pub loop-place-preserved : goal.loop-place-preserved
