@@ -1,5 +1,5 @@
 -- Members and the choices that they make.
-use Rattle.std.proofs.Common.{◌≡◌, ℕ, zero, suc, ◌+◌, ◌*◌, ◌/◌, ◌%◌, ◌<◌, ◌≤◌, List, [], ◌∷◌, ◌++◌, refl, sym, ap, ◌∙◌, subst, arith}
+use Rattle.std.proofs.Common.{◌≡◌, ℕ, zero, suc, ◌+◌, ◌*◌, ◌/◌, ◌%◌, ◌<◌, List, [], ◌∷◌, ◌++◌, refl, sym, ap, ◌∙◌, subst, arith}
 use Rattle.std.specs.List.{AllByRecursion}
 use Rattle.std.proofs.Math.Nat.{div-add-mod, mul_comm, one-le-mul, mul-div_cancel_left}
 use Rattle.std.proofs.lemmas.List.{append_assoc}
@@ -7,6 +7,7 @@ use Rattle.std.proofs.lemmas.Nat.{mul-add-lt, div-mul-add, mod-mul-add, div_belo
 use Rattle.tick_family.specs.declared.entry.Entry.{Entry}
 use Rattle.tick_file.specs.declared.event.Event.{Event}
 use Rattle.tick_family.specs.Members.{choices, members_of, choice_of, shift_below, entry_events, chosen_events}
+use Rattle.tick_family.specs.Ranges.{chosen_time, chosen_times}
 use Rattle.tick_family.specs.Inside.{IsEntry}
 use Rattle.tick_family.specs.Laws.{IsChoice, ChoiceLaw}
 
@@ -81,3 +82,13 @@ module _ (xs rest : List Entry) (x : Entry) (is : xs ≡ x ∷ rest) (entry : Is
       ap (λ (v : List (ℕ × Event)). v ++ below) e
       ∙ append_assoc events (entry_events shift x k) below
       ∙ sym (ap (λ (ys : List Entry). events ++ chosen_events shift ys (choice_of ys left)) is)
+
+  -- its time, and those of the entries below it
+  pub times_step : (left : ℕ) (times more : List ℕ) → more ≡ times ++ chosen_time x (left / members_of rest)
+      → more ++ chosen_times rest (choice_of rest (left % members_of rest)) ≡ times ++ chosen_times xs (choice_of xs left)
+  times_step left times more e =
+      let own = chosen_time x (left / members_of rest) in
+      let below = chosen_times rest (choice_of rest (left % members_of rest)) in
+      ap (λ (v : List ℕ). v ++ below) e
+      ∙ append_assoc times own below
+      ∙ sym (ap (λ (ys : List Entry). times ++ chosen_times ys (choice_of ys left)) is)

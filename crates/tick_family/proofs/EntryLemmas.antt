@@ -1,6 +1,6 @@
 -- What holds of an entry that a line has.
-use Rattle.std.proofs.Common.{◌≡◌, ℕ, ◌+◌, ◌-◌, ◌*◌, ◌/◌, ◌<◌, ◌≤◌, Bool, true, false, cond, List, [], ◌∷◌, length, Option, None, Some, refl, sym, ap, ◌∙◌, subst, arith}
-use Rattle.std.specs.Prelude.{nat_le, nat_lt, ◌==◌, ◌&&◌, Result, Ok, Err, max, codes}
+use Rattle.std.proofs.Common.{◌≡◌, ℕ, ◌+◌, ◌-◌, ◌*◌, ◌/◌, ◌<◌, ◌≤◌, Bool, true, false, cond, List, [], ◌∷◌, length, Option, None, Some, refl, subst, arith}
+use Rattle.std.specs.Prelude.{nat_le, nat_lt, ◌==◌, ◌&&◌, Result, Ok, Err, codes}
 use Rattle.std.specs.Str.{bytes_eq}
 use Rattle.std.specs.Str.Parse.{digits_value}
 use Rattle.std.proofs.Math.Nat.{div-mul-le_self, mul-le-mul_right}
@@ -22,8 +22,8 @@ use Rattle.tick_family.specs.declared.fault.Fault.TheVariants.{NotUnderstood, En
 use Rattle.tick_family.specs.declared.entry.Entry.{Entry}
 use Rattle.tick_family.specs.declared.entry.Entry.TheVariants.{Once, Every, Shift}
 use Rattle.tick_family.specs.declared.entry.Content.{Content}
-use Rattle.tick_family.specs.declared.entry.Content.TheVariants.{Nothing, Asks, Bad}
-use Rattle.tick_family.specs.Times.{time_at, one_time, range_of, before_byte, from_byte, single, range_in, step_in, range_to, times_from, times_of}
+use Rattle.tick_family.specs.declared.entry.Content.TheVariants.{Asks}
+use Rattle.tick_family.specs.Times.{one_time, range_of, before_byte, from_byte, single, range_in, step_in, range_to, times_from, times_of}
 use Rattle.tick_family.specs.Entries.{plain, with_first, ranged, shifting, beyond, content_by, content_of}
 use Rattle.tick_family.specs.Inside.{IsTimes, in_range, IsEntry, IsSmall}
 

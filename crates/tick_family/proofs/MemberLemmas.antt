@@ -1,9 +1,8 @@
 -- Each member of a family is a tick file.
-use Rattle.std.proofs.Common.{◌≡◌, ℕ, zero, suc, ◌+◌, ◌-◌, ◌*◌, ◌^◌, ◌<◌, ◌≤◌, Bool, true, false, cond, List, [], ◌∷◌, ◌++◌, length, refl, sym, ap, ◌∙◌, subst, arith}
-use Rattle.std.specs.Prelude.{nat_lt, nat_le, ◌||◌, ◌&&◌, Result, Ok, Err}
+use Rattle.std.proofs.Common.{◌≡◌, ℕ, zero, suc, ◌+◌, ◌-◌, ◌*◌, ◌<◌, ◌≤◌, Bool, true, false, cond, List, [], ◌∷◌, length, refl, sym, ◌∙◌, subst, arith}
+use Rattle.std.specs.Prelude.{nat_lt, nat_le, ◌||◌, ◌&&◌, Ok, Err}
 use Rattle.std.specs.Cmp.{IsStrictWeakOrder}
-use Rattle.std.specs.Ordering.{is_lt, nat_cmp}
-use Rattle.std.specs.List.{AllByRecursion, list_any, sum_by}
+use Rattle.std.specs.List.{AllByRecursion}
 use Rattle.std.proofs.Math.Nat.{mul-le-mul_right}
 use Rattle.std.proofs.lemmas.Bool.Decides.{nat_tests}
 use Rattle.std.proofs.lemmas.Cmp.{nat_cmp_total}
@@ -12,13 +11,12 @@ use Rattle.std.proofs.lemmas.List.Sorted.{sum_by-IsPermutation}
 use Rattle.id_table.specs.Sorting.{sorted}
 use Rattle.id_table.proofs.Sorting.{InOrder, in_order_sorted}
 use Rattle.id_table.proofs.Orders.{IsPermutation-sorted}
-use Rattle.wind_base.specs.Limits.{greatest_word, longest_text_file, longest_chunk, most_slots}
+use Rattle.wind_base.specs.Limits.{greatest_word, longest_text_file, longest_chunk}
 use Rattle.tick_file.specs.declared.event.Event.{Event}
 use Rattle.tick_file.specs.declared.event.Event.TheVariants.{Tick, Rx, Irq}
 use Rattle.tick_file.specs.Writing.{event_line, IsInRange, AreRecordable}
 use Rattle.tick_file.proofs.Merging.{all_both, all_weaker, all_sorted}
 use Rattle.tick_file.proofs.Writing.{written}
-use Rattle.tick_family.specs.declared.fault.Fault.{Fault}
 use Rattle.tick_family.specs.declared.fault.Fault.TheVariants.{TooManyMembers, TimeTooLate, TextTooLong}
 use Rattle.tick_family.specs.declared.times.Times.{Times}
 use Rattle.tick_family.specs.declared.entry.Entry.{Entry}
@@ -26,7 +24,7 @@ use Rattle.tick_family.specs.declared.entry.Entry.TheVariants.{Once, Every, Shif
 use Rattle.tick_family.specs.declared.extent.Extent.{Extent}
 use Rattle.tick_family.specs.Times.{time_at}
 use Rattle.tick_family.specs.Members.{choices, members_of, choice_of, shift_below, periodic, entry_events, chosen_events, earlier, member_events, member_text}
-use Rattle.tick_family.specs.Reading.{most_members, text_length, is_late, greatest, start, last_events, extended, grown, family_of}
+use Rattle.tick_family.specs.Reading.{most_members, text_length, is_late, greatest, start, last_events, extended, grown}
 use Rattle.tick_family.specs.Inside.{in_range, IsEntry, is_accepted, are_accepted}
 use Rattle.tick_family.specs.Laws.{IsChoice, IsTickFile, MemberLaw}
 use Rattle.tick_family.proofs.ChoiceLemmas.{makes_choice}

@@ -1,8 +1,7 @@
 -- A plain tick file is a family of one.
-use Rattle.std.proofs.Common.{◌≡◌, ℕ, zero, suc, ◌+◌, ◌*◌, ◌/◌, ◌%◌, ◌<◌, ◌≤◌, Bool, true, false, cond, List, [], ◌∷◌, ◌++◌, map, Option, None, Some, refl, sym, ap, ◌∙◌, subst, arith}
+use Rattle.std.proofs.Common.{◌≡◌, ℕ, zero, suc, ◌+◌, ◌*◌, ◌/◌, ◌%◌, ◌<◌, ◌≤◌, Bool, true, false, cond, List, [], ◌∷◌, ◌++◌, map, None, refl, sym, ap, ◌∙◌, arith}
 use Rattle.std.specs.Prelude.{not, ◌&&◌, ◌⊎◌, Result, Ok, Err}
 use mathlib.Core.Logic.{inl, inr, ⊎_elim}
-use Rattle.std.specs.Ordering.{is_lt, nat_cmp}
 use Rattle.std.specs.List.{AllByRecursion, list_all, flat_map}
 use Rattle.std.proofs.lemmas.Bool.Decides.{nat_tests}
 use Rattle.std.proofs.lemmas.List.{map-append}
@@ -17,19 +16,17 @@ use Rattle.tick_file.specs.declared.event.Said.TheVariants as said_of
 use Rattle.tick_file.specs.Grammar.{said}
 use Rattle.tick_file.specs.Forms.{IsLineOf}
 use Rattle.tick_file.specs.Lines.{tick_lines, Numbered, rule_at, rules_from, rules_of, bad_or, bad_from, first_bad_line}
-use Rattle.tick_file.specs.Schedule.{Timed, Timetable, events_from, events_of, before, in_order, event_of, brings_bytes, at, timetable_of}
+use Rattle.tick_file.specs.Schedule.{Timed, Timetable, events_from, events_of, before, event_of, brings_bytes, at, timetable_of}
 use Rattle.tick_file.specs.Writing.{bring_no_bytes}
 use Rattle.tick_file.proofs.FormLemmas.{grammar}
 use Rattle.tick_file.proofs.Merging.{all_both, all_weaker, all_sorted}
 use Rattle.tick_family.specs.declared.fault.Fault.{Fault}
 use Rattle.tick_family.specs.declared.entry.Entry.{Entry}
-use Rattle.tick_family.specs.declared.entry.Entry.TheVariants.{Once, Every, Shift}
 use Rattle.tick_family.specs.declared.extent.Extent.{Extent}
-use Rattle.tick_family.specs.Times.{time_at, one_time}
 use Rattle.tick_family.specs.Entries.{plain, content_by, content_of}
-use Rattle.tick_family.specs.Members.{choices, members_of, choice_of, shift_below, periodic, entry_events, chosen_events, earlier, member_events, member_text}
-use Rattle.tick_family.specs.Reading.{start, grown, onto, after_entry, after_content, read_from, family_of}
-use Rattle.tick_family.specs.Laws.{IsOfOne, PlainLaw}
+use Rattle.tick_family.specs.Members.{choices, members_of, choice_of, shift_below, periodic, entry_events, chosen_events, earlier, member_events}
+use Rattle.tick_family.specs.Reading.{start, grown, after_entry, after_content, read_from, family_of}
+use Rattle.tick_family.specs.Laws.{PlainLaw}
 use Rattle.tick_family.proofs.ReadingLemmas.{Read, onto_is, family_good}
 use Rattle.tick_family.proofs.MemberLemmas.{is_tick_file}
 

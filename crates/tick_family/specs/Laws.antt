@@ -1,8 +1,7 @@
 -- What the members of a family are, apart from how they are made.
-use Rattle.std.specs.Prelude.{ℕ, ◌<◌, ◌≤◌, ◌≡◌, ◌↔◌, List, [], ◌∷◌, length, map, None, Result, Ok}
-use Rattle.std.specs.List.{All}
+use Rattle.std.specs.Prelude.{ℕ, ◌<◌, ◌≤◌, ◌≡◌, List, [], ◌∷◌, length, map, None, Ok}
 use Rattle.wind_base.specs.Limits.{longest_text_file}
-use Rattle.tick_file.specs.Lines.{first_bad_line, rules_of}
+use Rattle.tick_file.specs.Lines.{first_bad_line}
 use Rattle.tick_file.specs.Schedule.{at, timetable_of}
 use Rattle.tick_file.specs.Writing.{numbered, bring_no_bytes}
 use Rattle.tick_family.specs.declared.entry.Entry.{Entry}

@@ -1,5 +1,5 @@
 -- The ranges of a family, and what a member chooses from each.
-use Rattle.std.specs.Prelude.{ℕ, ◌<◌, nat_lt, if◌then◌else◌, List, [], ◌∷◌, ◌++◌, Option, None, Some}
+use Rattle.std.specs.Prelude.{ℕ, nat_lt, if◌then◌else◌, List, [], ◌∷◌, ◌++◌, Option, None, Some}
 use Rattle.tick_family.specs.declared.entry.Entry.{Entry}
 use Rattle.tick_family.specs.declared.entry.Entry.TheVariants.{Once, Every, Shift}
 use Rattle.tick_family.specs.declared.times.Times.{Times}
@@ -24,12 +24,17 @@ abbrev pub ranges_in : List Entry → List Times
 ranges_in [] = []
 ranges_in (x ∷ xs) = before_range (range_in x) (ranges_in xs)
 
-abbrev pub before_time : Option Times → ℕ → List ℕ → List ℕ
-before_time None k times = times
-before_time (Some range) k times = time_at range k ∷ times
+-- the time of a range at a place
+abbrev pub time_in : Option Times → ℕ → List ℕ
+time_in None k = []
+time_in (Some range) k = time_at range k ∷ []
+
+-- the time that an entry chooses, if it has more than one
+abbrev pub chosen_time : Entry → ℕ → List ℕ
+chosen_time x k = time_in (range_in x) k
 
 -- the time chosen from each range, if each entry chooses the number at its place
 abbrev pub chosen_times : List Entry → List ℕ → List ℕ
 chosen_times [] ks = []
 chosen_times (x ∷ xs) [] = []
-chosen_times (x ∷ xs) (k ∷ ks) = before_time (range_in x) k (chosen_times xs ks)
+chosen_times (x ∷ xs) (k ∷ ks) = chosen_time x k ++ chosen_times xs ks

@@ -1,5 +1,5 @@
 -- How a family's text is read: its entries, or the first bad line and its fault.
-use Rattle.std.specs.Prelude.{ℕ, ◌+◌, ◌-◌, ◌*◌, ◌^◌, ◌≡◌, Bool, nat_lt, if◌then◌else◌, List, [], ◌∷◌, length, Option, None, Some, Result, Ok, Err}
+use Rattle.std.specs.Prelude.{ℕ, ◌+◌, ◌-◌, ◌*◌, ◌^◌, ◌≡◌, Bool, nat_lt, if◌then◌else◌, List, [], ◌∷◌, length, Result, Ok, Err}
 use Rattle.std.specs.List.{list_any, sum_by}
 use Rattle.wind_base.specs.Limits.{greatest_word, longest_text_file}
 use Rattle.tick_file.specs.declared.event.Event.{Event}

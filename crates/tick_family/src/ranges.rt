@@ -1,10 +1,10 @@
 //! The ranges of a family, and what a member chooses from each.
 
-ghost use Rattle.std.specs.Prelude.{◌≡◌, ◌<◌, ◌≤◌, IfOk};
+ghost use Rattle.std.specs.Prelude.{◌≡◌, ◌<◌, ◌≤◌, ◌++◌, [], IfOk, OnOk};
 ghost use Rattle.std.specs.List.{All};
 ghost use Rattle.tick_family.specs.Inside.{IsEntry};
-ghost use Rattle.tick_family.specs.Members.{choice_of, members_of};
-ghost use Rattle.tick_family.specs.Ranges.{chosen_times, range_in as range_in_lem, ranges_in};
+ghost use Rattle.tick_family.specs.Members.{choices as choices_lem, choice_of, members_of};
+ghost use Rattle.tick_family.specs.Ranges.{chosen_time, chosen_times, range_in as range_in_lem, ranges_in};
 
 use crate::entry::Entry;
 use crate::extent::choices;
@@ -34,6 +34,18 @@ pub(crate) fn ranges_of(alloc: Global, entries: &[Entry]) -> Result<Vec<Times>, 
     Ok(ranges)
 }
 
+// Adds the time that an entry chooses with number `place`, if it has more than one.
+fn add_time(times: &mut Vec<u64>, entry: Entry, place: u64) -> Result<(), AllocError>
+    requires entry { IsEntry entry }
+    requires inside { place < choices_lem entry }
+    ensures { OnOk result (times.new.items ≡ times.old.items ++ chosen_time entry place) }
+{
+    if let Some(range) = range_in(entry) {
+        times.push(time_at(range, place))?;
+    }
+    Ok(())
+}
+
 /// The times that member `number` chooses, one from each range.
 pub(crate) fn times_of(
     alloc: Global,
@@ -53,9 +65,7 @@ pub(crate) fn times_of(
         below /= choices(*entry);
         let place = left / below;
         left %= below;
-        if let Some(times) = range_in(*entry) {
-            chosen.push(time_at(times, place))?;
-        }
+        add_time(&mut chosen, *entry, place)?;
     }
     Ok(chosen)
 }

@@ -1,5 +1,4 @@
-use Rattle.std.proofs.Common.{◌≡◌, ◌∙◌, ℕ, List, ap, rules}
-use Rattle.std.specs.Fn.{ComputesKey}
+use Rattle.std.proofs.Common.{◌≡◌, ◌∙◌, ℕ, ap, rules}
 use Rattle.std.proofs.lemmas.Fn.{always_returns_same}
 use Rattle.id_table.specs.Sorting.{sorted}
 use Rattle.tick_file.specs.declared.event.Event.{Event}

@@ -1,7 +1,6 @@
-use Rattle.std.proofs.Common.{◌≡◌, ◌∙◌, rules, ap, sym}
-use Rattle.std.specs.List.{All}
+use Rattle.std.proofs.Common.{rules}
 use Rattle.std.proofs.lemmas.List.Elements.{recursion_from_All}
-use Rattle.tick_family.specs.Members.{member_events, member_text}
+use Rattle.tick_family.specs.Members.{member_events}
 use Rattle.tick_family.specs.Inside.{IsEntry}
 use Rattle.tick_family.proofs.MemberLemmas.{is_tick_file}
 use Rattle.tick_family.proofs.family.Family.text.Goals as goal
