@@ -1,1 +1,7 @@
+pub mod Command
+pub mod Members
+pub mod Reading
+pub mod Tables
 pub mod Witnesses
+pub mod Failures
+pub mod Sweeps

@@ -1,5 +1,12 @@
 //! Plays a sweep.
 
+ghost use Rattle.std.specs.Prelude.{◌≤◌, List, IfErr, OnOk};
+ghost use Rattle.wind_base.specs.Limits.{most_steps};
+ghost use Rattle.wind_outside.specs.Counts.{Rose};
+ghost use Rattle.sweep_table.specs.declared.table.Row.{Row as RowLem};
+ghost use Rattle.sweep_session.specs.Command.{sweep_state};
+ghost use Rattle.sweep_session.specs.Sweeps.{IsFailed, IsWanted, ShowsSweep, outputs_of};
+
 use crate::command::{PROGRAM, SweepCommand, Task, sweep_command_of};
 use crate::failure::Failure;
 use crate::inputs::{family_of, family_text, inputs_of};
@@ -25,7 +32,17 @@ fn play_whole<F: Folder, W: WitnessFolder, C: Clock, O: Sink, E: Sink>(
     clock: &mut C,
     out: &mut O,
     err: &mut E,
-) -> Result<(), Failure> {
+) -> Result<(), Failure>
+    requires { command.now.session.limit ≤ most_steps }
+    ensures shown { OnOk result ((rows : List RowLem) × ShowsSweep (sweep_state command.now) (F.files folder.old)
+        (outputs_of ⟦<O as Sink>⟧ ⟦<W as WitnessFolder>⟧ out.old witnesses.old)
+        (outputs_of ⟦<O as Sink>⟧ ⟦<W as WitnessFolder>⟧ out.new witnesses.new) rows
+        × IsWanted (sweep_state command.now) rows) }
+    ensures failed { IfErr result (λ f. IsFailed f (sweep_state command.now) (F.files folder.old)
+        (Rose (F.faults folder.old) (F.faults folder.new))
+        (outputs_of ⟦<O as Sink>⟧ ⟦<W as WitnessFolder>⟧ out.old witnesses.old)
+        (outputs_of ⟦<O as Sink>⟧ ⟦<W as WitnessFolder>⟧ out.new witnesses.new)) }
+{
     let inputs = inputs_of(alloc, command, folder)?;
     check_form(alloc, command, &inputs.family)?;
     let members = Members {

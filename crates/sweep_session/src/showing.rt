@@ -1,5 +1,18 @@
 //! Shows the outcomes of a sweep.
 
+ghost use Rattle.std.specs.Prelude.{◌≡◌, ◌≤◌, ◌<◌, List, ℕ, length, IfErr, OnOk};
+ghost use Rattle.std.specs.List.{All};
+ghost use Rattle.wind_outside.specs.Appending.{Appended, AppendedPrefix};
+ghost use Rattle.wind_outside.specs.Counts.{Rose};
+ghost use Rattle.tick_family.specs.Members.{members_of};
+ghost use Rattle.sweep_table.specs.declared.table.Row.{Row as RowLem};
+ghost use Rattle.sweep_table.specs.Table.{IsTable};
+ghost use Rattle.sweep_session.specs.Command.{sweep_state};
+ghost use Rattle.sweep_session.specs.Failures.{IsUnkept, IsUnput};
+ghost use Rattle.sweep_session.specs.Sweeps.{IsKeptIn, IsShownAs, IsUnshown, IsUndrawn, IsWanted, Shows, outputs_of};
+ghost use Rattle.sweep_session.specs.declared.command.Form.TheVariants as forms;
+ghost use Rattle.sweep_session.specs.Tables.{last_line as last_line_lem, table_text as table_text_lem};
+
 use crate::command::{Form, SweepCommand};
 use crate::failure::Failure;
 use crate::keeping::keep;
@@ -13,7 +26,12 @@ use wind_outside::{Put, Sink};
 use wind_session::Status;
 
 /// Puts a text.
-pub(crate) fn put<O: Sink>(out: &mut O, text: &[u8]) -> Result<(), Failure> {
+pub(crate) fn put<O: Sink>(out: &mut O, text: &[u8]) -> Result<(), Failure>
+    ensures put { OnOk result (Appended (O.bytes out.old) (O.bytes out.new) text.now) }
+    ensures part { AppendedPrefix (O.bytes out.old) (O.bytes out.new) text.now }
+    ensures unput { IfErr result (λ f. IsUnput f (Rose (O.faults out.old) (O.faults out.new))) }
+    ensures faults { O.faults out.old ≤ O.faults out.new }
+{
     match out.put(text) {
         Put::Done => Ok(()),
         Put::Failed => Err(Failure::Session(Status::WriteFault)),
@@ -25,7 +43,9 @@ pub(crate) fn check_form(
     alloc: Global,
     command: &SweepCommand,
     family: &Family,
-) -> Result<(), Failure> {
+) -> Result<(), Failure>
+    ensures { IfErr result (λ f. IsUndrawn f family.now) }
+{
     if command.form == Form::Table {
         return Ok(());
     }
@@ -41,9 +61,13 @@ fn put_table<O: Sink>(
     family: &Family,
     rows: &[Row],
     out: &mut O,
-) -> Result<(), Failure> {
-    let text = table_text(alloc, family, rows)?;
-    put(out, &text)
+) -> Result<(), Failure>
+    requires { All (λ (row : RowLem). row.first < members_of family.now) rows.now }
+    ensures put { OnOk result (Appended (O.bytes out.old) (O.bytes out.new) (table_text_lem family.now rows.now)) }
+    ensures unput { IfErr result (λ f. IsUnput f (Rose (O.faults out.old) (O.faults out.new))) }
+    ensures faults { O.faults out.old ≤ O.faults out.new }
+{
+    put(out, &table_text(alloc, family, rows)?)
 }
 
 // Puts the whole table.
@@ -52,7 +76,12 @@ fn put_whole_table<O: Sink>(
     family: &Family,
     rows: &[Row],
     out: &mut O,
-) -> Result<(), Failure> {
+) -> Result<(), Failure>
+    requires { All (λ (row : RowLem). row.first < members_of family.now) rows.now }
+    ensures put { OnOk result (IsShownAs forms.Table family.now rows.now (O.bytes out.old) (O.bytes out.new)) }
+    ensures unput { IfErr result (λ f. IsUnput f (Rose (O.faults out.old) (O.faults out.new))) }
+    ensures faults { O.faults out.old ≤ O.faults out.new }
+{
     put_table(alloc, family, rows, out)?;
     put(out, &last_line(alloc, family)?)
 }
@@ -64,7 +93,11 @@ fn put_picture<O: Sink>(
     sweep: &Sweep,
     rows: &[Row],
     out: &mut O,
-) -> Result<(), Failure> {
+) -> Result<(), Failure>
+    ensures put { OnOk result (IsShownAs forms.Picture family.now rows.now (O.bytes out.old) (O.bytes out.new)) }
+    ensures unput { IfErr result (λ f. IsUnput f (Rose (O.faults out.old) (O.faults out.new))) }
+    ensures faults { O.faults out.old ≤ O.faults out.new }
+{
     let ranges = family.ranges(alloc)?;
     let picture = Picture {
         ranges: &ranges,
@@ -76,13 +109,58 @@ fn put_picture<O: Sink>(
     put(out, &text)
 }
 
+// Puts the rows in the form that is asked for.
+fn put_rows<O: Sink>(
+    alloc: Global,
+    form: Form,
+    family: &Family,
+    sweep: &Sweep,
+    rows: &[Row],
+    out: &mut O,
+) -> Result<(), Failure>
+    requires { All (λ (row : RowLem). row.first < members_of family.now) rows.now }
+    ensures put { OnOk result (IsShownAs form family.now rows.now (O.bytes out.old) (O.bytes out.new)) }
+    ensures unput { IfErr result (λ f. IsUnput f (Rose (O.faults out.old) (O.faults out.new))) }
+    ensures faults { O.faults out.old ≤ O.faults out.new }
+{
+    match form {
+        Form::Table => put_whole_table(alloc, family, rows, out),
+        Form::Picture => put_picture(alloc, family, sweep, rows, out),
+    }
+}
+
+// Keeps a tick file of each row, if a folder is asked for.
+fn keep_rows<W: WitnessFolder>(
+    alloc: Global,
+    family: &Family,
+    rows: &[Row],
+    folder: &str,
+    witnesses: &mut W,
+) -> Result<(), Failure>
+    requires { All (λ (row : RowLem). row.first < members_of family.now) rows.now }
+    ensures kept { OnOk result (IsKeptIn folder.now family.now rows.now (W.files witnesses.old) (W.files witnesses.new)) }
+    ensures unkept { IfErr result (λ f. IsUnkept f (W.files witnesses.new) (Rose (W.faults witnesses.old) (W.faults witnesses.new))) }
+    ensures faults { W.faults witnesses.old ≤ W.faults witnesses.new }
+{
+    if folder.is_empty() {
+        return Ok(());
+    }
+    keep(alloc, family, rows, folder, witnesses)
+}
+
 /// Shows what was found before the sweep stopped: the table without its last line.
 pub(crate) fn show_found<O: Sink>(
     alloc: Global,
     family: &Family,
     sweep: &Sweep,
     out: &mut O,
-) -> Result<(), Failure> {
+) -> Result<(), Failure>
+    requires { length sweep.now ≤ members_of family.now }
+    ensures found { OnOk result ((rows : List RowLem) × IsTable sweep.now rows
+        × Appended (O.bytes out.old) (O.bytes out.new) (table_text_lem family.now rows)) }
+    ensures unput { IfErr result (λ f. IsUnput f (Rose (O.faults out.old) (O.faults out.new))) }
+    ensures faults { O.faults out.old ≤ O.faults out.new }
+{
     let rows = sweep.rows(alloc)?;
     put_table(alloc, family, &rows, out)
 }
@@ -96,15 +174,20 @@ pub(crate) fn show<W: WitnessFolder, O: Sink>(
     sweep: &Sweep,
     witnesses: &mut W,
     out: &mut O,
-) -> Result<(), Failure> {
+) -> Result<(), Failure>
+    requires { length sweep.now ≡ members_of family.now }
+    ensures shown { OnOk result ((rows : List RowLem) × IsTable sweep.now rows
+        × Shows (sweep_state command.now) family.now rows
+        (outputs_of ⟦<O as Sink>⟧ ⟦<W as WitnessFolder>⟧ out.old witnesses.old)
+        (outputs_of ⟦<O as Sink>⟧ ⟦<W as WitnessFolder>⟧ out.new witnesses.new)
+        × IsWanted (sweep_state command.now) rows) }
+    ensures unshown { IfErr result (λ f. IsUnshown f (sweep_state command.now) family.now sweep.now
+        (outputs_of ⟦<O as Sink>⟧ ⟦<W as WitnessFolder>⟧ out.old witnesses.old)
+        (outputs_of ⟦<O as Sink>⟧ ⟦<W as WitnessFolder>⟧ out.new witnesses.new)) }
+{
     let rows = sweep.rows(alloc)?;
-    match command.form {
-        Form::Table => put_whole_table(alloc, family, &rows, out)?,
-        Form::Picture => put_picture(alloc, family, sweep, &rows, out)?,
-    }
-    if !command.keep.is_empty() {
-        keep(alloc, family, &rows, command.keep, witnesses)?;
-    }
+    put_rows(alloc, command.form, family, sweep, &rows, out)?;
+    keep_rows(alloc, family, &rows, command.keep, witnesses)?;
     if command.same && rows.len() > 1 {
         return Err(Failure::Differs(rows.len()));
     }

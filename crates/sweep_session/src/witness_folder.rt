@@ -1,6 +1,6 @@
 //! The folder in which a tick file of each outcome is kept.
 
-ghost use Rattle.std.specs.Prelude.{◌≡◌, ℕ, ◌≤◌, Option};
+ghost use Rattle.std.specs.Prelude.{◌≡◌, ℕ, ◌≤◌, Option, IfSome, IsSome};
 ghost use Rattle.wind_outside.specs.Counts.{Rose};
 ghost use Rattle.wind_outside.specs.Files.{Files};
 ghost use Rattle.wind_outside.specs.declared.sink.Put.TheVariants as puts;
@@ -40,7 +40,8 @@ pub trait WitnessFolder {
     /// folder may keep a part of a new file if it can't remove it.
     fn create(&mut self, name: &str, bytes: &[u8]) -> Created
         ensures done { result ≡ created.Done → IsCreated (files self.old) (files self.new) name.now bytes.now }
-        ensures there { result ≡ created.AlreadyThere → files self.new ≡ files self.old }
+        ensures there { result ≡ created.AlreadyThere → (files self.new ≡ files self.old)
+            × IfSome (files self.old) (λ held. IsSome (held name.now)) }
         ensures kept { result ≡ created.Failed → files self.new ≡ files self.old }
         ensures failed { result ≡ created.Failed → Rose (faults self.old) (faults self.new) }
         ensures never_falls { faults self.old ≤ faults self.new };
