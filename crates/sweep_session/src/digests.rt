@@ -4,7 +4,7 @@ use crate::inputs::Inputs;
 use sha2::{Digest, Sha256};
 use std::alloc::{AllocError, Global};
 use sweep_run::{FileAnswer, KeptFiles, Start};
-use sweep_table::FileDigest;
+use sweep_parts::FileDigest;
 use wind_base::{BoardKind, Profile};
 
 // The digest of a file's content: its SHA-256, in hexadecimal digits.

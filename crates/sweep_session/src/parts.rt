@@ -9,7 +9,8 @@ use crate::showing::put;
 use crate::sweeping::{Members, sweep_members};
 use std::alloc::{AllocError, Global};
 use sweep_run::KeptFiles;
-use sweep_table::{Part, Sweep, part_text};
+use sweep_parts::{Part, part_text};
+use sweep_table::Sweep;
 use wind_outside::{Folder, Sink};
 
 // How many members the parts up to number `part` have, of so many parts.

@@ -1,10 +1,10 @@
 -- Runs, and what more members at their end change.
-use Rattle.std.proofs.Common.{◌≡◌, ℕ, zero, suc, ◌+◌, ◌-◌, ◌<◌, ◌≤◌, Bool, true, false, cond, List, [], ◌∷◌, ◌++◌, length, get_or, set, take, drop, replicate, refl, sym, ap, ◌∙◌, subst, arith}
-use Rattle.std.specs.Prelude.{◌==◌, slice_index_or}
+use Rattle.std.proofs.Common.{◌≡◌, ◌≢◌, ℕ, zero, suc, ◌+◌, ◌-◌, ◌<◌, ◌≤◌, Bool, true, false, cond, List, [], ◌∷◌, ◌++◌, length, get_or, set, take, drop, replicate, refl, sym, ap, ◌∙◌, subst, arith}
+use Rattle.std.specs.Prelude.{◌==◌}
 use Rattle.std.specs.List.{All}
 use Rattle.std.proofs.lemmas.List.{append_assoc, append-nil, take_more, take_more_set, take_all, take_at, length-set, length-append, length-replicate}
 use Rattle.std.proofs.Math.Seq.{drop-cons}
-use Rattle.std.proofs.lemmas.List.Elements.{All-append, All-push, All-take}
+use Rattle.std.proofs.lemmas.List.Elements.{All-push, All-take}
 use Rattle.std.proofs.lemmas.Bool.Decides.{nat_tests}
 use Rattle.sweep_table.specs.declared.runs.Run.{Run}
 use Rattle.sweep_table.specs.Runs.{outcome_at, outcomes_in, members_in, count_at, first_at, Grows}
@@ -119,3 +119,41 @@ first_le k (r ∷ rs) = first_cond (r.place == k) r.length (first_at k rs) (memb
 
 pub left_is : (rs : List Run) (i : ℕ) (d : Run) → i < length rs → drop i rs ≡ get_or rs i d ∷ drop (i + 1) rs
 left_is rs i d h = let e : suc i ≡ i + 1 = omega arith in drop-cons rs i d h ∙ ap (λ n. get_or rs i d ∷ drop n rs) e
+
+-- the length of a run of those that are left fits
+pub count_here : (k : ℕ) (rs : List Run) (i n : ℕ) (d : Run) → i < length rs → (get_or rs i d).place ≡ k → n + count_at k (drop i rs) ≡ count_at k rs → n + (get_or rs i d).length ≤ members_in rs
+count_here k rs i n d h at e =
+    let run = get_or rs i d in
+    let t : (run.place == k) ≡ true = grind (arith, nat_tests) in
+    let here : cond (run.place == k) run.length 0 ≡ run.length = ap (λ b. cond b run.length 0) t in
+    let left : count_at k (drop i rs) ≡ cond (run.place == k) run.length 0 + count_at k (drop (i + 1) rs) = ap (count_at k) (left_is rs i d h) in
+    omega (arith, count_le k rs, e, here, left)
+
+pub first_here : (k : ℕ) (rs : List Run) (i n : ℕ) (d : Run) → i < length rs → (get_or rs i d).place ≢ k → n + first_at k (drop i rs) ≡ first_at k rs → n + (get_or rs i d).length ≤ members_in rs
+first_here k rs i n d h other e =
+    let run = get_or rs i d in
+    let t : (run.place == k) ≡ false = grind (arith, nat_tests) in
+    let left : first_at k (drop i rs) ≡ cond (run.place == k) 0 (run.length + first_at k (drop (i + 1) rs)) = ap (first_at k) (left_is rs i d h) in
+    let here : cond (run.place == k) 0 (run.length + first_at k (drop (i + 1) rs)) ≡ run.length + first_at k (drop (i + 1) rs) = ap (λ b. cond b 0 (run.length + first_at k (drop (i + 1) rs))) t in
+    omega (arith, first_le k rs, e, here, left)
+
+-- the members of a run are members of all
+pub length_le : (rs : List Run) (i : ℕ) (d : Run) → i < length rs → (get_or rs i d).length ≤ members_in rs
+length_le [] i d h = absurd (omega (arith, h))
+length_le (r ∷ rs) zero d h = omega arith
+length_le (r ∷ rs) (suc i) d h = omega (arith, length_le rs i d (omega (arith, h)))
+
+pub last_fits : (rs : List Run) (last : Run) (n : ℕ) → n < length rs → last ≡ get_or rs n last → last.length ≤ members_in rs
+last_fits rs last n h is = subst (λ k. k ≤ members_in rs) (sym (ap (λ (r : Run). r.length) is)) (length_le rs n last h)
+
+-- the last run, as it was read, with more members
+pub grows_at : (rs : List Run) (last : Run) (n place more : ℕ) → 0 < length rs → n ≡ length rs - 1 → (get_or rs (length rs - 1) last).place ≡ place → last ≡ get_or rs n last
+    → Grows rs (set rs n (record { length = last.length + more; place = last.place })) place more
+grows_at rs last n place more some e at is =
+    let own : last ≡ get_or rs (length rs - 1) last = is ∙ ap (λ k. get_or rs k last) e in
+    let made : List Run = set rs n (record { length = last.length + more; place = last.place }) in
+    let same : made ≡ set rs (length rs - 1) (record (get_or rs (length rs - 1) last) { length = (get_or rs (length rs - 1) last).length + more }) =
+    ap (λ k. set rs k (record { length = last.length + more; place = last.place })) e
+    ∙ ap (λ (r : Run). set rs (length rs - 1) (record { length = r.length + more; place = r.place })) own in
+    let P : List Run → Type 0 = λ v. Grows rs v place more in
+    subst P (sym same) (grows_last rs last some place more at)

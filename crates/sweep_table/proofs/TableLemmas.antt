@@ -1,22 +1,22 @@
 -- The table of runs.
-use Rattle.std.proofs.Common.{◌≡◌, ◌≢◌, ℕ, zero, suc, ◌+◌, ◌-◌, ◌*◌, ◌<◌, ◌≤◌, Bool, true, false, cond, List, [], ◌∷◌, ◌++◌, length, get_or, take, replicate, refl, sym, ap, ◌∙◌, subst, arith}
-use Rattle.std.specs.Prelude.{◌==◌, ◌&&◌, ◌||◌, not, nat_lt, count_by, slice_index_or}
+use Rattle.std.proofs.Common.{◌≡◌, ◌≢◌, ℕ, zero, suc, ◌+◌, ◌*◌, ◌<◌, ◌≤◌, Bool, true, false, cond, List, [], ◌∷◌, ◌++◌, length, get_or, take, replicate, refl, sym, ap, ◌∙◌, arith}
+use Rattle.std.specs.Prelude.{◌==◌, ◌&&◌, ◌||◌, not, nat_lt, count_by}
 use mathlib.Core.Logic.{⊎_elim}
 use Rattle.std.specs.Cmp.{IsStrictWeakOrder}
 use Rattle.std.specs.Ordering.{is_lt, nat_cmp, ordering_then}
-use Rattle.std.specs.List.{All, AllPairs, list_any, sum_by, position_or_len}
-use Rattle.std.specs.List.Sorted.{IsPermutation, IsSortedBy, ties}
+use Rattle.std.specs.List.{All, list_any, position_or_len}
+use Rattle.std.specs.List.Sorted.{IsPermutation, IsSortedBy}
 use Rattle.std.specs.Str.{bytes_eq}
 use Rattle.std.proofs.lemmas.Bool.{cases_eq, cases_lt}
 use Rattle.std.proofs.lemmas.Bool.Decides.{nat_tests}
-use Rattle.std.proofs.lemmas.List.{get_or-take, length-append, length-take-le}
-use Rattle.std.proofs.lemmas.List.Elements.{All-append, All-push, All-tail, All-replicate, All-get_or}
+use Rattle.std.proofs.lemmas.List.{get_or-take, length-take-le}
+use Rattle.std.proofs.lemmas.List.Elements.{All-append, All-push, All-tail, All-replicate}
 use Rattle.std.proofs.lemmas.List.Folds.{list_any-append, sum_by-replicate}
-use Rattle.std.proofs.lemmas.List.Sorted.{sorted_far, All-permutation, list_any-IsPermutation, sum_by-IsPermutation, length_permutation}
-use Rattle.std.proofs.lemmas.List.Sums.{sum_by-append, sum_by-cons, sum_by_more_le}
+use Rattle.std.proofs.lemmas.List.Sorted.{sorted_far, All-permutation, list_any-IsPermutation, sum_by-IsPermutation}
+use Rattle.std.proofs.lemmas.List.Sums.{sum_by-append, sum_by_more_le}
 use Rattle.sweep_table.specs.declared.runs.Run.{Run}
 use Rattle.sweep_table.specs.declared.table.Row.{Row}
-use Rattle.sweep_table.specs.Runs.{outcome_at, outcomes_in, members_in, count_at, first_at, AreApart, IsSweep}
+use Rattle.sweep_table.specs.Runs.{outcome_at, outcomes_in, count_at, first_at, AreApart, IsSweep}
 use Rattle.sweep_table.specs.Table.{count_of, first_of, IsRow, stands_before, IsTable, row_at, rows_below}
 use Rattle.sweep_table.proofs.TallyLemmas.{same_bytes, other_bytes}
 
@@ -173,7 +173,7 @@ not_before_n (suc n) v known runs h =
     let f : (first_at n runs == v) ≡ false = grind (arith, nat_tests) in
     sum_by-append (λ r. cond (begins_at v r) 1 0) (rows_below n known runs) (row_at known runs n ∷ [])
     ∙ ap (λ m. m + count_by (begins_at v) (row_at known runs n ∷ [])) (not_before_n n v known runs (λ k l. h k (omega (arith, l))))
-    ∙ ap (λ b. 0 + (cond b 1 0 + 0)) f
+    ∙ ap (λ b. 0 + (0 + cond b 1 0)) f
 
 once : (n v : ℕ) (known : List (List ℕ)) (runs : List Run) (members : ℕ) → IsSweep known runs members → n ≤ length known → count_by (begins_at v) (rows_below n known runs) ≤ 1
 once zero v known runs members s h = omega arith
@@ -184,11 +184,11 @@ once (suc n) v known runs members s h =
     let none = not_before_n n v known runs
     (λ k l x. firsts_differ k n runs (λ q. absurd (omega (arith, q, l))) (s.used k (omega (arith, l, h))) (s.used n (omega (arith, h))) s.some (x ∙ sym e)) in
     let t : (first_at n runs == v) ≡ true = grind (arith, nat_tests) in
-    let one : count_by (begins_at v) (row_at known runs n ∷ []) ≡ 1 = ap (λ b. cond b 1 0 + 0) t in
+    let one : count_by (begins_at v) (row_at known runs n ∷ []) ≡ 1 = ap (λ b. 0 + cond b 1 0) t in
     omega (arith, both, none, one))
     (λ e.
     let f : (first_at n runs == v) ≡ false = grind (arith, nat_tests) in
-    let zero_of : count_by (begins_at v) (row_at known runs n ∷ []) ≡ 0 = ap (λ b. cond b 1 0 + 0) f in
+    let zero_of : count_by (begins_at v) (row_at known runs n ∷ []) ≡ 0 = ap (λ b. 0 + cond b 1 0) f in
     omega (arith, both, zero_of, once n v known runs members s (omega (arith, h))))
     (cases_eq (first_at n runs) v)
 

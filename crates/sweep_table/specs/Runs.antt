@@ -1,6 +1,6 @@
 -- The outcomes of members one after another, as runs of equal outcomes.
 use Rattle.std.specs.Prelude.{◌≡◌, ℕ, ◌+◌, ◌<◌, ◌≤◌, ◌^◌, false, true, ◌==◌, if◌then◌else◌, List, [], ◌∷◌, ◌++◌, length, replicate, take, slice_index_or}
-use Rattle.std.specs.List.{All, AllPairs, list_any, sum_by}
+use Rattle.std.specs.List.{All, AllPairs, list_any}
 use Rattle.std.specs.Str.{bytes_eq}
 use Rattle.sweep_table.specs.declared.runs.Run.{Run}
 use Rattle.sweep_table.specs.declared.tally.Tally.{Tally}

@@ -4,9 +4,9 @@ ghost use Rattle.std.specs.Prelude.{◌≡◌, ◌+◌, ◌<◌, ◌^◌, ◌++�
 ghost use Rattle.sweep_table.specs.Runs.{outcomes_in, outcomes_of, IsTally, IsSweep, HasTooMany, IsJoined, IsJoinedPart};
 ghost use Rattle.sweep_table.specs.declared.tally.AddErr.TheVariants as errors;
 
-use crate::tally::{AddErr, Tally, add};
 use crate::outcome::Outcome;
 use crate::runs::Run;
+use crate::tally::{AddErr, Tally, add};
 use std::alloc::Global;
 
 /// Adds runs of members that have known outcomes. If that fails, a prefix of them is added.

@@ -1,7 +1,7 @@
 //! The outcomes of a sweep.
 
 ghost use Rattle.std.specs.Prelude.{◌≡◌, ◌+◌, ◌<◌, ◌^◌, ◌∷◌, ◌++◌, [], length, take, replicate, ℕ, OnOk, OnErr, IfOk};
-ghost use Rattle.sweep_table.specs.Runs.{HasTooMany};
+ghost use Rattle.sweep_table.specs.Runs.{outcomes_in, HasTooMany, IsSweep};
 ghost use Rattle.sweep_table.specs.Table.{IsTable};
 ghost use Rattle.sweep_table.specs.declared.tally.AddErr.TheVariants as errors;
 
@@ -18,6 +18,15 @@ use std::marker::Model;
 #[derive(Drop)]
 pub struct Sweep {
     tally: Tally,
+}
+
+/// The outcomes of members as runs of neighbours with one outcome.
+#[derive(Clone, Copy)]
+pub struct Encoding<'a> {
+    /// The outcomes that occur.
+    pub known: &'a [Outcome],
+    /// The runs, in the order of the members.
+    pub runs: &'a [Run],
 }
 
 impl Model for Sweep {
@@ -44,14 +53,15 @@ impl Sweep {
         Sweep { tally }
     }
 
-    /// The outcomes that occur, in the order of their first members.
-    pub fn known(&self) -> &[Outcome] {
-        &self.tally.known
-    }
-
-    /// The runs of members with equal outcomes, in order.
-    pub fn runs(&self) -> &[Run] {
-        &self.tally.runs
+    /// The outcomes that occur, and the runs of members that have them.
+    pub fn encoding(&self) -> Encoding<'_>
+        ensures sound { IsSweep result.known.now result.runs.now (length self.now) }
+        ensures outcomes { self.now ≡ outcomes_in result.known.now result.runs.now }
+    {
+        Encoding {
+            known: &self.tally.known,
+            runs: &self.tally.runs,
+        }
     }
 
     /// How many members there are.
@@ -81,13 +91,24 @@ impl Sweep {
         ensures err { OnErr result ((part : ℕ) × (self.new ≡ self.old ++ take part next.now)) }
     {
         let next = &next.tally;
-        join(alloc, &mut self.tally, &next.known, &next.runs, next.members)
+        join(
+            alloc,
+            &mut self.tally,
+            &next.known,
+            &next.runs,
+            next.members,
+        )
     }
 
     /// The table.
     pub fn rows(&self, alloc: Global) -> Result<Vec<Row>, AllocError>
         ensures { IfOk result (λ rows. IsTable self.now rows.items) }
     {
-        rows(alloc, &self.tally.known, &self.tally.runs, self.tally.members)
+        rows(
+            alloc,
+            &self.tally.known,
+            &self.tally.runs,
+            self.tally.members,
+        )
     }
 }

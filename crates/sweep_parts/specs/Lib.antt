@@ -1,0 +1,5 @@
+pub mod Parts
+pub mod PartText
+pub mod Writing
+pub mod Merging
+pub mod Laws
