@@ -69,18 +69,35 @@ impl Failure {
 }
 
 impl From<Status> for Failure {
+    ghost use Rattle.std.specs.Prelude.{◌≡◌};
+    ghost use Rattle.sweep_session.specs.declared.failure.Failure.TheVariants as failures;
+
+    ghost from_gives = { λ status f. f ≡ failures.Session status };
+
     fn from(status: Status) -> Failure {
         Failure::Session(status)
     }
 }
 
 impl From<NoMemory> for Failure {
+    ghost use Rattle.std.specs.Prelude.{◌≡◌};
+    ghost use Rattle.wind_session.specs.declared.ending.Status.TheVariants as status;
+    ghost use Rattle.sweep_session.specs.declared.failure.Failure.TheVariants as failures;
+
+    ghost from_gives = { λ _ f. f ≡ failures.Session status.NoMemory };
+
     fn from(_error: NoMemory) -> Failure {
         Failure::Session(Status::NoMemory)
     }
 }
 
 impl From<AllocError> for Failure {
+    ghost use Rattle.std.specs.Prelude.{◌≡◌};
+    ghost use Rattle.wind_session.specs.declared.ending.Status.TheVariants as status;
+    ghost use Rattle.sweep_session.specs.declared.failure.Failure.TheVariants as failures;
+
+    ghost from_gives = { λ _ f. f ≡ failures.Session status.NoMemory };
+
     fn from(_error: AllocError) -> Failure {
         Failure::Session(Status::NoMemory)
     }
