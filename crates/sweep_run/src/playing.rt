@@ -86,7 +86,7 @@ fn play_on<F: Folder>(
 ) -> Result<Vec<u8>, Status>
     requires devices { slots_of kind_of words_of slots.items ≡ opening_devices }
     requires limit { start.now.limit ≤ most_steps }
-    ensures outcome { IfOk result (λ text. IsOutcome (start_state start.now) (kept_of kept.new) schedule.old text.items) }
+    ensures outcome { IfOk result (λ text. IsOutcome (start_state start.now) (kept_of kept.new) schedule text.items) }
     ensures given_up { IfErr result (λ s. IsGivenUp s (Rose (F.faults folder.old) (F.faults folder.new))) }
     ensures fetches { Fetches (asked_of ⟦<F as Folder>⟧ folder.old) (asked_of ⟦<F as Folder>⟧ folder.new)
         (kept_of kept.old) (kept_of kept.new) }
@@ -109,7 +109,7 @@ pub fn play<F: Folder>(
     folder: &mut F,
 ) -> Result<Vec<u8>, Status>
     requires { start.now.limit ≤ most_steps }
-    ensures outcome { IfOk result (λ text. IsOutcome (start_state start.now) (kept_of kept.new) schedule.old text.items) }
+    ensures outcome { IfOk result (λ text. IsOutcome (start_state start.now) (kept_of kept.new) schedule text.items) }
     ensures given_up { IfErr result (λ s. IsGivenUp s (Rose (F.faults folder.old) (F.faults folder.new))) }
     ensures fetches { Fetches (asked_of ⟦<F as Folder>⟧ folder.old) (asked_of ⟦<F as Folder>⟧ folder.new)
         (kept_of kept.old) (kept_of kept.new) }
