@@ -47,11 +47,7 @@ fn add_if_marked(text: &mut Vec<u8>, marks: &[&str], line: &[u8]) -> Result<(), 
 }
 
 /// Adds the marked lines of a console's text, each without its prompts and after the end of a line.
-pub(crate) fn add_marked(
-    text: &mut Vec<u8>,
-    marks: &[&str],
-    console: &[u8],
-) -> Result<(), NoMemory>
+pub(crate) fn add_marked(text: &mut Vec<u8>, marks: &[&str], console: &[u8]) -> Result<(), NoMemory>
     ensures { OnOk result (text.new.items
         ≡ text.old.items ++ marked_text (map (λ m. m.now) marks.now) console.now) }
 {

@@ -91,7 +91,14 @@ fn play_on<F: Folder>(
     ensures fetches { Fetches (asked_of ⟦<F as Folder>⟧ folder.old) (asked_of ⟦<F as Folder>⟧ folder.new)
         (kept_of kept.old) (kept_of kept.new) }
 {
-    let mut board = boot(alloc, slots, &start.console, schedule, start.profile, start.kind)?;
+    let mut board = boot(
+        alloc,
+        slots,
+        &start.console,
+        schedule,
+        start.profile,
+        start.kind,
+    )?;
     outcome_from(alloc, start, &mut board, kept, folder)
 }
 

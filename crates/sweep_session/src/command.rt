@@ -63,7 +63,8 @@ const BAD_NUMBER: &str = "'--ticks-of <I>' takes 1 to 13 digits, and at most 100
 
 const BAD_TASKS: &str = "'--part', '--merge' and '--ticks-of' exclude one another";
 
-const BAD_PART_FORM: &str = "'--as', '--keep' and '--same' take no '--part': give them to '--merge'";
+const BAD_PART_FORM: &str =
+    "'--as', '--keep' and '--same' take no '--part': give them to '--merge'";
 
 // The most parts, and the greatest number of a member.
 const MOST: u64 = 1_000_000_000_000;
@@ -225,7 +226,10 @@ fn form_named(name: &str) -> Option<Form> {
 }
 
 // The marks, if none has a line end.
-fn marks_of<'a>(alloc: Global, matches: &ArgMatches<'a>) -> Result<Option<Vec<&'a str>>, AllocError> {
+fn marks_of<'a>(
+    alloc: Global,
+    matches: &ArgMatches<'a>,
+) -> Result<Option<Vec<&'a str>>, AllocError> {
     let mut marks = Vec::new(alloc);
     for mark in matches.get_strs("mark").unwrap_or(&[]) {
         if mark.as_bytes().contains(&b'\n') {

@@ -3,8 +3,8 @@
 use crate::inputs::Inputs;
 use sha2::{Digest, Sha256};
 use std::alloc::{AllocError, Global};
-use sweep_run::{FileAnswer, KeptFiles, Start};
 use sweep_parts::FileDigest;
+use sweep_run::{FileAnswer, KeptFiles, Start};
 use wind_base::{BoardKind, Profile};
 
 // The digest of a file's content: its SHA-256, in hexadecimal digits.
@@ -66,8 +66,7 @@ pub(crate) fn words_of(alloc: Global, start: &Start) -> Result<Vec<u8>, AllocErr
     let (limit, modules) = (start.limit, start.modules);
     let profile = profile_number(start.profile);
     let board = board_number(start.kind);
-    let words = format!(
-        in alloc;
+    let words = format!(in alloc;
         "--modules={modules}\n--limit={limit}\n--profile={profile}\n--board={board}\n"
     )?;
     let mut text = words.into_bytes();

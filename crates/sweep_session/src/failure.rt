@@ -61,7 +61,8 @@ impl Failure {
             Failure::Session(status) => status.number(),
             Failure::NoMember(_) | Failure::NotDrawn(_) => 1,
             Failure::BadFamily(..) => 7,
-            Failure::BadPart(..) | Failure::Missing(_) | Failure::NoPart | Failure::NotKept(..) => 9,
+            Failure::BadPart(..) | Failure::Missing(_) | Failure::NoPart | Failure::NotKept(..) =>
+                9,
             Failure::TooMany(..) => 10,
             Failure::Differs(_) => 11,
         }

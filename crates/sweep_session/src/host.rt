@@ -63,7 +63,11 @@ pub struct HostClock<R: std::rt::Clock + Drop> {
 impl<R: std::rt::Clock + Drop> HostClock<R> {
     /// A clock, if progress is to be told.
     pub fn new(rt: R, is_told: bool) -> HostClock<R> {
-        let start = if is_told { Instant::now(&rt).ok() } else { None };
+        let start = if is_told {
+            Instant::now(&rt).ok()
+        } else {
+            None
+        };
         HostClock { rt, start }
     }
 }

@@ -36,17 +36,11 @@ fn keep_text(alloc: Global, name: &str, fault: KeepFault) -> Result<String, Allo
 }
 
 // The message for a failure that isn't one of a session of windplay.
-fn text_of(
-    alloc: Global,
-    command: &SweepCommand,
-    failure: &Failure,
-) -> Result<String, AllocError> {
+fn text_of(alloc: Global, command: &SweepCommand, failure: &Failure) -> Result<String, AllocError> {
     let family = command.session.ticks;
     match failure {
         Failure::Session(_) => Ok(String::new(alloc)),
-        Failure::BadFamily(line, fault) => {
-            format!(in alloc; "{family}: line {line} {fault}")
-        }
+        Failure::BadFamily(line, fault) => { format!(in alloc; "{family}: line {line} {fault}") }
         Failure::NoMember(members) => {
             format!(in alloc; "{family}: has only {members} members, numbered from 0")
         }

@@ -8,8 +8,8 @@ use crate::progress::Clock;
 use crate::showing::put;
 use crate::sweeping::{Members, sweep_members};
 use std::alloc::{AllocError, Global};
-use sweep_run::KeptFiles;
 use sweep_parts::{Part, part_text};
+use sweep_run::KeptFiles;
 use sweep_table::Sweep;
 use wind_outside::{Folder, Sink};
 

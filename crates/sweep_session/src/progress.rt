@@ -33,8 +33,7 @@ fn line(
 ) -> Result<String, AllocError> {
     let rate = u128::from(played) * 1000 / u128::from(spent.max(1));
     let left = u128::from(members.saturating_sub(played)) / rate.max(1);
-    format!(
-        in alloc;
+    format!(in alloc;
         "\r{played} of {members} members, {outcomes} outcomes, {rate} members a second, {left} s left   "
     )
 }

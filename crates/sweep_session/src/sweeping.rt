@@ -108,7 +108,13 @@ pub(crate) fn sweep_members<F: Folder, C: Clock, E: Sink>(
             progress.end(err);
             return Err(failure);
         }
-        progress.tell(alloc, clock, err, sweep.members(), sweep.encoding().known.len());
+        progress.tell(
+            alloc,
+            clock,
+            err,
+            sweep.members(),
+            sweep.encoding().known.len(),
+        );
     }
     progress.end(err);
     Ok(())
