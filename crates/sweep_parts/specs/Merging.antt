@@ -1,5 +1,5 @@
 -- Parts that are merged.
-use Rattle.std.specs.Prelude.{◌≡◌, ℕ, ◌+◌, ◌*◌, ◌/◌, ◌<◌, Bool, true, ◌&&◌, nat_lt, nat_le, List, length, take, drop, count_by, slice_get, Option, Some}
+use Rattle.std.specs.Prelude.{◌≡◌, ℕ, ◌+◌, ◌*◌, ◌/◌, ◌<◌, Bool, true, ◌==◌, ◌&&◌, ◌||◌, nat_lt, nat_le, if◌then◌else◌, List, length, take, drop, count_by, slice_get, Option, Some}
 use Rattle.std.specs.List.{All, AllPairs, flat_map}
 use Rattle.sweep_table.specs.Runs.{HasTooMany}
 use Rattle.sweep_table.specs.declared.tally.AddErr.{AddErr}
@@ -42,6 +42,19 @@ pub record IsMerged (parts : List Part) (outcomes : List (List ℕ)) : Type 0 wh
   pub whole : All (λ (part : Part). part.whole ≡ length outcomes) parts
   pub each : All (λ (part : Part). take (length part.sweep) (drop part.first outcomes) ≡ part.sweep) parts
   pub once : (n : ℕ) → n < length outcomes → holders n parts ≡ 1
+
+-- the parts stand in the order of their first members, and of equal ones those with fewer members stand first
+abbrev pub not_after : Part → Part → Bool
+not_after a b = nat_lt a.first b.first || a.first == b.first && nat_le (length a.sweep) (length b.sweep)
+
+abbrev pub AreInOrder : List Part → Type 0
+AreInOrder parts = AllPairs (λ a b. not_after a b ≡ true) parts
+
+-- the first k parts have the members from 0 on, each once, and these are the outcomes of those members
+pub record IsMergedTo (k : ℕ) (parts : List Part) (outcomes : List (List ℕ)) : Type 0 where
+  pub joined : outcomes ≡ outcomes_of (take k parts)
+  pub each : All (λ (part : Part). take (length part.sweep) (drop part.first outcomes) ≡ part.sweep) (take k parts)
+  pub once : (n : ℕ) → holders n (take k parts) ≡ (if nat_lt n (length outcomes) then 1 else 0)
 
 -- part number k isn't of one sweep with each part before it
 pub record IsForeign (parts : List Part) (k : ℕ) : Type 0 where

@@ -1,5 +1,6 @@
 -- The text of a part: lines that hold numbers, and fields.
-use Rattle.std.specs.Prelude.{◌≡◌, ℕ, zero, suc, ◌+◌, ◌==◌, ◌&&◌, nat_lt, nat_le, if◌then◌else◌, List, [], ◌∷◌, ◌++◌, length, take, drop, codes, slice_index, Option, Some, None, option_and_then}
+use Rattle.std.specs.Prelude.{◌≡◌, ℕ, true, zero, suc, ◌+◌, ◌==◌, ◌&&◌, nat_lt, nat_le, if◌then◌else◌, List, [], ◌∷◌, ◌++◌, length, take, drop, codes, slice_index, Option, Some, None, option_and_then}
+use Rattle.std.specs.List.{All, list_any}
 use Rattle.std.specs.Str.{bytes_eq}
 use Rattle.wind_base.specs.Decimal.{decimal_value}
 use Rattle.wind_base.specs.Lines.{line_length}
@@ -88,3 +89,7 @@ body_of text =
 -- the content of a part that has this text
 unfoldable pub part_of : List ℕ → Option Content
 part_of text = body_of text >>= content_in
+
+-- each of these outcomes is one of the known ones
+abbrev pub AreKnown : List (List ℕ) → List (List ℕ) → Type 0
+AreKnown known outcomes = All (λ x. list_any (λ y. bytes_eq y x) known ≡ true) outcomes

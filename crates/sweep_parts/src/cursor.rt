@@ -1,7 +1,7 @@
 //! What is left of a text that is read from its start.
 
-ghost use Rattle.std.specs.Prelude.{◌≡◌, IfNone, IfSome, Some};
-ghost use Rattle.sweep_table.specs.PartText.{field_of, number_of};
+ghost use Rattle.std.specs.Prelude.{◌≡◌, IfNone, IfSome, Some, None};
+ghost use Rattle.sweep_parts.specs.PartText.{field_of, number_of};
 
 use wind_base::{bytes_after, decimal, first_bytes, line_len};
 
@@ -13,9 +13,10 @@ pub(crate) struct Cursor<'a> {
 }
 
 impl<'a> Cursor<'a> {
-    /// Reads a number and the end of its line.
+    /// Reads a line that holds a number.
     pub(crate) fn number(&mut self) -> Option<u64>
-        ensures { IfSome result (λ n. number_of self.old.rest.now ≡ Some (n, self.new.rest.now)) }
+        ensures some { IfSome result (λ n. number_of self.old.rest.now ≡ Some (n, self.new.rest.now)) }
+        ensures none { IfNone result (number_of self.old.rest.now ≡ None) }
     {
         let length = line_len(self.rest);
         if length == self.rest.len() {
@@ -28,15 +29,15 @@ impl<'a> Cursor<'a> {
 
     /// Reads a field.
     pub(crate) fn field(&mut self) -> Option<&'a [u8]>
-        ensures { IfSome result (λ f. field_of self.old.rest.now ≡ Some (f.now, self.new.rest.now)) }
+        ensures some { IfSome result (λ f. field_of self.old.rest.now ≡ Some (f.now, self.new.rest.now)) }
+        ensures none { IfNone result (field_of self.old.rest.now ≡ None) }
     {
         let length = self.number()?;
         let left = self.rest;
         if length >= left.len() as u64 || left[length as usize] != b'\n' {
             return None;
         }
-        let field = first_bytes(left, length as usize);
         self.rest = bytes_after(left, length as usize + 1);
-        Some(field)
+        Some(first_bytes(left, length as usize))
     }
 }

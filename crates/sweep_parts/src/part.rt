@@ -1,6 +1,6 @@
-//! Parts of a sweep, for many processors and hosts.
+//! Parts of a sweep.
 
-use crate::sweep::Sweep;
+use sweep_table::Sweep;
 
 /// What was read of a file.
 #[derive(Drop)]
@@ -11,8 +11,8 @@ pub struct FileDigest {
     pub digest: Vec<u8>,
 }
 
-/// A part: the outcomes of some members of a family, one after another, and what the sweep was
-/// played with.
+/// A part: the outcomes of some members of a family, one after another, and what they were played
+/// with.
 #[derive(Drop)]
 pub struct Part {
     /// The name of the file that holds it, for messages. It isn't in the part's text.
