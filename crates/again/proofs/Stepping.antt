@@ -20,7 +20,7 @@ kept_before false old new said grows h = h
 kept_before true None new said grows h = tt
 kept_before true (Some x) new said grows h = subst (λ (o : Option FileSaid). IsKept true o said) grows h
 
-agreed : (modules : List ℕ) (old new : Kept) → Grows old new → (library : Library) → Agrees modules new library → Agrees modules old library
+pub agreed : (modules : List ℕ) (old new : Kept) → Grows old new → (library : Library) → Agrees modules new library → Agrees modules old library
 agreed modules old new grows library agrees = λ name. kept_before (is_utf8 name) (old (path_in modules name)) (new (path_in modules name)) (library name) (grows (path_in modules name)) (agrees name)
 
 pub stays_at : (modules : List ℕ) (old new : Kept) → Grows old new → (start s : State) (k : ℕ) (written : List ℕ) → IsAt modules old start k s written → IsAt modules new start k s written

@@ -1,6 +1,6 @@
 //! Many steps of a run whose module files are kept.
 
-ghost use Rattle.std.specs.Prelude.{◌≡◌, ◌≢◌, ◌+◌, ◌≤◌, []};
+ghost use Rattle.std.specs.Prelude.{◌≡◌, ◌≢◌, ◌+◌, ◌<◌, ◌≤◌, []};
 ghost use Rattle.wind_base.specs.Limits.{most_steps};
 ghost use Rattle.wind_outside.specs.Counts.{Rose};
 ghost use Rattle.kept_files.specs.Kept.{Grows, IsTrue, kept_of};
@@ -45,7 +45,11 @@ pub fn go<F: Folder>(
     ensures all { result ≡ goings.Made → (seen ⟦<dyn Device as Device>⟧ board.new).steps
         ≡ (seen ⟦<dyn Device as Device>⟧ board.old).steps + most }
     ensures wrote { result ≡ goings.Wrote → (seen ⟦<dyn Device as Device>⟧ board.new).world.output ≢ [] }
+    ensures further { result ≡ goings.Wrote → (seen ⟦<dyn Device as Device>⟧ board.old).steps
+        < (seen ⟦<dyn Device as Device>⟧ board.new).steps }
     ensures halts { (end : RunEnd_lem) → result ≡ goings.Ended end → IsHalt end (seen ⟦<dyn Device as Device>⟧ board.new) }
+    ensures fewer { (end : RunEnd_lem) → result ≡ goings.Ended end → (seen ⟦<dyn Device as Device>⟧ board.new).steps
+        < (seen ⟦<dyn Device as Device>⟧ board.old).steps + most }
     ensures fault { result ≡ goings.Ended ends.ReadFault → Rose (F.faults folder.old) (F.faults folder.new) }
     ensures grows { Grows (kept_of kept.old) (kept_of kept.new) }
     ensures truth { IsTrue (F.files folder.old) (kept_of kept.old)

@@ -80,6 +80,10 @@ returns-in-Err-clause-made g c =
       made = to_same modules old new (c.loop-made.made + c.burst-made.result) _ _ _ [] c.in-Err.ensures.unchanged (kept_more modules old mid new (c.loop-made.made + c.burst-made.result) _ _ [] c.in-Err.ensures.grows moved);
     }
 
+pub returns-in-Err-clause-fewer : goal.returns-in-Err-clause-fewer
+returns-in-Err-clause-fewer g c = λ end e.
+    omega (arith, ap (λ (v : State). v.steps) c.in-Err.ensures.unchanged, burst_counted c.silent_law.ensures _ _ c.burst-made.result c.burst-made.ensures.made, c.loop-made.invariant.counted, c.loop-made.invariant.within, c.burst-made.ensures.within, c.if-made-most.false)
+
 -- the last step wrote something
 pub returns-then-not-is_empty-clause-made : goal.returns-then-not-is_empty-clause-made
 returns-then-not-is_empty-clause-made g c =
@@ -97,3 +101,7 @@ returns-then-not-is_empty-clause-made g c =
       counted = omega (arith, c.in-Ok.ensures.counted, burst, i.counted);
       made = both modules old mid new (c.loop-made.made + c.burst-made.result) 1 _ _ _ [] _ moved c.in-Ok.ensures.made;
     }
+
+pub returns-then-not-is_empty-clause-further : goal.returns-then-not-is_empty-clause-further
+returns-then-not-is_empty-clause-further g c = λ e.
+    omega (arith, c.in-Ok.ensures.counted, burst_counted c.silent_law.ensures _ _ c.burst-made.result c.burst-made.ensures.made, c.loop-made.invariant.counted)

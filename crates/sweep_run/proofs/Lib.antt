@@ -1,0 +1,4 @@
+pub mod RunLemmas
+pub mod MarkLemmas
+pub mod FetchLemmas
+pub mod ShownLemmas

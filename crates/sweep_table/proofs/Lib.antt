@@ -1,0 +1,4 @@
+pub mod RunLemmas
+pub mod TallyLemmas
+pub mod TableLemmas
+pub mod JoinLemmas
