@@ -29,8 +29,8 @@ use board_trace::{BeforeStep, Happening, Snapshot, Subject, subject_name, subjec
 use kernel_world::Actor;
 use std::alloc::Global;
 use trace_json::{
-    EndedWait, Flow, add_flow, add_instant, add_opening, add_routine, add_span, add_spawned, close_list,
-    open_list,
+    EndedWait, Flow, add_flow, add_instant, add_opening, add_routine, add_span, add_spawned,
+    close_list, open_list,
 };
 use trace_text::Moment;
 use wind_base::NoMemory;
@@ -408,7 +408,15 @@ impl<'a> Charter<'a> {
             ready: Some(ready_in(&self.reader.after.tasks)),
             queues: &self.queues.after,
         };
-        add_step_counters(alloc, &mut self.text, choice, board, before_step, &before, &after)
+        add_step_counters(
+            alloc,
+            &mut self.text,
+            choice,
+            board,
+            before_step,
+            &before,
+            &after,
+        )
     }
 
     /// A step was made: adds its objects.

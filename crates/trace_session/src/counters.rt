@@ -58,9 +58,7 @@ fn add_ready_changed(
 fn has_count(counts: &[QueueCount], count: &QueueCount) -> bool
     ensures { result ≡ list_any (λ p. is_same_count p count.now) counts.now }
 {
-    counts
-        .iter()
-        .any(|other| other.queue == count.queue && other.messages == count.messages)
+    counts.iter().any(|other| other.queue == count.queue && other.messages == count.messages)
 }
 
 // These counts have one of this queue.
