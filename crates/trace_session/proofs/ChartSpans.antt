@@ -41,8 +41,8 @@ module _ (P : TraceObject → Type 0) where
   each_all f all (x ∷ xs) = All-append P (f x) (flat_map f xs) (all x) (each_all f all xs)
 
   if_all : (b : Bool) (xs ys : List TraceObject) → All P xs → All P ys → All P (if b then xs else ys)
-  if_all true xs ys first then = first
-  if_all false xs ys first then = then
+  if_all true xs ys first other = first
+  if_all false xs ys first other = other
 
   one_all : (o : TraceObject) → P o → All P (o ∷ [])
   one_all o holds = All-cons P o [] holds (All-nil P)
@@ -193,9 +193,9 @@ more_closed true spans t = refl
 more_closed false spans t = append_assoc spans.done (observed_in (going_on spans) t).done (all_ended t.time (observed_in spans t).going)
 
 -- in a step that isn't followed by the first of the choice
-more_by : (now then i : Bool) (spans : SpanState) (t : State) → (now ≡ false → then ≡ true → spans ≡ no_spans)
-    → (if now then (if then then (if i then spans else observed_in spans t) else closed (if i then spans else observed_in spans t) t.time) else (if then then opening_spans t else spans)).done
-    ≡ spans.done ++ (if now then (if then then (if i then going_on spans else observed_in (going_on spans) t) else closed (if i then going_on spans else observed_in (going_on spans) t) t.time) else (if then then opening_spans t else going_on spans)).done
+more_by : (now next i : Bool) (spans : SpanState) (t : State) → (now ≡ false → next ≡ true → spans ≡ no_spans)
+    → (if now then (if next then (if i then spans else observed_in spans t) else closed (if i then spans else observed_in spans t) t.time) else (if next then opening_spans t else spans)).done
+    ≡ spans.done ++ (if now then (if next then (if i then going_on spans else observed_in (going_on spans) t) else closed (if i then going_on spans else observed_in (going_on spans) t) t.time) else (if next then opening_spans t else going_on spans)).done
 more_by true true i spans t first = more_looked i spans t
 more_by true false i spans t first = more_closed i spans t
 more_by false true i spans t first = ap (λ (x : SpanState). x.done ++ (opening_spans t).done) (sym (first refl refl))
@@ -224,14 +224,14 @@ module _ (law : CountLaw) (c : ChoiceState) (said : Answers) (s : State) (start 
       let x = part_after c said s k in
       let now : is_step c (u.steps + 1) ≡ false = ap (λ n. is_step c (n + 1)) (numbers k (omega arith)) ∙ none k (omega arith) in
       let same : u.steps + 1 + 1 ≡ suc k + 1 = omega (arith, numbers k (omega arith)) in
-      let then : is_step c (u.steps + 1 + 1) ≡ false = ap (is_step c) same ∙ none (suc k) (omega arith) in
-      ap₂ (λ a b. if a then (if b then looked_at (before_step u) x t else closed (looked_at (before_step u) x t) t.time) else (if b then opening_spans t else x)) now then
+      let next : is_step c (u.steps + 1 + 1) ≡ false = ap (is_step c) same ∙ none (suc k) (omega arith) in
+      ap₂ (λ a b. if a then (if b then looked_at (before_step u) x t else closed (looked_at (before_step u) x t) t.time) else (if b then opening_spans t else x)) now next
       ∙ unseen k (λ j up. numbers j (omega (arith, up))) (λ j up. none j (omega (arith, up)))
 
   -- if a step is the first of the choice, none before it is one
   none_before : (n : ℕ) → is_step c n ≡ false → is_step c (n + 1) ≡ true → (j : ℕ) → j < n → is_step c (j + 1) ≡ false
-  none_before n now then j below =
-      let up : is_up_to c.last (n + 1) ≡ true = and_second (leb c.first (n + 1)) (is_up_to c.last (n + 1)) then in
+  none_before n now next j below =
+      let up : is_up_to c.last (n + 1) ≡ true = and_second (leb c.first (n + 1)) (is_up_to c.last (n + 1)) next in
       let early : is_up_to c.last n ≡ true = up_to_less c.last n (n + 1) (omega arith) up in
       let late : leb c.first n ≡ false = first_false (leb c.first n) (is_up_to c.last n) early now in
       let less : n < c.first = leb-false c.first n late in
@@ -249,7 +249,7 @@ module _ (law : CountLaw) (c : ChoiceState) (said : Answers) (s : State) (start 
       let before = objects_after c said s k in
       let more : (part_after c said s (suc k)).done ≡ x.done ++ ended_in c x u t =
       more_by (is_step c (u.steps + 1)) (is_step c (u.steps + 1 + 1)) (is_instruction (before_step u) t.world.output) x t
-      (λ now then. unseen k (λ j up. numbers j (omega (arith, up))) (λ j up. none_before (u.steps + 1) now then j (omega (arith, up, number)))) in
+      (λ now next. unseen k (λ j up. numbers j (omega (arith, up))) (λ j up. none_before (u.steps + 1) now next j (omega (arith, up, number)))) in
       spans_both before (step_objects c (said k) (chart_after c said s k) u t)
       ∙ ap₂ (λ a b. a ++ b) (objects_spans k (λ j below. made j (omega (arith, below)))) (step_spans c said s k)
       ∙ sym (filter-append (tells_span c) x.done (ended_in c x u t))
@@ -334,7 +334,21 @@ module _ (c : ChoiceState) (said : Answers) (s : State) where
 
   -- one step more
   later_given : (k : ℕ) (o : TraceObject) → IsGiven said s k o → IsGiven said s (suc k) o
-  later_given k (FlowStart number time object giver) given = record given { below = omega (arith, given.below) }
+  later_given k (FlowStart number time object giver) given =
+      let g : EndsWait said s k time object giver = given in
+      record {
+        j = g.j;
+        below = omega (arith, g.below);
+        begins = g.begins;
+        who = g.who;
+        makes = g.makes;
+        gives = g.gives;
+        wait = g.wait;
+        waits_for = g.waits_for;
+        happening = g.happening;
+        ends = g.ends;
+        happens = g.happens;
+      }
   later_given k (ThreadName thread name) given = tt
   later_given k (TaskSpan span) given = tt
   later_given k (RoutineSpan from to) given = tt

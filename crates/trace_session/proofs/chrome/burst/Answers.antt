@@ -3,9 +3,9 @@ use Rattle.wind_machine.specs.State.{State}
 use Rattle.wind_machine.specs.Silent.{last_actor}
 use Rattle.wind_session.specs.BoardPlayerSeen.{board_by}
 use Rattle.board_trace.specs.Snapshots.{snapshot_of}
-use Rattle.kernel_world.specs.State.{WorldState}
 use Rattle.trace_session.specs.Counters.{queue_counts}
 use Rattle.trace_session.proofs.Bursts.{none_made, same_state}
+use Rattle.trace_session.proofs.Skipping.{same_counts}
 use Rattle.trace_session.proofs.chrome.burst.Goals as goal
 
 -- nobody made a step before, so no instruction was made
@@ -37,6 +37,9 @@ returns-in_default-clause-counts g c =
 -- instructions leave the queues as they are
 pub returns-clause-counts : goal.returns-clause-counts
 returns-clause-counts g c =
+    let state = board_by (λ d. (goal.Device-dyn g (d.vtable, d.value)).kind_of d.value) (λ d. (goal.Device-dyn g (d.vtable, d.value)).words_of d.value) in
+    let old = state c.args.board.now in
+    let new = state c.burst_within-count.new.board in
     let some : 0 < c.burst_within-count.result = omega arith in
-    let moves = c.burst_within-count.ensures.only some _ (ap last_actor (sym c.world.ensures) ∙ sym c.last_actor-who.ensures ∙ c.in-Some.is) in
-    c.requires.counts ∙ sym (ap (λ (w : WorldState). queue_counts w) moves.world)
+    c.requires.counts
+    ∙ same_counts old.world new.world _ (c.burst_within-count.ensures.only some _ (ap last_actor (sym c.world.ensures) ∙ sym c.last_actor-who.ensures ∙ c.in-Some.is))

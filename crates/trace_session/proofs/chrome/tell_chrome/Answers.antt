@@ -14,7 +14,7 @@ use Rattle.trace_session.proofs.chrome.tell_chrome.Goals as goal
 pub returns-in_err-charter-clause-given_up : goal.returns-in_err-charter-clause-given_up
 returns-in_err-charter-clause-given_up g c =
     let p = err_from_is_err_and c.from_residual.result c.from_residual.ensures.1 in
-    rw p.1 (given_up (ChartsPart _ _ _) _ _ _ _ c.args.limit 0 0 _ _ (none_charted _ _ refl _) (omega arith) (begun _ _ c.args.limit _ c.requires.fresh))
+    rw p.1 (given_up (ChartsPart (choice_state c.args.choice.now) _ _) _ _ _ _ c.args.limit 0 0 _ _ (none_charted _ _ refl _) (omega arith) (begun _ _ c.args.limit _ c.requires.fresh))
 
 pub tell_run-requires-clause-tells : goal.tell_run-requires-clause-tells
 tell_run-requires-clause-tells g c = λ said. charted_none _ _ (ap (λ (x : Bor Choice). choice_state x.now) c.in_ok-charter.ensures.choice) _ _ _ said _ c.in_ok-charter.ensures.chart c.in_ok-charter.ensures.text

@@ -1,3 +1,4 @@
+use Rattle.std.proofs.lemmas.List.{get_or_default}
 use Rattle.trace_json.proofs.Gaining.{gained_more, gained_none}
 use Rattle.trace_session.specs.Counters.{deleted_objects}
 use Rattle.trace_session.proofs.counters.add_deleted.Goals as goal
@@ -7,4 +8,4 @@ loop-count-init c = gained_none _
 
 -- one more queue has its counter
 pub loop-count-preserved : goal.loop-count-preserved
-loop-count-preserved c = gained_more (deleted_objects c.args.time c.args.after.now) c.args.before.now c.loop-count.count-index c.count-item.result _ _ _ c.loop-count-test.true c.count-item.is c.loop-count.invariant c.in_ok-add_queue_deleted.ensures
+loop-count-preserved c = gained_more (deleted_objects c.args.time c.args.after.now) c.args.before.now c.loop-count.count-index _ _ _ _ c.loop-count-test.true (get_or_default _ _ _ _ c.loop-count-test.true) c.loop-count.invariant c.in_ok-add_queue_deleted.ensures

@@ -1,4 +1,4 @@
-use Rattle.std.proofs.Common.{◌≡◌, ◌++◌, List, ℕ, Some, ap, ap₂, subst, sym, ◌∙◌}
+use Rattle.std.proofs.Common.{◌≡◌, ◌++◌, Bor, List, ℕ, Some, ap, ap₂, subst, sym, ◌∙◌}
 use Rattle.std.specs.List.{flat_map}
 use Rattle.std.proofs.lemmas.List.Folds.{flat_map-map}
 use Rattle.wind_session.specs.BoardPlayerSeen.{board_by}
@@ -14,6 +14,7 @@ use Rattle.trace_session.specs.Choice.{choice_state}
 use Rattle.trace_session.specs.Chrome.{charted, going_on, level_by, level_objects, line_objects, span_objects, step_flows, step_number}
 use Rattle.trace_session.specs.Counters.{CountsState, counted, counts_in, ready_in, step_counters}
 use Rattle.trace_session.specs.Spans.{looked_by}
+use Rattle.trace_session.specs.declared.choice.Choice.{Choice}
 use Rattle.trace_session.specs.declared.numbers.QueueReader.{QueueReader}
 use Rattle.trace_session.specs.declared.reader.StepReader.{StepReader}
 use Rattle.trace_session.specs.Steps.{line_of}
@@ -35,6 +36,7 @@ returns-clause-text g c =
     let F : BeforeStep → ℕ → List Happening → Type 0 = λ step time hs. Gained (AreMembers (step_flows choice step time hs old.flows)) c.add_lines.new.text.items c.add_flows.new.text.items in
     let E : BeforeStep → Type 0 = λ step. Gained (AreMembers (flat_map (span_objects choice) (looked_by choice step (going_on old.spans) new).done ++ level_objects choice old.level (level_by choice old.level new) new.time)) c.add_flows.new.text.items c.add_ended.new.self.text.items in
     let C : BeforeStep → CountsState → Type 0 = λ step counts. Gained (AreMembers (step_counters choice step counts new)) c.add_ended.new.self.text.items c.add_counters.new.self.text.items in
+    let D : Bor Choice → Type 0 = λ x. Gained (AreMembers (step_counters (choice_state x.now) b (counted (Some (ready_in (snapshot_state c.add_ended.new.self.reader.before).tasks)) c.add_ended.new.self.queues.before.items) new)) c.add_ended.new.self.text.items c.add_counters.new.self.text.items in
     let counts : counted (Some (ready_in (snapshot_state c.add_ended.new.self.reader.before).tasks)) c.add_ended.new.self.queues.before.items ≡ counts_in s =
     ap₂ (λ (v : SnapshotState) queues. counted (Some (ready_in v.tasks)) queues)
     (ap (λ (r : StepReader). snapshot_state r.before) c.in_ok-add_ended.ensures.reader ∙ ap snapshot_state c.in_ok-read.ensures.before ∙ from)
@@ -49,7 +51,7 @@ returns-clause-text g c =
     (subst (λ step. F step new.time (happenings said s new)) is
     (subst (F b new.time) (happenings_are said s new _ _ _ _ (c.deref-2.ensures.value ∙ c.in_ok-read.ensures.list) is from replied)
     (subst (λ time. F b time c.deref-2.result.now) c.time.ensures c.in_ok-self.ensures.text)))
-    (gained_both _ _ _ _ _ (subst E is c.in_ok-add_ended.ensures.text) (subst (λ step. C step (counts_in s)) is (subst (C b) counts c.in_ok-add_counters.ensures.text))))
+    (gained_both _ _ _ _ _ (subst E is c.in_ok-add_ended.ensures.text) (subst (λ step. C step (counts_in s)) is (subst (C b) counts (subst D c.in_ok-add_ended.ensures.choice c.in_ok-add_counters.ensures.text)))))
 
 pub returns-clause-chart : goal.returns-clause-chart
 returns-clause-chart g c =
