@@ -62,15 +62,6 @@ impl KeptFiles {
         self.files.get(name)
     }
 
-    /// The names of the files about which an answer is kept, in order.
-    pub fn names(&self, alloc: Global) -> Result<Vec<&str>, AllocError> {
-        let mut names = Vec::new(alloc);
-        for (name, _) in self.files.iter() {
-            names.push(name.as_str())?;
-        }
-        Ok(names)
-    }
-
     // Keeps the answer about the file with this name.
     fn add(&mut self, alloc: Global, name: &str, file: FileAnswer) -> Result<(), AllocError>
         ensures ok { OnOk result ((other : List ℕ) → kept_of self.new other

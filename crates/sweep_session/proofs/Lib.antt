@@ -1,3 +1,0 @@
-pub mod KeepLemmas
-pub mod MemberLemmas
-pub mod SweptLemmas
