@@ -1,5 +1,5 @@
 -- What runs ask of the folder, one after another.
-use Rattle.std.proofs.Common.{◌≤◌, refl, ◌∙◌, arith}
+use Rattle.std.proofs.Common.{refl, ◌∙◌, arith}
 use Rattle.kept_files.specs.Fetching.{Asked}
 use Rattle.kept_files.specs.Kept.{Kept}
 use Rattle.kept_files.proofs.Keeping.{grows_both, grows_same}

@@ -1,5 +1,5 @@
 -- The run of a board whose module files are kept is that of the machine.
-use Rattle.std.proofs.Common.{◌≡◌, ℕ, zero, suc, ◌+◌, ◌-◌, ◌<◌, ◌≤◌, ◌++◌, List, [], Option, Some, None, IsSome, refl, sym, ap, ◌∙◌, subst, arith}
+use Rattle.std.proofs.Common.{◌≡◌, ℕ, zero, suc, ◌+◌, ◌-◌, ◌<◌, ◌++◌, List, [], Option, Some, None, IsSome, refl, sym, ap, ◌∙◌, subst, arith}
 use Rattle.std.specs.Prelude.{IfErr, IfOk, Result, unwrap_or}
 use Rattle.std.specs.Option.{option_map}
 use Rattle.wind_base.specs.declared.board_kind.BoardKind.{BoardKind}
@@ -14,7 +14,7 @@ use Rattle.again.specs.Libraries.{Library, Reaches, at, said_in, text_in}
 use Rattle.wind_session.specs.Runs.{IsHalt}
 use Rattle.wind_session.specs.declared.run.RunEnd.{RunEnd}
 use Rattle.wind_session.specs.declared.run.RunEnd.TheVariants as ends
-use Rattle.again.specs.Reaching.{Agrees, GoesBy, IsAt}
+use Rattle.again.specs.Reaching.{GoesBy, IsAt}
 use Rattle.sweep_run.specs.declared.finish.Finish.TheVariants.{NoStepLeft, LimitReached}
 use Rattle.sweep_run.specs.Fetches.{IsGivenUp}
 use Rattle.sweep_run.specs.Runs.{Ended, StartState, finish_of, opening_of, run_on, unless_step}

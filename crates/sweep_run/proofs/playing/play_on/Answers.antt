@@ -1,4 +1,4 @@
-use Rattle.std.proofs.Common.{◌≡◌, ◌∙◌, List, ap}
+use Rattle.std.proofs.Common.{◌∙◌, List, ap}
 use Rattle.std.specs.Prelude.{ℕ}
 use Rattle.wind_session.specs.WindMachineState.{State}
 use Rattle.wind_session.specs.WindMachineMachine.{opening}
